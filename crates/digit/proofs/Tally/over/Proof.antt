@@ -1,0 +1,93 @@
+-- What was passed and what is left come to the same sum as the whole, modulo 10.
+use Prim.Native.Nat.{_≤_, _<_, _+_, _-_, _*_, _%_}
+use mathlib.Core.Path.{_≡_, ap, sym, _∙_}
+use native.Mathlib.Nat.{add-zero, mod-lt}
+use native.Mathlib.Omega.{arith}
+use borrow.Author.Needs.{needs}
+use denote.Ref.{now}
+use lib.Dec.{lit<}
+use lib.ListN.{length, drop, getD}
+use Rattle.digit.proofs.Sums.{weighed-le, weight-mod, sum-more, sum-ends}
+use Rattle.digit.specs.Check.{value, weight, sumFrom, Tally·over}
+use Rattle.digit.proofs.Tally.over.Statement.{statement}
+use Rattle.digit.proofs.Tally.over.Tie as tie
+
+abbrev Inv-loop : tie.InvT-loop
+Inv-loop s turn₀ sum₀ i₀ turn sum i =
+    (i ≤ length s)
+    × (turn ≡ (turn₀ + i) % 3)
+    × (sum < 10)
+    × ((sum + sumFrom (turn₀ + i) (drop i s)) % 10 ≡ (sum₀ + sumFrom turn₀ s) % 10)
+
+abbrev μ-loop : tie.MeasureT-loop
+μ-loop s turn₀ sum₀ i₀ turn sum i = length s - i
+
+loop-holds : tie.Need-loop-holds Inv-loop μ-loop
+loop-holds c = (search needs, search needs, search needs, simp add-zero)
+
+shared-slice-read-value : tie.Need-shared-slice-read-value Inv-loop μ-loop
+shared-slice-read-value c = search needs
+
+value-requires : tie.Need-value-requires Inv-loop μ-loop
+value-requires c κs = search needs
+
+weight-requires : tie.Need-weight-requires Inv-loop μ-loop
+weight-requires c κs = search needs
+
+mul-sum : tie.Need-mul-sum Inv-loop μ-loop
+mul-sum c =
+    let l = c .before .before .before .before .loop in
+    let s = now (c .before .before .before .before .before .before .before .before .args .s) in
+    rw (c .before .value .ensures, c .weight .ensures) (omega (arith, weighed-le (getD s (l .i) 0) (l .turn)))
+
+add-sum : tie.Need-add-sum Inv-loop μ-loop
+add-sum c =
+    let l = c .before .before .before .before .loop in
+    let s = now (c .before .before .before .before .before .before .before .before .args .s) in
+    rw (c .before .value .ensures, c .weight .ensures) (omega (arith, weighed-le (getD s (l .i) 0) (l .turn)))
+
+add-turn : tie.Need-add-turn Inv-loop μ-loop
+add-turn c = search needs
+
+add-i : tie.Need-add-i Inv-loop μ-loop
+add-i c = search needs
+
+loop-less : tie.Need-loop-less Inv-loop μ-loop
+loop-less c = search needs
+
+loop-again : tie.Need-loop-again Inv-loop μ-loop
+loop-again c =
+    let l = c .before .before .before .before .loop in
+    let a = c .before .before .before .before .before .before .before .before .args in
+    let s = now (a .s) in
+    let h : l .i < length s = omega arith in (
+      search needs,
+      omega arith,
+      mod-lt _ (lit< tt),
+      rw (c .before .value .ensures, c .weight .ensures, l .inv .1, weight-mod) (sum-more (a .self .turn % 3) (l .sum) (l .i) s h ∙ l .inv .3),
+    )
+
+returns : tie.Need-returns Inv-loop μ-loop
+returns c =
+    let l = c .before .loop in
+    let a = c .before .before .before .before .before .args in
+    let e = sum-ends (a .self) (now (a .s)) (l .i) (l .turn) (l .sum) (c .loop-test .left) (l .inv .0) (l .inv .2) (l .inv .1) (l .inv .3) in
+    λ i. record { turn = e .0 i; sum = e .1 i }
+
+pub over-spec : {M : Type 1} → statement M
+over-spec =
+    tie.close
+    (tie.spec
+    Inv-loop
+    μ-loop
+    loop-holds
+    shared-slice-read-value
+    value-requires
+    weight-requires
+    mul-sum
+    add-sum
+    add-turn
+    add-i
+    loop-less
+    loop-again
+    returns)

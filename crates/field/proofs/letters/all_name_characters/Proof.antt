@@ -1,0 +1,66 @@
+-- What is left from i on decides for the whole.
+use Prim.Native.Nat.{_≤_, _-_}
+use mathlib.Core.Path.{_≡_, refl, sym, _∙_}
+use borrow.Author.Needs.{needs}
+use denote.Ref.{now}
+use lib.ListN.{length, drop}
+use Rattle.field.proofs.Every.{every-more, every-fails, every-end}
+use Rattle.field.specs.Letters.{every, isNameCharacter}
+use Rattle.field.proofs.letters.all_name_characters.Statement.{statement}
+use Rattle.field.proofs.letters.all_name_characters.Tie as tie
+
+abbrev Inv-loop : tie.InvT-loop
+Inv-loop s i₀ i = (i ≤ length s) × (every isNameCharacter (drop i s) ≡ every isNameCharacter s)
+
+abbrev μ-loop : tie.MeasureT-loop
+μ-loop s i₀ i = length s - i
+
+loop-holds : tie.Need-loop-holds Inv-loop μ-loop
+loop-holds c = (search needs, refl)
+
+shared-slice-read-c : tie.Need-shared-slice-read-c Inv-loop μ-loop
+shared-slice-read-c c = search needs
+
+is-name-character-requires : tie.Need-is-name-character-requires Inv-loop μ-loop
+is-name-character-requires c κs = search needs
+
+add-i : tie.Need-add-i Inv-loop μ-loop
+add-i c = search needs
+
+loop-less : tie.Need-loop-less Inv-loop μ-loop
+loop-less c = search needs
+
+loop-again : tie.Need-loop-again Inv-loop μ-loop
+loop-again c =
+    let l = c .before .before .before .before .loop in
+    let s = now (c .before .before .before .before .before .before .args .s) in (
+      search needs,
+      every-more isNameCharacter s (l .i) (every isNameCharacter s) (l .inv .1) (search needs) (sym (c .before .is-name-character .ensures) ∙ c .if1 .taken),
+    )
+
+returns : tie.Need-returns Inv-loop μ-loop
+returns c =
+    let l = c .before .before .before .before .loop in
+    let s = now (c .before .before .before .before .before .before .args .s) in
+    every-fails isNameCharacter s (l .i) (every isNameCharacter s) (l .inv .1) (search needs) (sym (c .before .is-name-character .ensures) ∙ c .if1 .left)
+
+returns-2 : tie.Need-returns-2 Inv-loop μ-loop
+returns-2 c =
+    let l = c .before .loop in
+    let s = now (c .before .before .before .args .s) in
+    every-end isNameCharacter s (l .i) (every isNameCharacter s) (l .inv .1) (c .loop-test .left)
+
+pub all-name-characters-spec : {M : Type 1} → statement M
+all-name-characters-spec =
+    tie.close
+    (tie.spec
+    Inv-loop
+    μ-loop
+    loop-holds
+    shared-slice-read-c
+    is-name-character-requires
+    add-i
+    loop-less
+    loop-again
+    returns
+    returns-2)

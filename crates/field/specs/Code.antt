@@ -1,0 +1,28 @@
+-- The document code: document 01, "The text", Field rules, Code.
+use Prim.Native.Nat.{ℕ}
+use mathlib.Core.Bool.{Bool, true, false, not, _&&_, _||_}
+use lib.Dec.{eqb}
+use Rattle.zone.specs.Alphabet.{isLetter, isFiller}
+use Rattle.zone.specs.declared.form.Form.{Form}
+use Rattle.zone.specs.declared.form.Form.the-variants.{Td1, Td2, Td3}
+
+-- A, C or I
+unfoldable pub isCardLetter : ℕ → Bool
+isCardLetter a = eqb a 65 || eqb a 67 || eqb a 73
+
+-- second character a letter or `<`
+unfoldable pub isSecond : ℕ → Bool
+isSecond b = isLetter b || isFiller b
+
+-- in TD1 and TD2 not V, and not C after A
+unfoldable pub cardRule : ℕ → ℕ → Bool
+cardRule a b = isCardLetter a && (isSecond b && (not (eqb b 86) && not (eqb a 65 && eqb b 67)))
+
+-- TD3 begins with P
+unfoldable pub passportRule : ℕ → ℕ → Bool
+passportRule a b = eqb a 80 && isSecond b
+
+unfoldable pub codeRule : Form → ℕ → ℕ → Bool
+codeRule Td1 a b = cardRule a b
+codeRule Td2 a b = cardRule a b
+codeRule Td3 a b = passportRule a b

@@ -1,0 +1,28 @@
+-- The fields of letters and fillers: document 01, "The text", Field rules, State, Sex and Name.
+use Prim.Native.Nat.{ℕ}
+use mathlib.Core.Bool.{Bool, true, false, cond, _&&_, _||_}
+use mathlib.Core.List.{List, [], _∷_}
+use lib.ListN.{getD}
+use lib.Dec.{eqb}
+use Rattle.zone.specs.Alphabet.{isLetter, isFiller}
+
+-- one to three letters, then fillers
+unfoldable pub stateRule : ℕ → ℕ → ℕ → Bool
+stateRule a b c = isLetter a && cond (isLetter b) (isLetter c || isFiller c) (isFiller b && isFiller c)
+
+-- M, F or `<`
+unfoldable pub sexRule : ℕ → Bool
+sexRule c = eqb c 77 || eqb c 70 || isFiller c
+
+-- every character passes a test
+unfoldable pub every : (ℕ → Bool) → List ℕ → Bool
+every p [] = true
+every p (c ∷ s) = p c && every p s
+
+-- letters and fillers
+unfoldable pub isNameCharacter : ℕ → Bool
+isNameCharacter c = isLetter c || isFiller c
+
+-- begins with a letter
+unfoldable pub nameRule : List ℕ → Bool
+nameRule s = isLetter (getD s 0 0) && every isNameCharacter s

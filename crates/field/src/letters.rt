@@ -1,0 +1,62 @@
+// The fields of letters and fillers: state and nationality, sex, name.
+ghost use mathlib.Core.Path.{_≡_};
+ghost use Rattle.field.specs.Letters.{stateRule, sexRule, nameRule, isNameCharacter, every};
+use zone::alphabet::FILLER;
+use zone::alphabet::is_letter;
+
+// One to three letters, then fillers.
+pub fn is_state(a: u8, b: u8, c: u8) -> bool
+    ensures { λ r. ⌜ r ≡ stateRule a b c ⌝ }
+{
+    if is_letter(a) {
+        if is_letter(b) {
+            if is_letter(c) { true } else { c == FILLER }
+        } else {
+            if b == FILLER { c == FILLER } else { false }
+        }
+    } else {
+        false
+    }
+}
+
+pub fn is_sex(c: u8) -> bool
+    ensures { λ r. ⌜ r ≡ sexRule c ⌝ }
+{
+    match c {
+        77 => true,
+        70 => true,
+        _ => c == FILLER,
+    }
+}
+
+fn is_name_character(c: u8) -> bool
+    ensures { λ r. ⌜ r ≡ isNameCharacter c ⌝ }
+{
+    if is_letter(c) { true } else { c == FILLER }
+}
+
+fn all_name_characters(s: &[u8]) -> bool
+    ensures { λ r. ⌜ r ≡ every isNameCharacter (now (s .entry)) ⌝ }
+{
+    let mut i = 0;
+    while i < s.len() {
+        let c = s[i];
+        if is_name_character(c) {
+            i += 1;
+        } else {
+            return false;
+        }
+    }
+    true
+}
+
+// Letters and fillers, the first a letter.
+pub fn is_name(s: &[u8]) -> bool
+    ensures { λ r. ⌜ r ≡ nameRule (now (s .entry)) ⌝ }
+{
+    if is_letter(lent::octet(s, 0)) {
+        all_name_characters(s)
+    } else {
+        false
+    }
+}

@@ -1,0 +1,39 @@
+-- Laws on lists that the proofs of this crate and of those above it share.
+use mathlib.Core.Path.{_≡_, refl, ap, sym, _∙_}
+use mathlib.Core.List.{List, [], _∷_, _++_, append-nil}
+use mathlib.Core.Logic.{_⊎_, inl, inr}
+use Prim.Native.Nat.{ℕ, zero, suc, _+_, _-_, _≤_, _<_}
+use native.Mathlib.Nat.{zero-add, add-sub-cancel-left}
+use native.Mathlib.Numerals.{add-one}
+use native.Mathlib.Omega.{arith}
+use lib.ListN.{length, take, drop, getD, set, length-drop, drop-of-length-le, take-append-drop}
+use lib.Seq.{take-all, paste, paste-suc, take-length, drop-length}
+
+-- one more octet copied to the front of a range
+pub copy-more : (to from : List ℕ) (i : ℕ) → i < length to → i < length from
+    → set (take i from ++ drop i to) i (getD from i 0) ≡ take (i + 1) from ++ drop (i + 1) to
+copy-more to from i ht hf =
+    simp (add-one, zero-add) (simp zero-add at (paste-suc to 0 from i 0 (simp zero-add ht) hf))
+
+-- a part that ends past the end is all that is left
+pub take-rest : (n at : ℕ) (s : List ℕ) → length s - at ≤ n → take (length s - at) (drop at s) ≡ take n (drop at s)
+take-rest n at s h =
+    let le : length (drop at s) ≤ n = rw length-drop h in
+    let le′ : length (drop at s) ≤ length s - at = rw length-drop (omega arith) in
+    take-all (length s - at) (drop at s) le′ ∙ sym (take-all n (drop at s) le)
+
+pub take-none : (n at : ℕ) (s : List ℕ) → length s ≤ at → [] ≡ take n (drop at s)
+take-none zero at s h = refl
+take-none (suc n) at s h = rw (drop-of-length-le s h)
+
+-- a copy that has come to the end of either list is the whole copy
+pub copy-ends : (to from : List ℕ) (i : ℕ) → i ≤ length to → i ≤ length from → (length from ≤ i) ⊎ (length to ≤ i)
+    → take i from ++ drop i to ≡ take (length to) from ++ drop (length from) to
+copy-ends to from i ht hf (inl h) =
+    let e : i ≡ length from = omega arith in
+    let k : length from ≤ length to = omega arith in
+    rw (e, take-length from, take-all (length to) from k)
+copy-ends to from i ht hf (inr h) =
+    let e : i ≡ length to = omega arith in
+    let k : length to ≤ length from = omega arith in
+    rw (e, drop-length to, drop-of-length-le to k)

@@ -1,0 +1,39 @@
+// Lent octets, read and filled without a condition: whatever is asked for past the end is simply not there.
+ghost use mathlib.Core.Path.{_≡_};
+ghost use lib.ListN.{length, take, drop, getD};
+ghost use Rattle.lent.specs.Copied.{copied};
+
+// The octet at a place, 0 past the end.
+pub fn octet(s: &[u8], at: usize) -> u8
+    ensures { λ r. ⌜ r ≡ getD (now (s .entry)) at 0 ⌝ }
+{
+    if at < s.len() { s[at] } else { 0 }
+}
+
+// The n octets from a place on, as a part of what was lent: fewer where it ends before.
+pub fn part(s: &[u8], at: usize, n: usize) -> &[u8]
+    ensures { λ r. ⌜ now r ≡ take n (drop at (now (s .entry))) ⌝ }
+{
+    if s.len() <= at {
+        return &s[..0];
+    }
+    if n <= s.len() - at {
+        &s[at..at + n]
+    } else {
+        &s[at..]
+    }
+}
+
+// The first octets of a range become those of another, as many as both have.
+pub fn copy(to: &mut [u8], from: &[u8])
+    ensures { λ _. ⌜ now (to .exit) ≡ copied (now (to .entry)) (now (from .entry)) ⌝ }
+{
+    let mut i = 0;
+    while i < to.len() {
+        if from.len() <= i {
+            return;
+        }
+        to[i] = from[i];
+        i += 1;
+    }
+}

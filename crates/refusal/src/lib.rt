@@ -1,0 +1,78 @@
+// Why an input is refused, and where: the cause, its number in document 01, and its place.
+ghost use mathlib.Core.Path.{_≡_};
+ghost use Rattle.refusal.specs.Numbers.{numberOf};
+ghost use Rattle.refusal.specs.Outcome.{outcomeOf, orElse};
+
+// The causes of document 01, "Refusal numbers", in the order of their numbers 1 to 18.
+pub enum Cause {
+    Length,
+    Character,
+    Code,
+    State,
+    Number,
+    Date,
+    Sex,
+    Name,
+    Digit,
+    Encoding,
+    Common,
+    SecurityObject,
+    Algorithm,
+    Group,
+    Digest,
+    Output,
+    Unsound,
+    Entry,
+}
+
+impl Cause {
+    // The paper's number of the cause.
+    pub fn number(self) -> u32
+        ensures { λ r. ⌜ r ≡ numberOf self ⌝ }
+    {
+        match self {
+            Cause::Length => 1,
+            Cause::Character => 2,
+            Cause::Code => 3,
+            Cause::State => 4,
+            Cause::Number => 5,
+            Cause::Date => 6,
+            Cause::Sex => 7,
+            Cause::Name => 8,
+            Cause::Digit => 9,
+            Cause::Encoding => 10,
+            Cause::Common => 11,
+            Cause::SecurityObject => 12,
+            Cause::Algorithm => 13,
+            Cause::Group => 14,
+            Cause::Digest => 15,
+            Cause::Output => 16,
+            Cause::Unsound => 17,
+            Cause::Entry => 18,
+        }
+    }
+}
+
+// A refusal holds its cause and its place, an offset from 0 in what was lent.
+pub struct Refusal {
+    pub cause: Cause,
+    pub place: usize,
+}
+
+// What one check, or several in their order, found.
+pub enum Verdict {
+    Passed,
+    Refused(Refusal),
+}
+
+impl Verdict {
+    // This refusal, or where there is none what comes next.
+    pub fn or_else(self, next: Verdict) -> Verdict
+        ensures { λ r. ⌜ outcomeOf r ≡ orElse (outcomeOf self) (outcomeOf next) ⌝ }
+    {
+        match self {
+            Verdict::Passed => next,
+            Verdict::Refused(refusal) => Verdict::Refused(refusal),
+        }
+    }
+}

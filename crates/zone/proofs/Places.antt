@@ -1,0 +1,28 @@
+-- The laws of `first`, by which every search loop steps, over the test p.
+use mathlib.Core.Path.{_≡_, refl, _∙_, sym}
+use mathlib.Core.List.{List}
+use mathlib.Core.Bool.{Bool, true, false}
+use Prim.Native.Nat.{ℕ, _+_, _≤_, _<_}
+use native.Mathlib.Nat.{add-zero}
+use native.Mathlib.Numerals.{add-one}
+use native.Mathlib.Omega.{arith}
+use lib.ListN.{length, drop, getD, drop-of-length-le}
+use lib.Seq.{drop-cons}
+use Rattle.zone.specs.Alphabet.{first}
+
+module _ (p : ℕ → Bool) (s : List ℕ) (i e : ℕ) (left : i + first p (drop i s) ≡ e) where
+  -- an octet that fails the test: the search goes on behind it
+  pub first-miss : i < length s → p (getD s i 0) ≡ false → (i + 1) + first p (drop (i + 1) s) ≡ e
+  unfolding first
+  first-miss h t =
+      rw (add-one i) (omega (arith, rw (drop-cons s i 0 h, t) at left))
+
+  -- one that passes it is the first
+  pub first-hit : i < length s → p (getD s i 0) ≡ true → i ≡ e
+  unfolding first
+  first-hit h t = sym (add-zero i) ∙ (rw (drop-cons s i 0 h, t) at left)
+
+  -- none is left
+  pub first-end : length s ≤ i → i ≡ e
+  unfolding first
+  first-end h = sym (add-zero i) ∙ (rw (drop-of-length-le s h) at left)

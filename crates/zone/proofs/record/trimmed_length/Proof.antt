@@ -1,0 +1,67 @@
+-- What was passed has length n without its trailing fillers.
+use Prim.Native.Nat.{_≤_, _<_, _-_}
+use mathlib.Core.Path.{_≡_, ap, sym, _∙_}
+use mathlib.Core.Logic.{⊎-elim}
+use native.Mathlib.Omega.{arith}
+use borrow.Author.Needs.{needs}
+use borrow.Author.Tests.{eq-eqb, ne-eqb}
+use denote.Ref.{now}
+use lib.ListN.{length, take}
+use lib.Seq.{take-all}
+use Rattle.zone.specs.Alphabet.{isFiller}
+use Rattle.zone.specs.Record.{trimmedLength}
+use Rattle.zone.proofs.Trimmed.{trimmed-filler, trimmed-other}
+use Rattle.zone.proofs.record.trimmed_length.Statement.{statement}
+use Rattle.zone.proofs.record.trimmed_length.Tie as tie
+
+abbrev Inv-loop : tie.InvT-loop
+Inv-loop s n₀ i₀ n i = (i ≤ length s) × (n ≡ trimmedLength (take i s))
+
+abbrev μ-loop : tie.MeasureT-loop
+μ-loop s n₀ i₀ n i = length s - i
+
+loop-holds : tie.Need-loop-holds Inv-loop μ-loop
+unfolding trimmedLength
+loop-holds c = search needs
+
+shared-slice-read-if1 : tie.Need-shared-slice-read-if1 Inv-loop μ-loop
+shared-slice-read-if1 c = search needs
+
+add-n : tie.Need-add-n Inv-loop μ-loop
+add-n c = search needs
+
+add-i : tie.Need-add-i Inv-loop μ-loop
+add-i c = search needs
+
+loop-less : tie.Need-loop-less Inv-loop μ-loop
+loop-less c = search needs
+
+loop-again : tie.Need-loop-again Inv-loop μ-loop
+unfolding isFiller
+loop-again c =
+    let s = now (c .before .before .before .before .args .s) in
+    let l = c .before .before .before .loop in
+    let h : l .i < length s = omega arith in (
+      search needs,
+      ⊎-elim (λ w. w .1 ∙ sym (trimmed-other s (l .i) h (ne-eqb _ _ (w .0 .taken))))
+          (λ w. w .1 ∙ (l .inv .1 ∙ sym (trimmed-filler s (l .i) h (eq-eqb _ _ (w .0 .left))))) (c .if1 .came),
+    )
+
+returns : tie.Need-returns Inv-loop μ-loop
+returns c =
+    let s = now (c .before .before .args .s) in
+    c .before .loop .inv .1 ∙ ap trimmedLength (take-all (c .before .loop .i) s (search needs))
+
+pub trimmed-length-spec : {M : Type 1} → statement M
+trimmed-length-spec =
+    tie.close
+    (tie.spec
+    Inv-loop
+    μ-loop
+    loop-holds
+    shared-slice-read-if1
+    add-n
+    add-i
+    loop-less
+    loop-again
+    returns)

@@ -1,0 +1,37 @@
+-- The characters of the zone (document 01, "Refusal numbers", 2; Doc 9303-3, 4.3): A-Z, 0-9 and the filler `<`.
+use Prim.Native.Nat.{ℕ, zero, suc}
+use mathlib.Core.Bool.{Bool, true, false, cond, not, _&&_, _||_}
+use mathlib.Core.List.{List, [], _∷_}
+use lib.Dec.{leb, eqb}
+
+-- 0 to 9
+unfoldable pub isDigit : ℕ → Bool
+isDigit c = leb 48 c && leb c 57
+
+-- A to Z
+unfoldable pub isLetter : ℕ → Bool
+isLetter c = leb 65 c && leb c 90
+
+-- `<`
+unfoldable pub isFiller : ℕ → Bool
+isFiller c = eqb c 60
+
+unfoldable pub isCharacter : ℕ → Bool
+isCharacter c = isDigit c || (isLetter c || isFiller c)
+
+-- the place of the first octet that passes a test, or the length where none does
+unfoldable pub first : (ℕ → Bool) → List ℕ → ℕ
+first p [] = 0
+first p (c ∷ s) = cond (p c) 0 (suc (first p s))
+
+-- none of these
+unfoldable pub isForeign : ℕ → Bool
+isForeign c = not (isCharacter c)
+
+-- the first octet outside the alphabet
+unfoldable pub firstForeign : List ℕ → ℕ
+firstForeign s = first isForeign s
+
+-- the first filler
+unfoldable pub firstFiller : List ℕ → ℕ
+firstFiller s = first isFiller s

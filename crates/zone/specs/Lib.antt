@@ -1,0 +1,4 @@
+pub mod Alphabet
+pub mod Part
+pub mod Form
+pub mod Record

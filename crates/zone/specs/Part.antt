@@ -1,0 +1,29 @@
+-- The parts of a text that document 01 names under "The text", Layouts.
+use Prim.Native.Nat.{ℕ}
+use mathlib.Core.Bool.{Bool}
+use lib.Dec.{eqb}
+
+pub data Part : Type 0 where
+  code state number numberCheck optional birth birthCheck sex expiry expiryCheck nationality optional2 composite name personal personalCheck : Part
+
+-- a number for each, by which two are compared
+unfoldable pub rank : Part → ℕ
+rank code = 0
+rank state = 1
+rank number = 2
+rank numberCheck = 3
+rank optional = 4
+rank birth = 5
+rank birthCheck = 6
+rank sex = 7
+rank expiry = 8
+rank expiryCheck = 9
+rank nationality = 10
+rank optional2 = 11
+rank composite = 12
+rank name = 13
+rank personal = 14
+rank personalCheck = 15
+
+unfoldable pub same : Part → Part → Bool
+same x y = eqb (rank x) (rank y)

@@ -1,0 +1,39 @@
+-- The record: document 01, "A record holds form, code, state, number, nationality, birth, sex, expiry, name", and the blank record of
+-- "Refusal numbers" (TD1, fillers, lengths 0).
+use Prim.Native.Nat.{ℕ, suc, _-_}
+use mathlib.Core.Bool.{Bool, cond, _&&_}
+use mathlib.Core.List.{List, [], _∷_, _++_}
+use lib.ListN.{length, take, replicate}
+use lib.Dec.{eqb}
+use Rattle.zone.specs.declared.form.Form.{Form}
+use Rattle.zone.specs.declared.form.Form.the-variants.{Td1}
+use Rattle.zone.specs.declared.record.Record.{Record}
+use Rattle.zone.specs.Alphabet.{isFiller}
+
+-- the length without trailing fillers
+unfoldable pub trimmedLength : List ℕ → ℕ
+trimmedLength [] = 0
+trimmedLength (c ∷ s) = cond (isFiller c && eqb (trimmedLength s) 0) 0 (suc (trimmedLength s))
+
+-- trailing fillers are dropped
+unfoldable pub trimmed : List ℕ → List ℕ
+trimmed s = take (trimmedLength s) s
+
+-- filled up with fillers to n places
+unfoldable pub padded : ℕ → List ℕ → List ℕ
+padded n s = take n s ++ replicate (n - length s) 60
+
+unfoldable pub blank : Record
+blank = record {
+  form = Td1;
+  code = replicate 2 60;
+  state = replicate 3 60;
+  number = replicate 22 60;
+  «number_len» = 0;
+  nationality = replicate 3 60;
+  birth = replicate 6 60;
+  sex = 60;
+  expiry = replicate 6 60;
+  name = replicate 39 60;
+  «name_len» = 0;
+}

@@ -1,0 +1,228 @@
+// The three forms of document 01, "The text": which length tells which, and where everything stands in each. A form is a row of
+// constants here; what reads and writes a text goes by these and by nothing else of the form.
+ghost use mathlib.Core.Path.{_≡_};
+ghost use Rattle.zone.specs.Form.{formOf, placesOf, coveredOf, width, longest};
+ghost use Rattle.zone.specs.Part.{name, optional};
+
+pub enum Form {
+    Td1,
+    Td2,
+    Td3,
+}
+
+// What a length tells.
+pub enum Told {
+    As(Form),
+    Unknown,
+}
+
+// Where each part of a text begins. A part that the form does not have begins at the text's end.
+pub struct Places {
+    pub code: usize,
+    pub state: usize,
+    pub number: usize,
+    pub number_check: usize,
+    pub optional: usize,
+    pub nationality: usize,
+    pub birth: usize,
+    pub birth_check: usize,
+    pub sex: usize,
+    pub expiry: usize,
+    pub expiry_check: usize,
+    pub personal: usize,
+    pub personal_check: usize,
+    pub composite: usize,
+    pub name: usize,
+}
+
+// A run of characters of a text.
+pub struct Stretch {
+    pub start: usize,
+    pub width: usize,
+}
+
+// What the composite digit covers, joined in this order. The last is empty in forms that have three.
+pub struct Covered {
+    pub first: Stretch,
+    pub second: Stretch,
+    pub third: Stretch,
+    pub fourth: Stretch,
+}
+
+impl Form {
+    // How many characters each form allows.
+    pub const TD1_NUMBER: usize = 22;
+
+    pub const TD2_NUMBER: usize = 14;
+
+    pub const TD3_NUMBER: usize = 9;
+
+    pub const TD1_NAME: usize = 30;
+
+    pub const TD2_NAME: usize = 31;
+
+    pub const TD3_NAME: usize = 39;
+
+    pub const TD1_OPTIONAL: usize = 15;
+
+    pub const TD2_OPTIONAL: usize = 7;
+
+    // The room that a record has: the most of any form.
+    pub const NUMBER: usize = 22;
+
+    pub const NAME: usize = 39;
+
+    pub fn of_length(n: usize) -> Told
+        ensures { λ r. ⌜ r ≡ formOf n ⌝ }
+    {
+        match n {
+            90 => Told::As(Form::Td1),
+            72 => Told::As(Form::Td2),
+            88 => Told::As(Form::Td3),
+            _ => Told::Unknown,
+        }
+    }
+
+    pub fn longest_number(self) -> usize
+        ensures { λ r. ⌜ r ≡ longest self ⌝ }
+    {
+        match self {
+            Form::Td1 => Form::TD1_NUMBER,
+            Form::Td2 => Form::TD2_NUMBER,
+            Form::Td3 => Form::TD3_NUMBER,
+        }
+    }
+
+    pub fn name_width(self) -> usize
+        ensures { λ r. ⌜ r ≡ width self name ⌝ }
+    {
+        match self {
+            Form::Td1 => Form::TD1_NAME,
+            Form::Td2 => Form::TD2_NAME,
+            Form::Td3 => Form::TD3_NAME,
+        }
+    }
+
+    pub fn optional_width(self) -> usize
+        ensures { λ r. ⌜ r ≡ width self optional ⌝ }
+    {
+        match self {
+            Form::Td1 => Form::TD1_OPTIONAL,
+            Form::Td2 => Form::TD2_OPTIONAL,
+            Form::Td3 => 0,
+        }
+    }
+
+    pub fn places(self) -> Places
+        ensures { λ r. ⌜ r ≡ placesOf self ⌝ }
+    {
+        match self {
+            Form::Td1 => Places {
+                code: 0,
+                state: 2,
+                number: 5,
+                number_check: 14,
+                optional: 15,
+                birth: 30,
+                birth_check: 36,
+                sex: 37,
+                expiry: 38,
+                expiry_check: 44,
+                nationality: 45,
+                composite: 59,
+                name: 60,
+                personal: 90,
+                personal_check: 90,
+            },
+            Form::Td2 => Places {
+                code: 0,
+                state: 2,
+                name: 5,
+                number: 36,
+                number_check: 45,
+                nationality: 46,
+                birth: 49,
+                birth_check: 55,
+                sex: 56,
+                expiry: 57,
+                expiry_check: 63,
+                optional: 64,
+                composite: 71,
+                personal: 72,
+                personal_check: 72,
+            },
+            Form::Td3 => Places {
+                code: 0,
+                state: 2,
+                name: 5,
+                number: 44,
+                number_check: 53,
+                nationality: 54,
+                birth: 57,
+                birth_check: 63,
+                sex: 64,
+                expiry: 65,
+                expiry_check: 71,
+                personal: 72,
+                personal_check: 86,
+                composite: 87,
+                optional: 88,
+            },
+        }
+    }
+
+    pub fn covered(self) -> Covered
+        ensures { λ r. ⌜ r ≡ coveredOf self ⌝ }
+    {
+        match self {
+            Form::Td1 => Covered {
+                first: Stretch {
+                    start: 5,
+                    width: 25,
+                },
+                second: Stretch {
+                    start: 30,
+                    width: 7,
+                },
+                third: Stretch {
+                    start: 38,
+                    width: 7,
+                },
+                fourth: Stretch {
+                    start: 48,
+                    width: 11,
+                },
+            },
+            Form::Td2 => Covered {
+                first: Stretch {
+                    start: 36,
+                    width: 10,
+                },
+                second: Stretch {
+                    start: 49,
+                    width: 7,
+                },
+                third: Stretch {
+                    start: 57,
+                    width: 14,
+                },
+                fourth: Stretch { start: 0, width: 0 },
+            },
+            Form::Td3 => Covered {
+                first: Stretch {
+                    start: 44,
+                    width: 10,
+                },
+                second: Stretch {
+                    start: 57,
+                    width: 7,
+                },
+                third: Stretch {
+                    start: 65,
+                    width: 22,
+                },
+                fourth: Stretch { start: 0, width: 0 },
+            },
+        }
+    }
+}

@@ -1,0 +1,4 @@
+// The machine readable zone, without its rules: the alphabet, the forms with their layouts, and the record.
+pub mod alphabet;
+pub mod form;
+pub mod record;
