@@ -1,6 +1,8 @@
 -- The document code: document 01, "The text", Field rules, Code.
 use Prim.Native.Nat.{ℕ}
 use mathlib.Core.Bool.{Bool, true, false, not, _&&_, _||_}
+use mathlib.Core.List.{List}
+use lib.ListN.{getD}
 use lib.Dec.{eqb}
 use Rattle.zone.specs.Alphabet.{isLetter, isFiller}
 use Rattle.zone.specs.declared.form.Form.{Form}
@@ -22,7 +24,7 @@ cardRule a b = isCardLetter a && (isSecond b && (not (eqb b 86) && not (eqb a 65
 unfoldable pub passportRule : ℕ → ℕ → Bool
 passportRule a b = eqb a 80 && isSecond b
 
-unfoldable pub codeRule : Form → ℕ → ℕ → Bool
-codeRule Td1 a b = cardRule a b
-codeRule Td2 a b = cardRule a b
-codeRule Td3 a b = passportRule a b
+unfoldable pub codeRule : Form → List ℕ → Bool
+codeRule Td1 s = cardRule (getD s 0 0) (getD s 1 0)
+codeRule Td2 s = cardRule (getD s 0 0) (getD s 1 0)
+codeRule Td3 s = passportRule (getD s 0 0) (getD s 1 0)

@@ -7,8 +7,11 @@ use lib.Dec.{eqb}
 use Rattle.zone.specs.Alphabet.{isLetter, isFiller}
 
 -- one to three letters, then fillers
-unfoldable pub stateRule : ℕ → ℕ → ℕ → Bool
-stateRule a b c = isLetter a && cond (isLetter b) (isLetter c || isFiller c) (isFiller b && isFiller c)
+unfoldable pub lettersThenFillers : ℕ → ℕ → ℕ → Bool
+lettersThenFillers a b c = isLetter a && cond (isLetter b) (isLetter c || isFiller c) (isFiller b && isFiller c)
+
+unfoldable pub stateRule : List ℕ → Bool
+stateRule s = lettersThenFillers (getD s 0 0) (getD s 1 0) (getD s 2 0)
 
 -- M, F or `<`
 unfoldable pub sexRule : ℕ → Bool

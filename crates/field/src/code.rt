@@ -50,9 +50,11 @@ fn is_passport(a: u8, b: u8) -> bool
     if a == 80 { is_second(b) } else { false }
 }
 
-pub fn is_code(form: Form, a: u8, b: u8) -> bool
-    ensures { λ r. ⌜ r ≡ codeRule form a b ⌝ }
+pub fn is_code(form: Form, s: &[u8]) -> bool
+    ensures { λ r. ⌜ r ≡ codeRule form (now (s .entry)) ⌝ }
 {
+    let a = lent::octet(s, 0);
+    let b = lent::octet(s, 1);
     match form {
         Form::Td1 => is_card(a, b),
         Form::Td2 => is_card(a, b),

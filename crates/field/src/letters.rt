@@ -1,12 +1,11 @@
 // The fields of letters and fillers: state and nationality, sex, name.
 ghost use mathlib.Core.Path.{_≡_};
-ghost use Rattle.field.specs.Letters.{stateRule, sexRule, nameRule, isNameCharacter, every};
+ghost use Rattle.field.specs.Letters.{stateRule, lettersThenFillers, sexRule, nameRule, isNameCharacter, every};
 use zone::alphabet::FILLER;
 use zone::alphabet::is_letter;
 
-// One to three letters, then fillers.
-pub fn is_state(a: u8, b: u8, c: u8) -> bool
-    ensures { λ r. ⌜ r ≡ stateRule a b c ⌝ }
+fn letters_then_fillers(a: u8, b: u8, c: u8) -> bool
+    ensures { λ r. ⌜ r ≡ lettersThenFillers a b c ⌝ }
 {
     if is_letter(a) {
         if is_letter(b) {
@@ -17,6 +16,13 @@ pub fn is_state(a: u8, b: u8, c: u8) -> bool
     } else {
         false
     }
+}
+
+// A state or a nationality.
+pub fn is_state(s: &[u8]) -> bool
+    ensures { λ r. ⌜ r ≡ stateRule (now (s .entry)) ⌝ }
+{
+    letters_then_fillers(lent::octet(s, 0), lent::octet(s, 1), lent::octet(s, 2))
 }
 
 pub fn is_sex(c: u8) -> bool

@@ -7,7 +7,8 @@ use native.Mathlib.Nat.{zero-add, add-sub-cancel-left}
 use native.Mathlib.Numerals.{add-one}
 use native.Mathlib.Omega.{arith}
 use lib.ListN.{length, take, drop, getD, set, length-drop, drop-of-length-le, take-append-drop}
-use lib.Seq.{take-all, paste, paste-suc, take-length, drop-length}
+use Rattle.lent.specs.Copied.{copied, copiedAt}
+use lib.Seq.{drop-nil, take-all, paste, paste-suc, take-length, drop-length}
 
 -- one more octet copied to the front of a range
 pub copy-more : (to from : List ℕ) (i : ℕ) → i < length to → i < length from
@@ -37,3 +38,19 @@ copy-ends to from i ht hf (inr h) =
     let e : i ≡ length to = omega arith in
     let k : length to ≤ length from = omega arith in
     rw (e, drop-length to, drop-of-length-le to k)
+
+-- past the end there is nothing to copy to
+pub copy-past : (to : List ℕ) (at : ℕ) (from : List ℕ) → length to < at
+    → to ≡ take at to ++ (take (length (drop at to)) from ++ drop (length from) (drop at to))
+copy-past to at from h =
+    let k : length to ≤ at = omega arith in
+    rw (drop-of-length-le to k, drop-nil {A = ℕ} (length from), take-all at to k, append-nil)
+
+-- a part that was lent from a place on, and comes back with a copy at its front
+pub copy-into : (to : List ℕ) (at : ℕ) (from back : List ℕ)
+    → back ≡ copied (take (length to - at) (drop at to)) from
+    → take at to ++ (back ++ drop (length to - at) (drop at to)) ≡ copiedAt to at from
+copy-into to at from back e =
+    let k : length (drop at to) ≤ length to - at = rw length-drop (omega arith) in
+    let w : take (length to - at) (drop at to) ≡ drop at to = take-all (length to - at) (drop at to) k in
+    rw (e, w, drop-of-length-le (drop at to) k, append-nil)

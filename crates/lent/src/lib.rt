@@ -1,7 +1,7 @@
 // Lent octets, read and filled without a condition: whatever is asked for past the end is simply not there.
 ghost use mathlib.Core.Path.{_≡_};
 ghost use lib.ListN.{length, take, drop, getD};
-ghost use Rattle.lent.specs.Copied.{copied};
+ghost use Rattle.lent.specs.Copied.{copied, copiedAt};
 
 // The octet at a place, 0 past the end.
 pub fn octet(s: &[u8], at: usize) -> u8
@@ -35,5 +35,14 @@ pub fn copy(to: &mut [u8], from: &[u8])
         }
         to[i] = from[i];
         i += 1;
+    }
+}
+
+// The same from a place on. Past the end there is nothing to change.
+pub fn copy_at(to: &mut [u8], at: usize, from: &[u8])
+    ensures { λ _. ⌜ now (to .exit) ≡ copiedAt (now (to .entry)) at (now (from .entry)) ⌝ }
+{
+    if at <= to.len() {
+        copy(&mut to[at..], from);
     }
 }

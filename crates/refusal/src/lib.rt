@@ -1,7 +1,7 @@
 // Why an input is refused, and where: the cause, its number in document 01, and its place.
 ghost use mathlib.Core.Path.{_≡_};
 ghost use Rattle.refusal.specs.Numbers.{numberOf};
-ghost use Rattle.refusal.specs.Outcome.{outcomeOf, orElse};
+ghost use Rattle.refusal.specs.Outcome.{outcomeOf, orElse, unless};
 
 // The causes of document 01, "Refusal numbers", in the order of their numbers 1 to 18.
 pub enum Cause {
@@ -66,6 +66,17 @@ pub enum Verdict {
 }
 
 impl Verdict {
+    // A rule that is kept passes; one that is not is refused at its place.
+    pub fn judged(kept: bool, cause: Cause, place: usize) -> Verdict
+        ensures { λ r. ⌜ outcomeOf r ≡ unless kept (numberOf cause) place ⌝ }
+    {
+        if kept {
+            Verdict::Passed
+        } else {
+            Verdict::Refused(Refusal { cause, place })
+        }
+    }
+
     // This refusal, or where there is none what comes next.
     pub fn or_else(self, next: Verdict) -> Verdict
         ensures { λ r. ⌜ outcomeOf r ≡ orElse (outcomeOf self) (outcomeOf next) ⌝ }

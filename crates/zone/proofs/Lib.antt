@@ -1,3 +1,6 @@
 pub mod Classes
+pub mod Covers
 pub mod Places
+pub mod Padded
 pub mod Trimmed
+pub mod Widths

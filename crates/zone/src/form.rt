@@ -2,7 +2,7 @@
 // constants here; what reads and writes a text goes by these and by nothing else of the form.
 ghost use mathlib.Core.Path.{_≡_};
 ghost use Rattle.zone.specs.Form.{formOf, placesOf, coveredOf, width, longest};
-ghost use Rattle.zone.specs.Part.{name, optional};
+ghost use Rattle.zone.specs.Part.{name, optional, personal};
 
 pub enum Form {
     Td1,
@@ -67,11 +67,14 @@ impl Form {
 
     pub const TD2_OPTIONAL: usize = 7;
 
+    pub const TD3_PERSONAL: usize = 14;
+
     // The room that a record has: the most of any form.
     pub const NUMBER: usize = 22;
 
     pub const NAME: usize = 39;
 
+    // Which form a text of this length is.
     pub fn of_length(n: usize) -> Told
         ensures { λ r. ⌜ r ≡ formOf n ⌝ }
     {
@@ -103,6 +106,7 @@ impl Form {
         }
     }
 
+    // The field that a long number runs into, 0 in forms without one.
     pub fn optional_width(self) -> usize
         ensures { λ r. ⌜ r ≡ width self optional ⌝ }
     {
@@ -110,6 +114,17 @@ impl Form {
             Form::Td1 => Form::TD1_OPTIONAL,
             Form::Td2 => Form::TD2_OPTIONAL,
             Form::Td3 => 0,
+        }
+    }
+
+    // 0 in forms without a personal number.
+    pub fn personal_width(self) -> usize
+        ensures { λ r. ⌜ r ≡ width self personal ⌝ }
+    {
+        match self {
+            Form::Td1 => 0,
+            Form::Td2 => 0,
+            Form::Td3 => Form::TD3_PERSONAL,
         }
     }
 

@@ -1,8 +1,14 @@
--- The branches that led to each `return` are the tests of `codeRule`.
+-- Each arm is the rule of its form.
 use borrow.Author.Needs.{needs}
 use Rattle.field.specs.Code.{codeRule}
 use Rattle.field.proofs.code.is_code.Statement.{statement}
 use Rattle.field.proofs.code.is_code.Tie as tie
+
+octet-requires : tie.Need-octet-requires
+octet-requires c κs = search needs
+
+octet-requires-2 : tie.Need-octet-requires-2
+octet-requires-2 c κs = search needs
 
 enum-told : tie.Need-enum-told
 enum-told c = search needs
@@ -24,20 +30,22 @@ is-passport-requires c κs = search needs
 
 returns : tie.Need-returns
 unfolding codeRule
-returns c = simp (← c .is-card .ensures, c .before .enum-told .given .1)
+returns c = simp (← c .is-card .ensures, c .before .enum-told .given .1, ← c .before .before .before .octet2 .ensures, ← c .before .before .before .before .octet .ensures)
 
 returns-2 : tie.Need-returns-2
 unfolding codeRule
-returns-2 c = simp (← c .is-card2 .ensures, c .before .enum-told2 .given .1)
+returns-2 c = simp (← c .is-card2 .ensures, c .before .enum-told2 .given .1, ← c .before .before .before .octet2 .ensures, ← c .before .before .before .before .octet .ensures)
 
 returns-3 : tie.Need-returns-3
 unfolding codeRule
-returns-3 c = simp (← c .is-passport .ensures, c .before .enum-told3 .given .1)
+returns-3 c = simp (← c .is-passport .ensures, c .before .enum-told3 .given .1, ← c .before .before .before .octet2 .ensures, ← c .before .before .before .before .octet .ensures)
 
 pub is-code-spec : {M : Type 1} → statement M
 is-code-spec =
     tie.close
     (tie.spec
+    octet-requires
+    octet-requires-2
     enum-told
     is-card-requires
     enum-told-2

@@ -1,49 +1,31 @@
--- The branches that led to each `return` are the tests of `stateRule`.
+-- The three characters.
 use borrow.Author.Needs.{needs}
-use borrow.Author.Tests.{eq-eqb, ne-eqb}
-use Rattle.zone.specs.Alphabet.{isFiller}
 use Rattle.field.specs.Letters.{stateRule}
 use Rattle.field.proofs.letters.is_state.Statement.{statement}
 use Rattle.field.proofs.letters.is_state.Tie as tie
 
-is-letter-requires : tie.Need-is-letter-requires
-is-letter-requires c κs = search needs
+octet-requires : tie.Need-octet-requires
+octet-requires c κs = search needs
 
-is-letter-requires-2 : tie.Need-is-letter-requires-2
-is-letter-requires-2 c κs = search needs
+octet-requires-2 : tie.Need-octet-requires-2
+octet-requires-2 c κs = search needs
 
-is-letter-requires-3 : tie.Need-is-letter-requires-3
-is-letter-requires-3 c κs = search needs
+octet-requires-3 : tie.Need-octet-requires-3
+octet-requires-3 c κs = search needs
+
+letters-then-fillers-requires : tie.Need-letters-then-fillers-requires
+letters-then-fillers-requires c κs = search needs
 
 returns : tie.Need-returns
-unfolding stateRule isFiller
-returns c = simp (c .if3 .taken, ← c .before .is-letter3 .ensures, c .before .before .if2 .taken, ← c .before .before .before .is-letter2 .ensures, c .before .before .before .before .if1 .taken, ← c .before .before .before .before .before .is-letter .ensures)
-
-returns-2 : tie.Need-returns-2
-unfolding stateRule isFiller
-returns-2 c = simp (c .if3 .left, ← c .before .is-letter3 .ensures, c .before .before .if2 .taken, ← c .before .before .before .is-letter2 .ensures, c .before .before .before .before .if1 .taken, ← c .before .before .before .before .before .is-letter .ensures)
-
-returns-3 : tie.Need-returns-3
-unfolding stateRule isFiller
-returns-3 c = simp (eq-eqb _ _ (c .if4 .taken), c .before .if2 .left, ← c .before .before .is-letter2 .ensures, c .before .before .before .if1 .taken, ← c .before .before .before .before .is-letter .ensures)
-
-returns-4 : tie.Need-returns-4
-unfolding stateRule isFiller
-returns-4 c = simp (ne-eqb _ _ (c .if4 .left), c .before .if2 .left, ← c .before .before .is-letter2 .ensures, c .before .before .before .if1 .taken, ← c .before .before .before .before .is-letter .ensures)
-
-returns-5 : tie.Need-returns-5
-unfolding stateRule isFiller
-returns-5 c = simp (c .if1 .left, ← c .before .is-letter .ensures)
+unfolding stateRule
+returns c = simp (← c .letters-then-fillers .ensures, ← c .before .octet3 .ensures, ← c .before .before .octet2 .ensures, ← c .before .before .before .octet .ensures)
 
 pub is-state-spec : {M : Type 1} → statement M
 is-state-spec =
     tie.close
     (tie.spec
-    is-letter-requires
-    is-letter-requires-2
-    is-letter-requires-3
-    returns
-    returns-2
-    returns-3
-    returns-4
-    returns-5)
+    octet-requires
+    octet-requires-2
+    octet-requires-3
+    letters-then-fillers-requires
+    returns)

@@ -1,0 +1,62 @@
+-- A sum that goes on over four stretches is the sum over all of them joined.
+use borrow.Author.Needs.{needs}
+use denote.Ref.{now}
+use mathlib.Core.List.{_++_}
+use Rattle.zone.specs.Form.{cut, coveredOf}
+use Rattle.zone.proofs.Covers.{covered-four}
+use Rattle.digit.proofs.Sums.{over-over, over-digit}
+use Rattle.text.proofs.digits.covered_digit.Statement.{statement}
+use Rattle.text.proofs.digits.covered_digit.Tie as tie
+
+covered-requires : tie.Need-covered-requires
+covered-requires c κs = search needs
+
+new-requires : tie.Need-new-requires
+new-requires c κs = search needs
+
+over-stretch-requires : tie.Need-over-stretch-requires
+over-stretch-requires c κs = search needs
+
+over-stretch-requires-2 : tie.Need-over-stretch-requires-2
+over-stretch-requires-2 c κs = search needs
+
+over-stretch-requires-3 : tie.Need-over-stretch-requires-3
+over-stretch-requires-3 c κs = search needs
+
+over-stretch-requires-4 : tie.Need-over-stretch-requires-4
+over-stretch-requires-4 c κs = search needs
+
+digit-requires : tie.Need-digit-requires
+digit-requires c κs = search needs
+
+returns : tie.Need-returns
+returns c =
+    let t = now (c .before .before .before .before .before .before .before .before .args .text) in
+    let f = coveredOf (c .before .before .before .before .before .before .before .before .args .form) in
+    let new = c .before .before .before .before .before .new in
+    rw (
+      c .digit .ensures,
+      c .before .over-stretch4 .ensures,
+      c .before .before .over-stretch3 .ensures,
+      c .before .before .before .over-stretch2 .ensures,
+      c .before .before .before .before .over-stretch .ensures,
+      c .before .before .before .before .before .before .covered .ensures,
+      over-over,
+      over-over,
+      over-over,
+      covered-four,
+    )
+    (over-digit (new .result) (cut t (f .first) ++ (cut t (f .second) ++ (cut t (f .third) ++ cut t (f .fourth)))) (new .ensures .0) (new .ensures .1))
+
+pub covered-digit-spec : {M : Type 1} → statement M
+covered-digit-spec =
+    tie.close
+    (tie.spec
+    covered-requires
+    new-requires
+    over-stretch-requires
+    over-stretch-requires-2
+    over-stretch-requires-3
+    over-stretch-requires-4
+    digit-requires
+    returns)

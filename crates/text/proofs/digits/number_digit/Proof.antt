@@ -1,0 +1,52 @@
+-- The cases of `numberDigit`.
+use borrow.Author.Needs.{needs}
+use Rattle.zone.proofs.Widths.{fixed}
+use Rattle.zone.specs.Form.{placesOf, field}
+use Rattle.text.specs.Number.{checkedBy}
+use Rattle.text.specs.Order.{numberDigit}
+use Rattle.text.proofs.digits.number_digit.Statement.{statement}
+use Rattle.text.proofs.digits.number_digit.Tie as tie
+
+places-requires : tie.Need-places-requires
+places-requires c κs = search needs
+
+enum-told : tie.Need-enum-told
+enum-told c = search needs
+
+part-requires : tie.Need-part-requires
+part-requires c κs = search needs
+
+digit-at-requires : tie.Need-digit-at-requires
+digit-at-requires c κs = search needs
+
+enum-told-2 : tie.Need-enum-told-2
+enum-told-2 c = search needs
+
+enum-told-3 : tie.Need-enum-told-3
+enum-told-3 c = search needs
+
+returns : tie.Need-returns
+unfolding numberDigit checkedBy placesOf field
+returns c = simp (c .digit-at .ensures, c .before .part .ensures, c .before .before .enum-told .given .1, c .before .before .before .before .places .ensures, fixed (c .before .before .before .before .before .before .args .form) .number-width)
+
+returns-2 : tie.Need-returns-2
+unfolding numberDigit
+returns-2 c = rw (c .enum-told2 .given .1)
+
+returns-3 : tie.Need-returns-3
+unfolding numberDigit
+returns-3 c = rw (c .enum-told3 .given .1)
+
+pub number-digit-spec : {M : Type 1} → statement M
+number-digit-spec =
+    tie.close
+    (tie.spec
+    places-requires
+    enum-told
+    part-requires
+    digit-at-requires
+    enum-told-2
+    enum-told-3
+    returns
+    returns-2
+    returns-3)

@@ -1,0 +1,38 @@
+-- One call on the field, where the form has it.
+use borrow.Author.Needs.{needs}
+use borrow.Author.Tests.{lt-ltb, le-ltb}
+use Rattle.zone.specs.Form.{placesOf, field}
+use Rattle.text.proofs.digits.personal_digit.Statement.{statement}
+use Rattle.text.proofs.digits.personal_digit.Tie as tie
+
+places-requires : tie.Need-places-requires
+places-requires c κs = search needs
+
+personal-width-requires : tie.Need-personal-width-requires
+personal-width-requires c κs = search needs
+
+part-requires : tie.Need-part-requires
+part-requires c κs = search needs
+
+digit-at-requires : tie.Need-digit-at-requires
+digit-at-requires c κs = search needs
+
+returns : tie.Need-returns
+unfolding placesOf field
+returns c =
+    let has = rw (c .before .before .before .personal-width .ensures) at (lt-ltb _ _ (c .before .before .if1 .taken)) in
+    rw (c .digit-at .ensures, c .before .part .ensures, c .before .before .before .personal-width .ensures, c .before .before .before .before .places .ensures, has)
+
+returns-2 : tie.Need-returns-2
+returns-2 c = rw (rw (c .before .personal-width .ensures) at (le-ltb _ _ (c .if1 .left)))
+
+pub personal-digit-spec : {M : Type 1} → statement M
+personal-digit-spec =
+    tie.close
+    (tie.spec
+    places-requires
+    personal-width-requires
+    part-requires
+    digit-at-requires
+    returns
+    returns-2)

@@ -1,0 +1,26 @@
+-- The rule on the field, at the field's start.
+use borrow.Author.Needs.{needs}
+use Rattle.zone.proofs.Widths.{fixed}
+use Rattle.zone.specs.Form.{placesOf, field}
+use Rattle.text.proofs.fields.code_check.Statement.{statement}
+use Rattle.text.proofs.fields.code_check.Tie as tie
+
+places-requires : tie.Need-places-requires
+places-requires c κs = search needs
+
+part-requires : tie.Need-part-requires
+part-requires c κs = search needs
+
+is-code-requires : tie.Need-is-code-requires
+is-code-requires c κs = search needs
+
+judged-requires : tie.Need-judged-requires
+judged-requires c κs = search needs
+
+returns : tie.Need-returns
+unfolding placesOf field
+returns c = rw (c .judged .ensures, c .before .is-code .ensures, c .before .before .part .ensures, c .before .before .before .places .ensures, fixed (c .before .before .before .before .before .args .form) .code-width)
+
+pub code-check-spec : {M : Type 1} → statement M
+code-check-spec =
+    tie.close (tie.spec places-requires part-requires is-code-requires judged-requires returns)

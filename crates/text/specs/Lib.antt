@@ -1,0 +1,4 @@
+pub mod Number
+pub mod Order
+pub mod Read
+pub mod Sound

@@ -1,0 +1,40 @@
+-- The sound record: document 01, "It is sound if ..".
+use Prim.Native.Nat.{ℕ}
+use mathlib.Core.Bool.{Bool, not, _&&_}
+use mathlib.Core.List.{List}
+use lib.ListN.{length, take, drop, getD}
+use lib.Dec.{eqb, leb}
+use Rattle.zone.specs.Alphabet.{isCharacter, isFiller}
+use Rattle.zone.specs.Part.{name}
+use Rattle.zone.specs.Form.{width, longest}
+use Rattle.zone.specs.Record.{trimmedLength}
+use Rattle.zone.specs.declared.record.Record.{Record}
+use Rattle.field.specs.Code.{codeRule}
+use Rattle.field.specs.Letters.{stateRule, sexRule, nameRule, every}
+use Rattle.field.specs.Date.{birthRule, expiryRule}
+
+-- fits: the places that each field has in a record
+unfoldable pub isShaped : Record → Bool
+isShaped r =
+    eqb (length (r .code)) 2 && (eqb (length (r .state)) 3 && (eqb (length (r .number)) 22 && (eqb (length (r .nationality)) 3
+    && (eqb (length (r .birth)) 6 && (eqb (length (r .expiry)) 6 && eqb (length (r .name)) 39)))))
+
+-- n characters, not none and at most so many, that end in no filler, and fillers in every place past them
+unfoldable pub isHeld : ℕ → List ℕ → ℕ → Bool
+isHeld most s n = leb 1 n && (leb n most && (eqb (trimmedLength s) n))
+
+-- does not begin with `<`; over nine characters, has none from its tenth character on
+unfoldable pub isNumber : List ℕ → ℕ → Bool
+isNumber s n = every isCharacter s && (not (isFiller (getD s 0 0)) && every (λ c. not (isFiller c)) (drop 9 (take n s)))
+
+unfoldable pub isSound : Record → Bool
+isSound r =
+    isShaped r
+    && (codeRule (r .form) (r .code)
+    && (stateRule (r .state)
+    && ((isHeld (longest (r .form)) (r .number) (r .«number_len») && isNumber (r .number) (r .«number_len»))
+    && (stateRule (r .nationality)
+    && (birthRule (r .birth)
+    && (sexRule (r .sex)
+    && (expiryRule (r .expiry)
+    && (isHeld (width (r .form) name) (r .name) (r .«name_len») && nameRule (r .name)))))))))

@@ -1,0 +1,155 @@
+// The field rules, 3 to 8: each field judged at its start, and all of them in text order.
+ghost use mathlib.Core.Path.{_≡_};
+ghost use mathlib.Core.Bool.{not, _&&_};
+ghost use lib.ListN.{getD};
+ghost use Rattle.refusal.specs.Outcome.{outcomeOf, unless, orElse};
+ghost use Rattle.zone.specs.Alphabet.{isFiller};
+ghost use Rattle.zone.specs.Form.{start, field, parts};
+ghost use Rattle.zone.specs.Part.{code, state, number, nationality, birth, sex, expiry, name};
+ghost use Rattle.field.specs.Code.{codeRule};
+ghost use Rattle.field.specs.Letters.{stateRule, sexRule, nameRule};
+ghost use Rattle.field.specs.Date.{birthRule, expiryRule};
+ghost use Rattle.text.specs.Number.{spanRule, numberRule};
+ghost use Rattle.text.specs.Order.{fieldCheck, inOrder};
+use crate::number::Span;
+use refusal::Cause;
+use refusal::Verdict;
+use zone::alphabet::FILLER;
+use zone::form::Form;
+
+fn code_check(form: Form, text: &[u8]) -> Verdict
+    ensures { λ r. ⌜ outcomeOf r ≡ unless (codeRule form (field form code (now (text .entry)))) 3 (start form code) ⌝ }
+{
+    let at = form.places();
+    Verdict::judged(
+        field::code::is_code(form, lent::part(text, at.code, 2)),
+        Cause::Code,
+        at.code,
+    )
+}
+
+fn state_check(form: Form, text: &[u8]) -> Verdict
+    ensures { λ r. ⌜ outcomeOf r ≡ unless (stateRule (field form state (now (text .entry)))) 4 (start form state) ⌝ }
+{
+    let at = form.places();
+    Verdict::judged(
+        field::letters::is_state(lent::part(text, at.state, 3)),
+        Cause::State,
+        at.state,
+    )
+}
+
+fn nationality_check(form: Form, text: &[u8]) -> Verdict
+    ensures { λ r. ⌜ outcomeOf r ≡ unless (stateRule (field form nationality (now (text .entry)))) 4 (start form nationality) ⌝ }
+{
+    let at = form.places();
+    Verdict::judged(
+        field::letters::is_state(lent::part(text, at.nationality, 3)),
+        Cause::State,
+        at.nationality,
+    )
+}
+
+// A number does not begin with a filler, and ends as it should.
+fn is_number(s: &[u8], span: Span) -> bool
+    ensures { λ r. ⌜ r ≡ not (isFiller (getD (now (s .entry)) 0 0)) && spanRule span ⌝ }
+{
+    if lent::octet(s, 0) == FILLER {
+        return false;
+    }
+    match span {
+        Span::Short => true,
+        Span::Long(_) => true,
+        Span::Bad => false,
+    }
+}
+
+fn number_check(form: Form, text: &[u8], span: Span) -> Verdict
+    ensures { λ r. ⌜ outcomeOf r ≡ unless (numberRule form (now (text .entry)) span) 5 (start form number) ⌝ }
+{
+    let at = form.places();
+    Verdict::judged(
+        is_number(lent::part(text, at.number, 9), span),
+        Cause::Number,
+        at.number,
+    )
+}
+
+fn birth_check(form: Form, text: &[u8]) -> Verdict
+    ensures { λ r. ⌜ outcomeOf r ≡ unless (birthRule (field form birth (now (text .entry)))) 6 (start form birth) ⌝ }
+{
+    let at = form.places();
+    Verdict::judged(
+        field::date::is_birth(lent::part(text, at.birth, 6)),
+        Cause::Date,
+        at.birth,
+    )
+}
+
+fn expiry_check(form: Form, text: &[u8]) -> Verdict
+    ensures { λ r. ⌜ outcomeOf r ≡ unless (expiryRule (field form expiry (now (text .entry)))) 6 (start form expiry) ⌝ }
+{
+    let at = form.places();
+    Verdict::judged(
+        field::date::is_expiry(lent::part(text, at.expiry, 6)),
+        Cause::Date,
+        at.expiry,
+    )
+}
+
+fn sex_check(form: Form, text: &[u8]) -> Verdict
+    ensures { λ r. ⌜ outcomeOf r ≡ unless (sexRule (getD (now (text .entry)) (start form sex) 0)) 7 (start form sex) ⌝ }
+{
+    let at = form.places();
+    Verdict::judged(
+        field::letters::is_sex(lent::octet(text, at.sex)),
+        Cause::Sex,
+        at.sex,
+    )
+}
+
+fn name_check(form: Form, text: &[u8]) -> Verdict
+    ensures { λ r. ⌜ outcomeOf r ≡ unless (nameRule (field form name (now (text .entry)))) 8 (start form name) ⌝ }
+{
+    let at = form.places();
+    Verdict::judged(
+        field::letters::is_name(lent::part(text, at.name, form.name_width())),
+        Cause::Name,
+        at.name,
+    )
+}
+
+// Birth, sex and expiry stand in this order in every form.
+fn person_check(form: Form, text: &[u8]) -> Verdict
+    ensures { λ r. ⌜ outcomeOf r ≡ orElse (unless (birthRule (field form birth (now (text .entry)))) 6 (start form birth))
+        (orElse (unless (sexRule (getD (now (text .entry)) (start form sex) 0)) 7 (start form sex))
+        (unless (expiryRule (field form expiry (now (text .entry)))) 6 (start form expiry))) ⌝ }
+{
+    let sex_and_expiry = sex_check(form, text).or_else(expiry_check(form, text));
+    birth_check(form, text).or_else(sex_and_expiry)
+}
+
+// Code and state open every form.
+fn opening_check(form: Form, text: &[u8]) -> Verdict
+    ensures { λ r. ⌜ outcomeOf r ≡ orElse (unless (codeRule form (field form code (now (text .entry)))) 3 (start form code))
+        (unless (stateRule (field form state (now (text .entry)))) 4 (start form state)) ⌝ }
+{
+    code_check(form, text).or_else(state_check(form, text))
+}
+
+// The first field, in text order, that breaks its rule. Forms differ in where name and nationality stand.
+pub fn fields(form: Form, text: &[u8], span: Span) -> Verdict
+    ensures { λ r. ⌜ outcomeOf r ≡ inOrder (fieldCheck form (now (text .entry)) span) (parts form) ⌝ }
+{
+    let at = form.places();
+    let opening = opening_check(form, text);
+    let name = name_check(form, text);
+    let number = number_check(form, text, span);
+    let nationality = nationality_check(form, text);
+    let person = person_check(form, text);
+    if at.name < at.number {
+        opening.or_else(name.or_else(number.or_else(nationality.or_else(person))))
+    } else {
+        opening.or_else(number.or_else(person.or_else(nationality.or_else(name))))
+    }
+}

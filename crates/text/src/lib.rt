@@ -1,0 +1,6 @@
+// Reading the text of a machine readable zone.
+mod digits;
+mod fields;
+pub mod number;
+pub mod read;
+mod record;

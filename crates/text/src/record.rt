@@ -1,0 +1,121 @@
+// The record of a text: each field copied to its place in the record, with fillers behind it.
+ghost use mathlib.Core.Path.{_≡_};
+ghost use mathlib.Core.List.{_++_};
+ghost use lib.ListN.{length, take, drop};
+ghost use Rattle.zone.specs.Form.{field};
+ghost use Rattle.zone.specs.Part.{name};
+ghost use Rattle.zone.specs.Record.{padded, trimmed};
+ghost use Rattle.text.specs.Number.{numberBy};
+ghost use Rattle.text.specs.Read.{recordBy};
+use crate::number::Span;
+use zone::form::Form;
+use zone::record::Record;
+use zone::record::trimmed_length;
+
+fn two_at(text: &[u8], at: usize) -> [u8; 2]
+    ensures { λ r. ⌜ r ≡ padded 2 (take 2 (drop at (now (text .entry)))) ⌝ }
+{
+    let mut room = [60u8; 2];
+    lent::copy(&mut room, lent::part(text, at, 2));
+    room
+}
+
+fn three_at(text: &[u8], at: usize) -> [u8; 3]
+    ensures { λ r. ⌜ r ≡ padded 3 (take 3 (drop at (now (text .entry)))) ⌝ }
+{
+    let mut room = [60u8; 3];
+    lent::copy(&mut room, lent::part(text, at, 3));
+    room
+}
+
+fn six_at(text: &[u8], at: usize) -> [u8; 6]
+    ensures { λ r. ⌜ r ≡ padded 6 (take 6 (drop at (now (text .entry)))) ⌝ }
+{
+    let mut room = [60u8; 6];
+    lent::copy(&mut room, lent::part(text, at, 6));
+    room
+}
+
+fn name_chars(form: Form, text: &[u8]) -> [u8; 39]
+    ensures { λ r. ⌜ r ≡ padded 39 (trimmed (field form name (now (text .entry)))) ⌝ }
+{
+    let at = form.places();
+    let mut room = [60u8; 39];
+    lent::copy(&mut room, lent::part(text, at.name, form.name_width()));
+    room
+}
+
+fn name_length(form: Form, text: &[u8]) -> usize
+    ensures { λ r. ⌜ r ≡ length (trimmed (field form name (now (text .entry)))) ⌝ }
+{
+    let at = form.places();
+    trimmed_length(lent::part(text, at.name, form.name_width()))
+}
+
+// The nine and the further characters, joined.
+fn joined<'a>(nine: &'a [u8], further: &'a [u8]) -> [u8; 22]
+    ensures { λ r. ⌜ r ≡ padded 22 (now (nine .entry) ++ now (further .entry)) ⌝ }
+{
+    let mut room = [60u8; 22];
+    lent::copy(&mut room, nine);
+    lent::copy_at(&mut room, nine.len(), further);
+    room
+}
+
+fn number_chars(form: Form, text: &[u8], span: Span) -> [u8; 22]
+    ensures { λ r. ⌜ r ≡ padded 22 (numberBy form (now (text .entry)) span) ⌝ }
+{
+    let at = form.places();
+    let nine = lent::part(text, at.number, 9);
+    let optional = lent::part(text, at.optional, form.optional_width());
+    match span {
+        Span::Short => joined(nine, lent::part(optional, 0, 0)),
+        Span::Long(further) => joined(nine, lent::part(optional, 0, further as usize)),
+        Span::Bad => joined(nine, lent::part(optional, 0, 0)),
+    }
+}
+
+fn number_length(form: Form, text: &[u8], span: Span) -> usize
+    ensures { λ r. ⌜ r ≡ length (numberBy form (now (text .entry)) span) ⌝ }
+{
+    let at = form.places();
+    let nine = lent::part(text, at.number, 9);
+    match span {
+        Span::Short => trimmed_length(nine),
+        Span::Long(further) => {
+            let optional = lent::part(text, at.optional, form.optional_width());
+            let more = lent::part(optional, 0, further as usize);
+            nine.len() + more.len()
+        }
+        Span::Bad => trimmed_length(nine),
+    }
+}
+
+pub fn record_by(form: Form, text: &[u8], span: Span) -> Record
+    ensures { λ r. ⌜ r ≡ recordBy form (now (text .entry)) span ⌝ }
+{
+    let at = form.places();
+    let code = two_at(text, at.code);
+    let state = three_at(text, at.state);
+    let number = number_chars(form, text, span);
+    let number_len = number_length(form, text, span);
+    let nationality = three_at(text, at.nationality);
+    let birth = six_at(text, at.birth);
+    let sex = lent::octet(text, at.sex);
+    let expiry = six_at(text, at.expiry);
+    let name = name_chars(form, text);
+    let name_len = name_length(form, text);
+    Record {
+        form,
+        code,
+        state,
+        number,
+        number_len,
+        nationality,
+        birth,
+        sex,
+        expiry,
+        name,
+        name_len,
+    }
+}

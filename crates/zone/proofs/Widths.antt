@@ -1,0 +1,56 @@
+-- The widths that are the same in every form, and that every part lies within the text.
+use Prim.Native.Nat.{ℕ, _+_, _≤_}
+use mathlib.Core.Path.{_≡_, refl, sym}
+use mathlib.Core.Bool.{Bool, true, false, cond}
+use mathlib.Core.List.{List, [], _∷_}
+use native.Mathlib.Omega.{arith}
+use Rattle.zone.specs.declared.form.Form.{Form}
+use Rattle.zone.specs.declared.form.Form.the-variants.{Td1, Td2, Td3}
+use Rattle.zone.specs.Part.{Part, code, state, number, birth, sex, expiry, nationality, rank, same}
+use Rattle.zone.specs.Form.{Cell, _of_, layout, startIn, start, widthIn, width, total}
+
+pub record Fixed (f : Form) : Type 0 where
+  pub code-width : width f code ≡ 2
+  pub state-width : width f state ≡ 3
+  pub number-width : width f number ≡ 9
+  pub nationality-width : width f nationality ≡ 3
+  pub birth-width : width f birth ≡ 6
+  pub sex-width : width f sex ≡ 1
+  pub expiry-width : width f expiry ≡ 6
+
+pub fixed : (f : Form) → Fixed f
+unfolding layout width widthIn rank same
+fixed Td1 = record { code-width = refl; state-width = refl; number-width = refl; nationality-width = refl; birth-width = refl; sex-width = refl; expiry-width = refl }
+fixed Td2 = record { code-width = refl; state-width = refl; number-width = refl; nationality-width = refl; birth-width = refl; sex-width = refl; expiry-width = refl }
+fixed Td3 = record { code-width = refl; state-width = refl; number-width = refl; nationality-width = refl; birth-width = refl; sex-width = refl; expiry-width = refl }
+
+totalIn : List Cell → ℕ
+totalIn [] = 0
+totalIn (x of w ∷ cells) = w + totalIn cells
+
+-- the widths of a layout add up to the text's length
+adds-up : (f : Form) → totalIn (layout f) ≡ total f
+unfolding totalIn layout total
+adds-up Td1 = refl
+adds-up Td2 = refl
+adds-up Td3 = refl
+
+within-cells : (cells : List Cell) (x : Part) → startIn cells x + widthIn cells x ≤ totalIn cells
+unfolding totalIn startIn widthIn
+within-cells [] x = omega arith
+within-cells (y of w ∷ cells) x = go (same x y) (within-cells cells x)
+  where
+    go : (b : Bool) → startIn cells x + widthIn cells x ≤ totalIn cells
+        → cond b 0 (w + startIn cells x) + cond b w (widthIn cells x) ≤ w + totalIn cells
+    go true h = omega arith
+    go false h = omega arith
+
+pub within : (f : Form) (x : Part) → start f x + width f x ≤ total f
+unfolding start width
+within f x = rw (adds-up f) at (within-cells (layout f) x)
+
+pub total-le : (f : Form) → total f ≤ 90
+unfolding total
+total-le Td1 = omega arith
+total-le Td2 = omega arith
+total-le Td3 = omega arith
