@@ -23,9 +23,13 @@ isShaped r =
 unfoldable pub isHeld : ℕ → List ℕ → ℕ → Bool
 isHeld most s n = leb 1 n && (leb n most && (eqb (trimmedLength s) n))
 
+-- no filler
+unfoldable pub isSolid : ℕ → Bool
+isSolid c = not (isFiller c)
+
 -- does not begin with `<`; over nine characters, has none from its tenth character on
 unfoldable pub isNumber : List ℕ → ℕ → Bool
-isNumber s n = every isCharacter s && (not (isFiller (getD s 0 0)) && every (λ c. not (isFiller c)) (drop 9 (take n s)))
+isNumber s n = every isCharacter s && (isSolid (getD s 0 0) && every isSolid (drop 9 (take n s)))
 
 unfoldable pub isSound : Record → Bool
 isSound r =

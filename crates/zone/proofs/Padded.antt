@@ -58,13 +58,13 @@ padded-append zero a b =
 padded-append (suc n) [] b = rw (sub-zero (suc n))
 padded-append (suc n) (c ∷ a) b = rw (padded-cons n c (a ++ b), suc-sub n (length a), padded-append n a b)
 
-take-padded : (n : ℕ) (a : List ℕ) → take (length a) (padded n a) ≡ take n a
+pub take-padded : (n : ℕ) (a : List ℕ) → take (length a) (padded n a) ≡ take n a
 take-padded zero [] = refl
 take-padded zero (c ∷ a) = rw (padded-zero (c ∷ a))
 take-padded (suc n) [] = refl
 take-padded (suc n) (c ∷ a) = rw (padded-cons n c a, take-padded n a)
 
-drop-padded : (n : ℕ) (a : List ℕ) → drop (length a) (padded n a) ≡ replicate (n - length a) 60
+pub drop-padded : (n : ℕ) (a : List ℕ) → drop (length a) (padded n a) ≡ replicate (n - length a) 60
 drop-padded zero [] = padded-zero []
 drop-padded zero (c ∷ a) = let k : 0 - suc (length a) ≡ 0 = omega arith in rw (padded-zero (c ∷ a), k)
 drop-padded (suc n) [] = rw (padded-nil (suc n), sub-zero (suc n))
@@ -73,6 +73,15 @@ drop-padded (suc n) (c ∷ a) = rw (padded-cons n c a, suc-sub n (length a)) (dr
 -- a copy over fillers, and another behind it
 pub copied-behind : (n : ℕ) (a b : List ℕ) → copiedAt (padded n a) (length a) b ≡ padded n (a ++ b)
 copied-behind n a b = rw (take-padded n a, drop-padded n a, copied-padded (n - length a) b, padded-append n a b)
+
+-- a list with room to spare
+pub padded-spare : (n : ℕ) (s : List ℕ) → length s ≤ n → padded n s ≡ s ++ replicate (n - length s) 60
+unfolding padded
+padded-spare n s h = rw (take-all n s h)
+
+pub length-padded : (n : ℕ) (s : List ℕ) → length (padded n s) ≡ n
+unfolding padded
+length-padded n s = rw (length-append (take n s) (replicate (n - length s) 60), length-replicate, length-take) (omega arith)
 
 -- the trimmed list is no longer than the list
 pub trimmed-le : (s : List ℕ) → trimmedLength s ≤ length s

@@ -1,8 +1,8 @@
 -- The laws of `first`, by which every search loop steps, over the test p.
 use mathlib.Core.Path.{_≡_, refl, _∙_, sym}
-use mathlib.Core.List.{List}
-use mathlib.Core.Bool.{Bool, true, false}
-use Prim.Native.Nat.{ℕ, _+_, _≤_, _<_}
+use mathlib.Core.List.{List, [], _∷_}
+use mathlib.Core.Bool.{Bool, true, false, cond}
+use Prim.Native.Nat.{ℕ, zero, suc, _+_, _≤_, _<_}
 use native.Mathlib.Nat.{add-zero}
 use native.Mathlib.Numerals.{add-one}
 use native.Mathlib.Omega.{arith}
@@ -26,3 +26,20 @@ module _ (p : ℕ → Bool) (s : List ℕ) (i e : ℕ) (left : i + first p (drop
   pub first-end : length s ≤ i → i ≡ e
   unfolding first
   first-end h = sym (add-zero i) ∙ (rw (drop-of-length-le s h) at left)
+
+-- none passes the test exactly where the search comes to the end
+pub first-none : (p : ℕ → Bool) (s : List ℕ) → first p s ≡ length s → (i : ℕ) → i < length s → p (getD s i 0) ≡ false
+unfolding first
+first-none p [] e i h = absurd (omega arith)
+first-none p (c ∷ s) e i h = go (p c) refl e i h (first-none p s)
+  where
+    go : (b : Bool) → p c ≡ b → cond b 0 (suc (first p s)) ≡ suc (length s) → (i : ℕ) → i < suc (length s)
+        → (first p s ≡ length s → (i : ℕ) → i < length s → p (getD s i 0) ≡ false) → p (getD (c ∷ s) i 0) ≡ false
+    go true q r i h rest = absurd (omega arith)
+    go false q r zero h rest = q
+    go false q r (suc i) h rest = rest (omega arith) i (omega arith)
+
+pub none-first : (p : ℕ → Bool) (s : List ℕ) → ((i : ℕ) → i < length s → p (getD s i 0) ≡ false) → first p s ≡ length s
+unfolding first
+none-first p [] h = refl
+none-first p (c ∷ s) h = rw (h 0 (omega arith), none-first p s (λ i k. h (suc i) (omega arith)))

@@ -1,0 +1,9 @@
+pub mod Order
+pub mod Walk
+pub mod Span
+pub mod Form
+pub mod Rules
+pub mod Endings
+pub mod Record
+pub mod Starred
+pub mod Unique

@@ -1,0 +1,47 @@
+-- Demand 2 for a text: what it is to keep every rule, said of the text and without the reader. Each line is a sentence of document 01, "The text".
+use Prim.Native.Nat.{ℕ, _+_, _-_, _≤_, _<_}
+use mathlib.Core.Path.{_≡_}
+use mathlib.Core.Bool.{Bool, true, false, _||_}
+use mathlib.Core.List.{List, [], _∷_, _++_}
+use lib.ListN.{length, take, getD}
+use Rattle.zone.specs.declared.form.Form.{Form}
+use Rattle.zone.specs.Alphabet.{isCharacter, isFiller, firstFiller}
+use Rattle.zone.specs.Part.{Part, code, state, number, numberCheck, optional, birth, birthCheck, sex, expiry, expiryCheck, nationality, composite, name, personal, personalCheck, same}
+use Rattle.zone.specs.Form.{parts, start, width, total, field, covered}
+use Rattle.digit.specs.Check.{digitOf}
+use Rattle.field.specs.Code.{codeRule}
+use Rattle.field.specs.Letters.{stateRule, sexRule, nameRule}
+use Rattle.field.specs.Date.{birthRule, expiryRule}
+use Rattle.text.specs.Number.{isLong}
+
+-- whether a form has a part
+unfoldable pub among : Part → List Part → Bool
+among x [] = false
+among x (y ∷ ys) = same x y || among x ys
+
+unfoldable pub has : Form → Part → Bool
+has f x = among x (parts f)
+
+-- the first `<` of the optional field
+abbrev pub filler : Form → List ℕ → ℕ
+filler f t = firstFiller (field f optional t)
+
+pub record Keeps (f : Form) (t : List ℕ) : Type 0 where
+  pub size : length t ≡ total f
+  pub alphabet : (i : ℕ) → i < length t → isCharacter (getD t i 0) ≡ true
+  pub code-kept : codeRule f (field f code t) ≡ true
+  pub state-kept : stateRule (field f state t) ≡ true
+  pub number-begins : isFiller (getD (field f number t) 0 0) ≡ false
+  pub number-ends : isLong f t ≡ true → (2 ≤ filler f t) × (filler f t < width f optional)
+  pub nationality-kept : stateRule (field f nationality t) ≡ true
+  pub birth-kept : birthRule (field f birth t) ≡ true
+  pub sex-kept : sexRule (getD t (start f sex) 0) ≡ true
+  pub expiry-kept : expiryRule (field f expiry t) ≡ true
+  pub name-kept : nameRule (field f name t) ≡ true
+  pub number-digit : isLong f t ≡ false → getD t (start f numberCheck) 0 ≡ digitOf (field f number t)
+  pub long-digit : isLong f t ≡ true
+      → getD t (start f optional + (filler f t - 1)) 0 ≡ digitOf (field f number t ++ take (filler f t - 1) (field f optional t))
+  pub birth-digit : getD t (start f birthCheck) 0 ≡ digitOf (field f birth t)
+  pub expiry-digit : getD t (start f expiryCheck) 0 ≡ digitOf (field f expiry t)
+  pub personal-digit : has f personalCheck ≡ true → getD t (start f personalCheck) 0 ≡ digitOf (field f personal t)
+  pub composite-digit : getD t (start f composite) 0 ≡ digitOf (covered f t)

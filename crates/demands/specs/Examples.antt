@@ -1,0 +1,56 @@
+-- The starred examples of document 01, "Examples", as one table: each row is an example, and `isRight` says what it claims.
+use Prim.Native.Nat.{ℕ}
+use Prim.Native.Char.{code}
+use Prim.Native.String as text
+use Prim.Native.String.{String}
+use mathlib.Core.Bool.{Bool, true, false, cond, not, _&&_}
+use mathlib.Core.List.{List, [], _∷_}
+use lib.Dec.{eqb}
+use Rattle.zone.specs.declared.form.Form.the-variants.{Td3}
+use Rattle.zone.specs.Part.{number, birth, expiry}
+use Rattle.zone.specs.Form.{field, covered}
+use Rattle.digit.specs.Check.{checkOf}
+use Rattle.field.specs.Date.{birthRule}
+
+-- the octets of a text
+unfoldable pub octets : String → List ℕ
+octets text.[] = []
+octets (text._∷_ c s) = code c ∷ octets s
+
+pub data Example : Type 0 where
+  -- a field has this check
+  check : String → ℕ → Example
+  -- a birth is kept, or refused
+  birthKept birthRefused : String → Example
+  -- the four check digits of a TD3 text besides the personal one: number, birth, expiry, composite
+  digits : String → (n b e c : ℕ) → Example
+
+unfoldable pub isRight : Example → Bool
+isRight (check s n) = eqb (checkOf (octets s)) n
+isRight (birthKept s) = birthRule (octets s)
+isRight (birthRefused s) = not (birthRule (octets s))
+isRight (digits s n b e c) =
+    eqb (checkOf (field Td3 number (octets s))) n
+    && (eqb (checkOf (field Td3 birth (octets s))) b
+    && (eqb (checkOf (field Td3 expiry (octets s))) e && eqb (checkOf (covered Td3 (octets s))) c))
+
+-- `P<UTONORD<<ELIN`, fillers to 44, then the second line
+unfoldable pub T3 : String
+T3 = "P<UTONORD<<ELIN<<<<<<<<<<<<<<<<<<<<<<<<<<<<<K7<<<<<<<1UTO9001158F3006302<<<<<<<<<<<<<<00"
+
+unfoldable pub examples : List Example
+examples =
+    check "520727" 3
+    ∷ check "AB2134<<<" 5
+    ∷ check "D23145890734" 9
+    ∷ check "" 0
+    ∷ birthRefused "900230"
+    ∷ birthKept "960229"
+    ∷ birthKept "95<<31"
+    ∷ birthRefused "950229"
+    ∷ digits T3 1 8 2 0
+    ∷ []
+
+unfoldable pub allRight : List Example → Bool
+allRight [] = true
+allRight (e ∷ es) = isRight e && allRight es

@@ -1,0 +1,4 @@
+pub mod Accepted
+pub mod Ordered
+pub mod Held
+pub mod Examples

@@ -1,0 +1,24 @@
+-- The checks of a text one after the other, and which of them a refusal names: document 01, "The text", Order.
+use Prim.Native.Nat.{ℕ}
+use mathlib.Core.List.{List, [], _∷_, _++_, map}
+use lib.ListN.{length}
+use Rattle.refusal.specs.Outcome.{Outcome, passed, refused}
+use Rattle.zone.specs.declared.form.Form.{Form}
+use Rattle.zone.specs.declared.form.Told.{Told}
+use Rattle.zone.specs.declared.form.Told.the-variants.{As, Unknown}
+use Rattle.zone.specs.Form.{formOf, parts}
+use Rattle.text.specs.Number.{spanOf}
+use Rattle.text.specs.Order.{characters, fieldCheck, digitCheck}
+
+-- 1, 2, then 3 to 8 by field in text order, then check digits in text order
+unfoldable pub checksBy : Told → List ℕ → List Outcome
+checksBy Unknown t = refused 1 0 ∷ []
+checksBy (As f) t = characters t ∷ (map (fieldCheck f t (spanOf f t)) (parts f) ++ map (digitCheck f t (spanOf f t)) (parts f))
+
+unfoldable pub checksOf : List ℕ → List Outcome
+checksOf t = checksBy (formOf (length t)) t
+
+-- every check before it passed, and this one did not
+pub data FirstFailing : List Outcome → ℕ → ℕ → Type 0 where
+  here : {n p : ℕ} {rest : List Outcome} → FirstFailing (refused n p ∷ rest) n p
+  later : {n p : ℕ} {rest : List Outcome} → FirstFailing rest n p → FirstFailing (passed ∷ rest) n p
