@@ -13,19 +13,48 @@ is-second-requires c κs = search needs
 
 returns : tie.Need-returns
 unfolding cardRule
-returns c = simp (eq-eqb _ _ (c .if3 .taken), c .before .if2 .taken, ← c .before .before .is-second .ensures, c .before .before .before .if1 .taken, ← c .before .before .before .before .is-card-letter .ensures)
+returns c =
+    simp (
+      eq-eqb _ _ (c .if3 .taken),
+      c .before .if2 .taken,
+      ← c .before .before .is-second .ensures,
+      c .before .before .before .if1 .taken,
+      ← c .before .before .before .before .is-card-letter .ensures,
+    )
 
 returns-2 : tie.Need-returns-2
 unfolding cardRule
-returns-2 c = simp (eq-eqb _ _ (c .if4 .taken), ne-eqb _ _ (c .before .if3 .left), c .before .before .if2 .taken, ← c .before .before .before .is-second .ensures, c .before .before .before .before .if1 .taken, ← c .before .before .before .before .before .is-card-letter .ensures)
+returns-2 c =
+    simp (
+      eq-eqb _ _ (c .if4 .taken),
+      ne-eqb _ _ (c .before .if3 .left),
+      c .before .before .if2 .taken,
+      ← c .before .before .before .is-second .ensures,
+      c .before .before .before .before .if1 .taken,
+      ← c .before .before .before .before .before .is-card-letter .ensures,
+    )
 
 returns-3 : tie.Need-returns-3
 unfolding cardRule
-returns-3 c = simp (ne-eqb _ _ (c .if4 .left), ne-eqb _ _ (c .before .if3 .left), c .before .before .if2 .taken, ← c .before .before .before .is-second .ensures, c .before .before .before .before .if1 .taken, ← c .before .before .before .before .before .is-card-letter .ensures)
+returns-3 c =
+    simp (
+      ne-eqb _ _ (c .if4 .left),
+      ne-eqb _ _ (c .before .if3 .left),
+      c .before .before .if2 .taken,
+      ← c .before .before .before .is-second .ensures,
+      c .before .before .before .before .if1 .taken,
+      ← c .before .before .before .before .before .is-card-letter .ensures,
+    )
 
 returns-4 : tie.Need-returns-4
 unfolding cardRule
-returns-4 c = simp (c .if2 .left, ← c .before .is-second .ensures, c .before .before .if1 .taken, ← c .before .before .before .is-card-letter .ensures)
+returns-4 c =
+    simp (
+      c .if2 .left,
+      ← c .before .is-second .ensures,
+      c .before .before .if1 .taken,
+      ← c .before .before .before .is-card-letter .ensures,
+    )
 
 returns-5 : tie.Need-returns-5
 unfolding cardRule

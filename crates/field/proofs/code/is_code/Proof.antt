@@ -30,15 +30,33 @@ is-passport-requires c κs = search needs
 
 returns : tie.Need-returns
 unfolding codeRule
-returns c = simp (← c .is-card .ensures, c .before .enum-told .given .1, ← c .before .before .before .octet2 .ensures, ← c .before .before .before .before .octet .ensures)
+returns c =
+    simp (
+      ← c .is-card .ensures,
+      c .before .enum-told .given .1,
+      ← c .before .before .before .octet2 .ensures,
+      ← c .before .before .before .before .octet .ensures,
+    )
 
 returns-2 : tie.Need-returns-2
 unfolding codeRule
-returns-2 c = simp (← c .is-card2 .ensures, c .before .enum-told2 .given .1, ← c .before .before .before .octet2 .ensures, ← c .before .before .before .before .octet .ensures)
+returns-2 c =
+    simp (
+      ← c .is-card2 .ensures,
+      c .before .enum-told2 .given .1,
+      ← c .before .before .before .octet2 .ensures,
+      ← c .before .before .before .before .octet .ensures,
+    )
 
 returns-3 : tie.Need-returns-3
 unfolding codeRule
-returns-3 c = simp (← c .is-passport .ensures, c .before .enum-told3 .given .1, ← c .before .before .before .octet2 .ensures, ← c .before .before .before .before .octet .ensures)
+returns-3 c =
+    simp (
+      ← c .is-passport .ensures,
+      c .before .enum-told3 .given .1,
+      ← c .before .before .before .octet2 .ensures,
+      ← c .before .before .before .before .octet .ensures,
+    )
 
 pub is-code-spec : {M : Type 1} → statement M
 is-code-spec =

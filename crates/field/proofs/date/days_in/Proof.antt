@@ -19,11 +19,23 @@ enum-told-2 c = search needs
 
 returns : tie.Need-returns
 unfolding daysIn isShort
-returns c = simp (c .if1 .taken, ← c .before .is-leap .ensures, c .before .before .match2 .keys1, c .before .before .before .before .month .given .1)
+returns c =
+    simp (
+      c .if1 .taken,
+      ← c .before .is-leap .ensures,
+      c .before .before .match2 .keys1,
+      c .before .before .before .before .month .given .1,
+    )
 
 returns-2 : tie.Need-returns-2
 unfolding daysIn isShort
-returns-2 c = simp (c .if1 .left, ← c .before .is-leap .ensures, c .before .before .match2 .keys1, c .before .before .before .before .month .given .1)
+returns-2 c =
+    simp (
+      c .if1 .left,
+      ← c .before .is-leap .ensures,
+      c .before .before .match2 .keys1,
+      c .before .before .before .before .month .given .1,
+    )
 
 returns-3 : tie.Need-returns-3
 unfolding daysIn isShort
@@ -43,7 +55,15 @@ returns-6 c = simp (c .match2 .keys5, c .before .before .month .given .1)
 
 returns-7 : tie.Need-returns-7
 unfolding daysIn isShort
-returns-7 c = simp (ne-eqb _ _ (c .match2 .rest .0 .0 .0 .0 .1), ne-eqb _ _ (c .match2 .rest .0 .0 .0 .1), ne-eqb _ _ (c .match2 .rest .0 .0 .1), ne-eqb _ _ (c .match2 .rest .0 .1), ne-eqb _ _ (c .match2 .rest .1), c .before .before .month .given .1)
+returns-7 c =
+    simp (
+      ne-eqb _ _ (c .match2 .rest .0 .0 .0 .0 .1),
+      ne-eqb _ _ (c .match2 .rest .0 .0 .0 .1),
+      ne-eqb _ _ (c .match2 .rest .0 .0 .1),
+      ne-eqb _ _ (c .match2 .rest .0 .1),
+      ne-eqb _ _ (c .match2 .rest .1),
+      c .before .before .month .given .1,
+    )
 
 returns-8 : tie.Need-returns-8
 unfolding daysIn isShort

@@ -27,15 +27,42 @@ is-day-requires c κs = search needs
 
 returns : tie.Need-returns
 unfolding birthRule
-returns c = simp (← c .is-day .ensures, ← c .before .days-in .ensures, c .before .before .if2 .taken, ← c .before .before .before .is-month .ensures, c .before .before .before .before .if1 .taken, ← c .before .before .before .before .before .is-year .ensures, ← c .before .before .before .before .before .before .day .ensures, ← c .before .before .before .before .before .before .before .month .ensures, ← c .before .before .before .before .before .before .before .before .year .ensures)
+returns c =
+    simp (
+      ← c .is-day .ensures,
+      ← c .before .days-in .ensures,
+      c .before .before .if2 .taken,
+      ← c .before .before .before .is-month .ensures,
+      c .before .before .before .before .if1 .taken,
+      ← c .before .before .before .before .before .is-year .ensures,
+      ← c .before .before .before .before .before .before .day .ensures,
+      ← c .before .before .before .before .before .before .before .month .ensures,
+      ← c .before .before .before .before .before .before .before .before .year .ensures,
+    )
 
 returns-2 : tie.Need-returns-2
 unfolding birthRule
-returns-2 c = simp (c .if2 .left, ← c .before .is-month .ensures, c .before .before .if1 .taken, ← c .before .before .before .is-year .ensures, ← c .before .before .before .before .day .ensures, ← c .before .before .before .before .before .month .ensures, ← c .before .before .before .before .before .before .year .ensures)
+returns-2 c =
+    simp (
+      c .if2 .left,
+      ← c .before .is-month .ensures,
+      c .before .before .if1 .taken,
+      ← c .before .before .before .is-year .ensures,
+      ← c .before .before .before .before .day .ensures,
+      ← c .before .before .before .before .before .month .ensures,
+      ← c .before .before .before .before .before .before .year .ensures,
+    )
 
 returns-3 : tie.Need-returns-3
 unfolding birthRule
-returns-3 c = simp (c .if1 .left, ← c .before .is-year .ensures, ← c .before .before .day .ensures, ← c .before .before .before .month .ensures, ← c .before .before .before .before .year .ensures)
+returns-3 c =
+    simp (
+      c .if1 .left,
+      ← c .before .is-year .ensures,
+      ← c .before .before .day .ensures,
+      ← c .before .before .before .month .ensures,
+      ← c .before .before .before .before .year .ensures,
+    )
 
 pub is-birth-spec : {M : Type 1} → statement M
 is-birth-spec =

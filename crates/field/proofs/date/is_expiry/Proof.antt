@@ -27,15 +27,46 @@ is-birth-requires c κs = search needs
 
 returns : tie.Need-returns
 unfolding expiryRule
-returns c = simp (← c .is-birth .ensures, c .before .if3 .taken, ← c .before .before .is-known3 .ensures, ← c .before .before .before .day .ensures, c .before .before .before .before .if2 .taken, ← c .before .before .before .before .before .is-known2 .ensures, ← c .before .before .before .before .before .before .month .ensures, c .before .before .before .before .before .before .before .if1 .taken, ← c .before .before .before .before .before .before .before .before .is-known .ensures, ← c .before .before .before .before .before .before .before .before .before .year .ensures)
+returns c =
+    simp (
+      ← c .is-birth .ensures,
+      c .before .if3 .taken,
+      ← c .before .before .is-known3 .ensures,
+      ← c .before .before .before .day .ensures,
+      c .before .before .before .before .if2 .taken,
+      ← c .before .before .before .before .before .is-known2 .ensures,
+      ← c .before .before .before .before .before .before .month .ensures,
+      c .before .before .before .before .before .before .before .if1 .taken,
+      ← c .before .before .before .before .before .before .before .before .is-known .ensures,
+      ← c .before .before .before .before .before .before .before .before .before .year .ensures,
+    )
 
 returns-2 : tie.Need-returns-2
 unfolding expiryRule
-returns-2 c = simp (c .if3 .left, ← c .before .is-known3 .ensures, ← c .before .before .day .ensures, c .before .before .before .if2 .taken, ← c .before .before .before .before .is-known2 .ensures, ← c .before .before .before .before .before .month .ensures, c .before .before .before .before .before .before .if1 .taken, ← c .before .before .before .before .before .before .before .is-known .ensures, ← c .before .before .before .before .before .before .before .before .year .ensures)
+returns-2 c =
+    simp (
+      c .if3 .left,
+      ← c .before .is-known3 .ensures,
+      ← c .before .before .day .ensures,
+      c .before .before .before .if2 .taken,
+      ← c .before .before .before .before .is-known2 .ensures,
+      ← c .before .before .before .before .before .month .ensures,
+      c .before .before .before .before .before .before .if1 .taken,
+      ← c .before .before .before .before .before .before .before .is-known .ensures,
+      ← c .before .before .before .before .before .before .before .before .year .ensures,
+    )
 
 returns-3 : tie.Need-returns-3
 unfolding expiryRule
-returns-3 c = simp (c .if2 .left, ← c .before .is-known2 .ensures, ← c .before .before .month .ensures, c .before .before .before .if1 .taken, ← c .before .before .before .before .is-known .ensures, ← c .before .before .before .before .before .year .ensures)
+returns-3 c =
+    simp (
+      c .if2 .left,
+      ← c .before .is-known2 .ensures,
+      ← c .before .before .month .ensures,
+      c .before .before .before .if1 .taken,
+      ← c .before .before .before .before .is-known .ensures,
+      ← c .before .before .before .before .before .year .ensures,
+    )
 
 returns-4 : tie.Need-returns-4
 unfolding expiryRule

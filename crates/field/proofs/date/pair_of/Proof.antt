@@ -41,19 +41,43 @@ add-t10 c =
 
 returns : tie.Need-returns
 unfolding pairOf isFiller
-returns c = simp (c .if2 .taken, ← c .before .is-digit2 .ensures, c .before .before .if1 .taken, ← c .before .before .before .is-digit .ensures)
+returns c =
+    simp (
+      c .if2 .taken,
+      ← c .before .is-digit2 .ensures,
+      c .before .before .if1 .taken,
+      ← c .before .before .before .is-digit .ensures,
+    )
 
 returns-2 : tie.Need-returns-2
 unfolding pairOf isFiller
-returns-2 c = simp (c .if2 .left, ← c .before .is-digit2 .ensures, c .before .before .if1 .taken, ← c .before .before .before .is-digit .ensures)
+returns-2 c =
+    simp (
+      c .if2 .left,
+      ← c .before .is-digit2 .ensures,
+      c .before .before .if1 .taken,
+      ← c .before .before .before .is-digit .ensures,
+    )
 
 returns-3 : tie.Need-returns-3
 unfolding pairOf isFiller
-returns-3 c = simp (eq-eqb _ _ (c .if4 .taken), eq-eqb _ _ (c .before .if3 .taken), c .before .before .if1 .left, ← c .before .before .before .is-digit .ensures)
+returns-3 c =
+    simp (
+      eq-eqb _ _ (c .if4 .taken),
+      eq-eqb _ _ (c .before .if3 .taken),
+      c .before .before .if1 .left,
+      ← c .before .before .before .is-digit .ensures,
+    )
 
 returns-4 : tie.Need-returns-4
 unfolding pairOf isFiller
-returns-4 c = simp (ne-eqb _ _ (c .if4 .left), eq-eqb _ _ (c .before .if3 .taken), c .before .before .if1 .left, ← c .before .before .before .is-digit .ensures)
+returns-4 c =
+    simp (
+      ne-eqb _ _ (c .if4 .left),
+      eq-eqb _ _ (c .before .if3 .taken),
+      c .before .before .if1 .left,
+      ← c .before .before .before .is-digit .ensures,
+    )
 
 returns-5 : tie.Need-returns-5
 unfolding pairOf isFiller

@@ -15,7 +15,13 @@ all-name-characters-requires c κs = search needs
 
 returns : tie.Need-returns
 unfolding nameRule
-returns c = simp (← c .all-name-characters .ensures, c .before .if1 .taken, ← c .before .before .is-letter .ensures, ← c .before .before .before .octet .ensures)
+returns c =
+    simp (
+      ← c .all-name-characters .ensures,
+      c .before .if1 .taken,
+      ← c .before .before .is-letter .ensures,
+      ← c .before .before .before .octet .ensures,
+    )
 
 returns-2 : tie.Need-returns-2
 unfolding nameRule

@@ -18,7 +18,13 @@ letters-then-fillers-requires c κs = search needs
 
 returns : tie.Need-returns
 unfolding stateRule
-returns c = simp (← c .letters-then-fillers .ensures, ← c .before .octet3 .ensures, ← c .before .before .octet2 .ensures, ← c .before .before .before .octet .ensures)
+returns c =
+    simp (
+      ← c .letters-then-fillers .ensures,
+      ← c .before .octet3 .ensures,
+      ← c .before .before .octet2 .ensures,
+      ← c .before .before .before .octet .ensures,
+    )
 
 pub is-state-spec : {M : Type 1} → statement M
 is-state-spec =

@@ -17,19 +17,49 @@ is-letter-requires-3 c κs = search needs
 
 returns : tie.Need-returns
 unfolding lettersThenFillers isFiller
-returns c = simp (c .if3 .taken, ← c .before .is-letter3 .ensures, c .before .before .if2 .taken, ← c .before .before .before .is-letter2 .ensures, c .before .before .before .before .if1 .taken, ← c .before .before .before .before .before .is-letter .ensures)
+returns c =
+    simp (
+      c .if3 .taken,
+      ← c .before .is-letter3 .ensures,
+      c .before .before .if2 .taken,
+      ← c .before .before .before .is-letter2 .ensures,
+      c .before .before .before .before .if1 .taken,
+      ← c .before .before .before .before .before .is-letter .ensures,
+    )
 
 returns-2 : tie.Need-returns-2
 unfolding lettersThenFillers isFiller
-returns-2 c = simp (c .if3 .left, ← c .before .is-letter3 .ensures, c .before .before .if2 .taken, ← c .before .before .before .is-letter2 .ensures, c .before .before .before .before .if1 .taken, ← c .before .before .before .before .before .is-letter .ensures)
+returns-2 c =
+    simp (
+      c .if3 .left,
+      ← c .before .is-letter3 .ensures,
+      c .before .before .if2 .taken,
+      ← c .before .before .before .is-letter2 .ensures,
+      c .before .before .before .before .if1 .taken,
+      ← c .before .before .before .before .before .is-letter .ensures,
+    )
 
 returns-3 : tie.Need-returns-3
 unfolding lettersThenFillers isFiller
-returns-3 c = simp (eq-eqb _ _ (c .if4 .taken), c .before .if2 .left, ← c .before .before .is-letter2 .ensures, c .before .before .before .if1 .taken, ← c .before .before .before .before .is-letter .ensures)
+returns-3 c =
+    simp (
+      eq-eqb _ _ (c .if4 .taken),
+      c .before .if2 .left,
+      ← c .before .before .is-letter2 .ensures,
+      c .before .before .before .if1 .taken,
+      ← c .before .before .before .before .is-letter .ensures,
+    )
 
 returns-4 : tie.Need-returns-4
 unfolding lettersThenFillers isFiller
-returns-4 c = simp (ne-eqb _ _ (c .if4 .left), c .before .if2 .left, ← c .before .before .is-letter2 .ensures, c .before .before .before .if1 .taken, ← c .before .before .before .before .is-letter .ensures)
+returns-4 c =
+    simp (
+      ne-eqb _ _ (c .if4 .left),
+      c .before .if2 .left,
+      ← c .before .before .is-letter2 .ensures,
+      c .before .before .before .if1 .taken,
+      ← c .before .before .before .before .is-letter .ensures,
+    )
 
 returns-5 : tie.Need-returns-5
 unfolding lettersThenFillers isFiller

@@ -16,7 +16,13 @@ digit-at-requires c κs = search needs
 
 returns : tie.Need-returns
 unfolding placesOf field
-returns c = rw (c .digit-at .ensures, c .before .part .ensures, c .before .before .places .ensures, fixed (c .before .before .before .before .args .form) .birth-width)
+returns c =
+    rw (
+      c .digit-at .ensures,
+      c .before .part .ensures,
+      c .before .before .places .ensures,
+      fixed (c .before .before .before .before .args .form) .birth-width,
+    )
 
 pub birth-digit-spec : {M : Type 1} → statement M
 birth-digit-spec = tie.close (tie.spec places-requires part-requires digit-at-requires returns)

@@ -19,7 +19,13 @@ judged-requires c κs = search needs
 
 returns : tie.Need-returns
 unfolding digitAt placesOf
-returns c = rw (c .judged .ensures, c .before .covered-digit .ensures, c .before .before .octet .ensures, c .before .before .before .places .ensures)
+returns c =
+    rw (
+      c .judged .ensures,
+      c .before .covered-digit .ensures,
+      c .before .before .octet .ensures,
+      c .before .before .before .places .ensures,
+    )
 
 pub composite-digit-spec : {M : Type 1} → statement M
 composite-digit-spec =

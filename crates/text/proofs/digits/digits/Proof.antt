@@ -47,11 +47,37 @@ or-else-requires-7 c κs = search needs
 
 returns : tie.Need-returns
 unfolding placesOf
-returns c = rw (c .or-else4 .ensures, c .before .or-else3 .ensures, c .before .before .or-else2 .ensures, c .before .before .before .before .before .or-else .ensures, c .before .before .before .before .before .before .composite-digit .ensures, c .before .before .before .before .before .before .before .personal-digit .ensures, c .before .before .before .before .before .before .before .before .dates-digit .ensures, c .before .before .before .before .before .before .before .before .before .further-digit .ensures, c .before .before .before .before .before .before .before .before .before .before .number-digit .ensures) (optional-first (c .before .before .before .before .before .before .before .before .before .before .before .before .before .args .form) (now (c .before .before .before .before .before .before .before .before .before .before .before .before .before .args .text)) (c .before .before .before .before .before .before .before .before .before .before .before .before .before .args .span) (rw (c .before .before .before .before .before .before .before .before .before .before .before .places .ensures) at (c .before .before .before .if1 .taken)))
+returns c =
+    let a = c .before .before .before .before .before .before .before .before .before .before .before .before .before .args in
+    rw (
+      c .or-else4 .ensures,
+      c .before .or-else3 .ensures,
+      c .before .before .or-else2 .ensures,
+      c .before .before .before .before .before .or-else .ensures,
+      c .before .before .before .before .before .before .composite-digit .ensures,
+      c .before .before .before .before .before .before .before .personal-digit .ensures,
+      c .before .before .before .before .before .before .before .before .dates-digit .ensures,
+      c .before .before .before .before .before .before .before .before .before .further-digit .ensures,
+      c .before .before .before .before .before .before .before .before .before .before .number-digit .ensures,
+    )
+    (optional-first (a .form) (now (a .text)) (a .span) (rw (c .before .before .before .before .before .before .before .before .before .before .before .places .ensures) at (c .before .before .before .if1 .taken)))
 
 returns-2 : tie.Need-returns-2
 unfolding placesOf
-returns-2 c = rw (c .or-else7 .ensures, c .before .or-else6 .ensures, c .before .before .or-else5 .ensures, c .before .before .before .before .before .or-else .ensures, c .before .before .before .before .before .before .composite-digit .ensures, c .before .before .before .before .before .before .before .personal-digit .ensures, c .before .before .before .before .before .before .before .before .dates-digit .ensures, c .before .before .before .before .before .before .before .before .before .further-digit .ensures, c .before .before .before .before .before .before .before .before .before .before .number-digit .ensures) (optional-last (c .before .before .before .before .before .before .before .before .before .before .before .before .before .args .form) (now (c .before .before .before .before .before .before .before .before .before .before .before .before .before .args .text)) (c .before .before .before .before .before .before .before .before .before .before .before .before .before .args .span) (rw (c .before .before .before .before .before .before .before .before .before .before .before .places .ensures) at (c .before .before .before .if1 .left)))
+returns-2 c =
+    let a = c .before .before .before .before .before .before .before .before .before .before .before .before .before .args in
+    rw (
+      c .or-else7 .ensures,
+      c .before .or-else6 .ensures,
+      c .before .before .or-else5 .ensures,
+      c .before .before .before .before .before .or-else .ensures,
+      c .before .before .before .before .before .before .composite-digit .ensures,
+      c .before .before .before .before .before .before .before .personal-digit .ensures,
+      c .before .before .before .before .before .before .before .before .dates-digit .ensures,
+      c .before .before .before .before .before .before .before .before .before .further-digit .ensures,
+      c .before .before .before .before .before .before .before .before .before .before .number-digit .ensures,
+    )
+    (optional-last (a .form) (now (a .text)) (a .span) (rw (c .before .before .before .before .before .before .before .before .before .before .before .places .ensures) at (c .before .before .before .if1 .left)))
 
 pub digits-spec : {M : Type 1} → statement M
 digits-spec =

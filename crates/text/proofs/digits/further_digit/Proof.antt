@@ -23,15 +23,28 @@ enum-told-2 c = search needs
 
 returns : tie.Need-returns
 unfolding furtherDigit
-returns c = rw (rw (c .before .before .before .optional-width .ensures) at (lt-ltb _ _ (c .before .before .if1 .taken)), c .enum-told .given .1)
+returns c =
+    rw (
+      rw (c .before .before .before .optional-width .ensures) at (lt-ltb _ _ (c .before .before .if1 .taken)),
+      c .enum-told .given .1,
+    )
 
 returns-2 : tie.Need-returns-2
 unfolding furtherDigit checkedBy
-returns-2 c = rw (c .long-digit .ensures, rw (c .before .before .before .before .before .optional-width .ensures) at (lt-ltb _ _ (c .before .before .before .before .if1 .taken)), c .before .before .span .given .1)
+returns-2 c =
+    rw (
+      c .long-digit .ensures,
+      rw (c .before .before .before .before .before .optional-width .ensures) at (lt-ltb _ _ (c .before .before .before .before .if1 .taken)),
+      c .before .before .span .given .1,
+    )
 
 returns-3 : tie.Need-returns-3
 unfolding furtherDigit
-returns-3 c = rw (rw (c .before .before .before .optional-width .ensures) at (lt-ltb _ _ (c .before .before .if1 .taken)), c .enum-told2 .given .1)
+returns-3 c =
+    rw (
+      rw (c .before .before .before .optional-width .ensures) at (lt-ltb _ _ (c .before .before .if1 .taken)),
+      c .enum-told2 .given .1,
+    )
 
 returns-4 : tie.Need-returns-4
 returns-4 c = rw (rw (c .before .optional-width .ensures) at (le-ltb _ _ (c .if1 .left)))

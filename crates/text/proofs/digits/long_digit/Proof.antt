@@ -31,7 +31,13 @@ judged-requires c κs = search needs
 
 returns : tie.Need-returns
 unfolding digitAt placesOf
-returns c = rw (c .judged .ensures, c .before .long-sum .ensures, c .before .before .octet .ensures, c .before .before .before .before .places .ensures)
+returns c =
+    rw (
+      c .judged .ensures,
+      c .before .long-sum .ensures,
+      c .before .before .octet .ensures,
+      c .before .before .before .before .places .ensures,
+    )
 
 pub long-digit-spec : {M : Type 1} → statement M
 long-digit-spec =

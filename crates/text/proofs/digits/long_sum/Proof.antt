@@ -39,7 +39,20 @@ digit-requires c κs = search needs
 
 returns : tie.Need-returns
 unfolding placesOf field
-returns c = rw (c .digit .ensures, c .before .over2 .ensures, c .before .before .part3 .ensures, c .before .before .before .part2 .ensures, c .before .before .before .before .optional-width .ensures, c .before .before .before .before .before .over .ensures, c .before .before .before .before .before .before .part .ensures, c .before .before .before .before .before .before .before .before .places .ensures, fixed (c .before .before .before .before .before .before .before .before .before .before .args .form) .number-width, over-over) (over-digit (c .before .before .before .before .before .before .before .new .result) _ (c .before .before .before .before .before .before .before .new .ensures .0) (c .before .before .before .before .before .before .before .new .ensures .1))
+returns c =
+    rw (
+      c .digit .ensures,
+      c .before .over2 .ensures,
+      c .before .before .part3 .ensures,
+      c .before .before .before .part2 .ensures,
+      c .before .before .before .before .optional-width .ensures,
+      c .before .before .before .before .before .over .ensures,
+      c .before .before .before .before .before .before .part .ensures,
+      c .before .before .before .before .before .before .before .before .places .ensures,
+      fixed (c .before .before .before .before .before .before .before .before .before .before .args .form) .number-width,
+      over-over,
+    )
+    (over-digit (c .before .before .before .before .before .before .before .new .result) _ (c .before .before .before .before .before .before .before .new .ensures .0) (c .before .before .before .before .before .before .before .new .ensures .1))
 
 pub long-sum-spec : {M : Type 1} → statement M
 long-sum-spec =

@@ -27,7 +27,14 @@ enum-told-3 c = search needs
 
 returns : tie.Need-returns
 unfolding numberDigit checkedBy placesOf field
-returns c = simp (c .digit-at .ensures, c .before .part .ensures, c .before .before .enum-told .given .1, c .before .before .before .before .places .ensures, fixed (c .before .before .before .before .before .before .args .form) .number-width)
+returns c =
+    simp (
+      c .digit-at .ensures,
+      c .before .part .ensures,
+      c .before .before .enum-told .given .1,
+      c .before .before .before .before .places .ensures,
+      fixed (c .before .before .before .before .before .before .args .form) .number-width,
+    )
 
 returns-2 : tie.Need-returns-2
 unfolding numberDigit

@@ -19,7 +19,14 @@ judged-requires c κs = search needs
 
 returns : tie.Need-returns
 unfolding placesOf field
-returns c = rw (c .judged .ensures, c .before .is-birth .ensures, c .before .before .part .ensures, c .before .before .before .places .ensures, fixed (c .before .before .before .before .before .args .form) .birth-width)
+returns c =
+    rw (
+      c .judged .ensures,
+      c .before .is-birth .ensures,
+      c .before .before .part .ensures,
+      c .before .before .before .places .ensures,
+      fixed (c .before .before .before .before .before .args .form) .birth-width,
+    )
 
 pub birth-check-spec : {M : Type 1} → statement M
 birth-check-spec =

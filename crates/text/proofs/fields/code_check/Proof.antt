@@ -19,7 +19,14 @@ judged-requires c κs = search needs
 
 returns : tie.Need-returns
 unfolding placesOf field
-returns c = rw (c .judged .ensures, c .before .is-code .ensures, c .before .before .part .ensures, c .before .before .before .places .ensures, fixed (c .before .before .before .before .before .args .form) .code-width)
+returns c =
+    rw (
+      c .judged .ensures,
+      c .before .is-code .ensures,
+      c .before .before .part .ensures,
+      c .before .before .before .places .ensures,
+      fixed (c .before .before .before .before .before .args .form) .code-width,
+    )
 
 pub code-check-spec : {M : Type 1} → statement M
 code-check-spec =

@@ -50,11 +50,37 @@ or-else-requires-8 c κs = search needs
 
 returns : tie.Need-returns
 unfolding placesOf
-returns c = rw (c .or-else4 .ensures, c .before .or-else3 .ensures, c .before .before .or-else2 .ensures, c .before .before .before .or-else .ensures, c .before .before .before .before .before .before .person-check .ensures, c .before .before .before .before .before .before .before .nationality-check .ensures, c .before .before .before .before .before .before .before .before .number-check .ensures, c .before .before .before .before .before .before .before .before .before .name-check .ensures, c .before .before .before .before .before .before .before .before .before .before .opening-check .ensures) (name-first (c .before .before .before .before .before .before .before .before .before .before .before .before .before .args .form) (now (c .before .before .before .before .before .before .before .before .before .before .before .before .before .args .text)) (c .before .before .before .before .before .before .before .before .before .before .before .before .before .args .span) (rw (c .before .before .before .before .before .before .before .before .before .before .before .places .ensures) at (c .before .before .before .before .if1 .taken)))
+returns c =
+    let a = c .before .before .before .before .before .before .before .before .before .before .before .before .before .args in
+    rw (
+      c .or-else4 .ensures,
+      c .before .or-else3 .ensures,
+      c .before .before .or-else2 .ensures,
+      c .before .before .before .or-else .ensures,
+      c .before .before .before .before .before .before .person-check .ensures,
+      c .before .before .before .before .before .before .before .nationality-check .ensures,
+      c .before .before .before .before .before .before .before .before .number-check .ensures,
+      c .before .before .before .before .before .before .before .before .before .name-check .ensures,
+      c .before .before .before .before .before .before .before .before .before .before .opening-check .ensures,
+    )
+    (name-first (a .form) (now (a .text)) (a .span) (rw (c .before .before .before .before .before .before .before .before .before .before .before .places .ensures) at (c .before .before .before .before .if1 .taken)))
 
 returns-2 : tie.Need-returns-2
 unfolding placesOf
-returns-2 c = rw (c .or-else8 .ensures, c .before .or-else7 .ensures, c .before .before .or-else6 .ensures, c .before .before .before .or-else5 .ensures, c .before .before .before .before .before .before .person-check .ensures, c .before .before .before .before .before .before .before .nationality-check .ensures, c .before .before .before .before .before .before .before .before .number-check .ensures, c .before .before .before .before .before .before .before .before .before .name-check .ensures, c .before .before .before .before .before .before .before .before .before .before .opening-check .ensures) (name-last (c .before .before .before .before .before .before .before .before .before .before .before .before .before .args .form) (now (c .before .before .before .before .before .before .before .before .before .before .before .before .before .args .text)) (c .before .before .before .before .before .before .before .before .before .before .before .before .before .args .span) (rw (c .before .before .before .before .before .before .before .before .before .before .before .places .ensures) at (c .before .before .before .before .if1 .left)))
+returns-2 c =
+    let a = c .before .before .before .before .before .before .before .before .before .before .before .before .before .args in
+    rw (
+      c .or-else8 .ensures,
+      c .before .or-else7 .ensures,
+      c .before .before .or-else6 .ensures,
+      c .before .before .before .or-else5 .ensures,
+      c .before .before .before .before .before .before .person-check .ensures,
+      c .before .before .before .before .before .before .before .nationality-check .ensures,
+      c .before .before .before .before .before .before .before .before .number-check .ensures,
+      c .before .before .before .before .before .before .before .before .before .name-check .ensures,
+      c .before .before .before .before .before .before .before .before .before .before .opening-check .ensures,
+    )
+    (name-last (a .form) (now (a .text)) (a .span) (rw (c .before .before .before .before .before .before .before .before .before .before .before .places .ensures) at (c .before .before .before .before .if1 .left)))
 
 pub fields-spec : {M : Type 1} → statement M
 fields-spec =

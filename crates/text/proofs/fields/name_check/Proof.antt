@@ -21,7 +21,14 @@ judged-requires c κs = search needs
 
 returns : tie.Need-returns
 unfolding placesOf field
-returns c = rw (c .judged .ensures, c .before .is-name .ensures, c .before .before .part .ensures, c .before .before .before .name-width .ensures, c .before .before .before .before .places .ensures)
+returns c =
+    rw (
+      c .judged .ensures,
+      c .before .is-name .ensures,
+      c .before .before .part .ensures,
+      c .before .before .before .name-width .ensures,
+      c .before .before .before .before .places .ensures,
+    )
 
 pub name-check-spec : {M : Type 1} → statement M
 name-check-spec =

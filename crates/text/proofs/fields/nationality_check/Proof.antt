@@ -19,7 +19,14 @@ judged-requires c κs = search needs
 
 returns : tie.Need-returns
 unfolding placesOf field
-returns c = rw (c .judged .ensures, c .before .is-state .ensures, c .before .before .part .ensures, c .before .before .before .places .ensures, fixed (c .before .before .before .before .before .args .form) .nationality-width)
+returns c =
+    rw (
+      c .judged .ensures,
+      c .before .is-state .ensures,
+      c .before .before .part .ensures,
+      c .before .before .before .places .ensures,
+      fixed (c .before .before .before .before .before .args .form) .nationality-width,
+    )
 
 pub nationality-check-spec : {M : Type 1} → statement M
 nationality-check-spec =

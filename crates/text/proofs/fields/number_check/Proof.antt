@@ -20,7 +20,14 @@ judged-requires c κs = search needs
 
 returns : tie.Need-returns
 unfolding placesOf field numberRule
-returns c = rw (c .judged .ensures, c .before .is-number .ensures, c .before .before .part .ensures, c .before .before .before .places .ensures, fixed (c .before .before .before .before .before .args .form) .number-width)
+returns c =
+    rw (
+      c .judged .ensures,
+      c .before .is-number .ensures,
+      c .before .before .part .ensures,
+      c .before .before .before .places .ensures,
+      fixed (c .before .before .before .before .before .args .form) .number-width,
+    )
 
 pub number-check-spec : {M : Type 1} → statement M
 number-check-spec =

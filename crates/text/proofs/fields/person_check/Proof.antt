@@ -19,7 +19,14 @@ or-else-requires-2 : tie.Need-or-else-requires-2
 or-else-requires-2 c κs = search needs
 
 returns : tie.Need-returns
-returns c = rw (c .or-else2 .ensures, c .before .birth-check .ensures, c .before .before .or-else .ensures, c .before .before .before .expiry-check .ensures, c .before .before .before .before .sex-check .ensures)
+returns c =
+    rw (
+      c .or-else2 .ensures,
+      c .before .birth-check .ensures,
+      c .before .before .or-else .ensures,
+      c .before .before .before .expiry-check .ensures,
+      c .before .before .before .before .sex-check .ensures,
+    )
 
 pub person-check-spec : {M : Type 1} → statement M
 person-check-spec =

@@ -18,7 +18,13 @@ judged-requires c κs = search needs
 
 returns : tie.Need-returns
 unfolding placesOf
-returns c = rw (c .judged .ensures, c .before .is-sex .ensures, c .before .before .octet .ensures, c .before .before .before .places .ensures)
+returns c =
+    rw (
+      c .judged .ensures,
+      c .before .is-sex .ensures,
+      c .before .before .octet .ensures,
+      c .before .before .before .places .ensures,
+    )
 
 pub sex-check-spec : {M : Type 1} → statement M
 sex-check-spec =

@@ -24,7 +24,13 @@ refuse-requires c κs = search needs
 
 returns : tie.Need-returns
 unfolding readBy answered answerOf
-returns c = simp (← c .record-by .ensures, c .before .enum-told .given .1, ← c .before .before .before .verdict-by .ensures, ← c .before .before .before .before .span-of .ensures)
+returns c =
+    simp (
+      ← c .record-by .ensures,
+      c .before .enum-told .given .1,
+      ← c .before .before .before .verdict-by .ensures,
+      ← c .before .before .before .before .span-of .ensures,
+    )
 
 returns-2 : tie.Need-returns-2
 unfolding readBy answered

@@ -21,7 +21,14 @@ or-else-requires-2 c κs = search needs
 
 returns : tie.Need-returns
 unfolding verdictBy
-returns c = rw (c .or-else2 .ensures, c .before .character-check .ensures, c .before .before .or-else .ensures, c .before .before .before .digits .ensures, c .before .before .before .before .fields .ensures)
+returns c =
+    rw (
+      c .or-else2 .ensures,
+      c .before .character-check .ensures,
+      c .before .before .or-else .ensures,
+      c .before .before .before .digits .ensures,
+      c .before .before .before .before .fields .ensures,
+    )
 
 pub verdict-by-spec : {M : Type 1} → statement M
 verdict-by-spec =

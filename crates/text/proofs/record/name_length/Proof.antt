@@ -19,7 +19,14 @@ trimmed-length-requires c κs = search needs
 
 returns : tie.Need-returns
 unfolding placesOf field
-returns c = rw (c .trimmed-length .ensures, c .before .part .ensures, c .before .before .name-width .ensures, c .before .before .before .places .ensures, trimmed-length)
+returns c =
+    rw (
+      c .trimmed-length .ensures,
+      c .before .part .ensures,
+      c .before .before .name-width .ensures,
+      c .before .before .before .places .ensures,
+      trimmed-length,
+    )
 
 pub name-length-spec : {M : Type 1} → statement M
 name-length-spec =

@@ -68,7 +68,17 @@ returns c =
 
 returns-2 : tie.Need-returns-2
 unfolding placesOf field numberBy
-returns-2 c = rw (c .joined2 .ensures, c .before .part4 .ensures, c .before .before .before .span .given .1, c .before .before .before .before .before .part2 .ensures, c .before .before .before .before .before .before .optional-width .ensures, c .before .before .before .before .before .before .before .part .ensures, c .before .before .before .before .before .before .before .before .places .ensures, fixed (c .before .before .before .before .before .before .before .before .before .before .args .form) .number-width)
+returns-2 c =
+    rw (
+      c .joined2 .ensures,
+      c .before .part4 .ensures,
+      c .before .before .before .span .given .1,
+      c .before .before .before .before .before .part2 .ensures,
+      c .before .before .before .before .before .before .optional-width .ensures,
+      c .before .before .before .before .before .before .before .part .ensures,
+      c .before .before .before .before .before .before .before .before .places .ensures,
+      fixed (c .before .before .before .before .before .before .before .before .before .before .args .form) .number-width,
+    )
 
 returns-3 : tie.Need-returns-3
 unfolding placesOf field numberBy

@@ -49,7 +49,15 @@ trimmed-length-requires-2 c κs = search needs
 
 returns : tie.Need-returns
 unfolding placesOf field numberBy
-returns c = rw (c .trimmed-length .ensures, c .before .enum-told .given .1, c .before .before .before .part .ensures, c .before .before .before .before .places .ensures, fixed (c .before .before .before .before .before .before .args .form) .number-width, trimmed-length)
+returns c =
+    rw (
+      c .trimmed-length .ensures,
+      c .before .enum-told .given .1,
+      c .before .before .before .part .ensures,
+      c .before .before .before .before .places .ensures,
+      fixed (c .before .before .before .before .before .before .args .form) .number-width,
+      trimmed-length,
+    )
 
 returns-2 : tie.Need-returns-2
 unfolding placesOf field numberBy
@@ -69,7 +77,15 @@ returns-2 c =
 
 returns-3 : tie.Need-returns-3
 unfolding placesOf field numberBy
-returns-3 c = rw (c .trimmed-length2 .ensures, c .before .enum-told2 .given .1, c .before .before .before .part .ensures, c .before .before .before .before .places .ensures, fixed (c .before .before .before .before .before .before .args .form) .number-width, trimmed-length)
+returns-3 c =
+    rw (
+      c .trimmed-length2 .ensures,
+      c .before .enum-told2 .given .1,
+      c .before .before .before .part .ensures,
+      c .before .before .before .before .places .ensures,
+      fixed (c .before .before .before .before .before .before .args .form) .number-width,
+      trimmed-length,
+    )
 
 pub number-length-spec : {M : Type 1} → statement M
 number-length-spec =

@@ -41,7 +41,25 @@ name-length-requires c κs = search needs
 
 returns : tie.Need-returns
 unfolding recordBy placesOf field
-returns c = rw (c .name-length .ensures, c .before .name-chars .ensures, c .before .before .six-at2 .ensures, c .before .before .before .octet .ensures, c .before .before .before .before .six-at .ensures, c .before .before .before .before .before .three-at2 .ensures, c .before .before .before .before .before .before .number-length .ensures, c .before .before .before .before .before .before .before .number-chars .ensures, c .before .before .before .before .before .before .before .before .three-at .ensures, c .before .before .before .before .before .before .before .before .before .two-at .ensures, c .before .before .before .before .before .before .before .before .before .before .places .ensures, fixed (c .before .before .before .before .before .before .before .before .before .before .before .before .args .form) .code-width, fixed (c .before .before .before .before .before .before .before .before .before .before .before .before .args .form) .state-width, fixed (c .before .before .before .before .before .before .before .before .before .before .before .before .args .form) .nationality-width, fixed (c .before .before .before .before .before .before .before .before .before .before .before .before .args .form) .birth-width, fixed (c .before .before .before .before .before .before .before .before .before .before .before .before .args .form) .expiry-width)
+returns c =
+    rw (
+      c .name-length .ensures,
+      c .before .name-chars .ensures,
+      c .before .before .six-at2 .ensures,
+      c .before .before .before .octet .ensures,
+      c .before .before .before .before .six-at .ensures,
+      c .before .before .before .before .before .three-at2 .ensures,
+      c .before .before .before .before .before .before .number-length .ensures,
+      c .before .before .before .before .before .before .before .number-chars .ensures,
+      c .before .before .before .before .before .before .before .before .three-at .ensures,
+      c .before .before .before .before .before .before .before .before .before .two-at .ensures,
+      c .before .before .before .before .before .before .before .before .before .before .places .ensures,
+      fixed (c .before .before .before .before .before .before .before .before .before .before .before .before .args .form) .code-width,
+      fixed (c .before .before .before .before .before .before .before .before .before .before .before .before .args .form) .state-width,
+      fixed (c .before .before .before .before .before .before .before .before .before .before .before .before .args .form) .nationality-width,
+      fixed (c .before .before .before .before .before .before .before .before .before .before .before .before .args .form) .birth-width,
+      fixed (c .before .before .before .before .before .before .before .before .before .before .before .before .args .form) .expiry-width,
+    )
 
 pub record-by-spec : {M : Type 1} → statement M
 record-by-spec =

@@ -16,11 +16,23 @@ is-letter-requires c κs = search needs
 
 returns-2 : tie.Need-returns-2
 unfolding isCharacter
-returns-2 c = rw (← c .before .before .before .is-digit .ensures, c .before .before .if1 .left, ← c .before .is-letter .ensures, c .if2 .taken)
+returns-2 c =
+    rw (
+      ← c .before .before .before .is-digit .ensures,
+      c .before .before .if1 .left,
+      ← c .before .is-letter .ensures,
+      c .if2 .taken,
+    )
 
 returns-3 : tie.Need-returns-3
 unfolding isCharacter isFiller
-returns-3 c = rw (← c .before .before .before .is-digit .ensures, c .before .before .if1 .left, ← c .before .is-letter .ensures, c .if2 .left)
+returns-3 c =
+    rw (
+      ← c .before .before .before .is-digit .ensures,
+      c .before .before .if1 .left,
+      ← c .before .is-letter .ensures,
+      c .if2 .left,
+    )
 
 pub is-character-spec : {M : Type 1} → statement M
 is-character-spec =
