@@ -87,3 +87,9 @@ impl Verdict {
         }
     }
 }
+
+// What a call that writes answers: how many octets it wrote, or why it wrote none.
+pub enum Written {
+    Octets(usize),
+    Refused(Refusal),
+}
