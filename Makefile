@@ -1,6 +1,25 @@
-# Lamphudet. The two commands of README.md are `make demo` and `make test`; both need the Rattle toolchain's `rt` and nothing else.
+# Lamphudet. `make` builds the archive for C hosts; README.md says what each of the other commands does.
 
-.PHONY: demo test format clean
+PREFIX ?= /usr/local
+DESTDIR ?=
+VERSION = 0.1.0
+# The seed of the compared cases; empty for the one that the gate takes.
+SEED ?=
+
+.PHONY: all archive demo test compare bench install format clean
+
+all: archive
+
+# The archive that install, compare and bench take. Where LAMPHUDET_ARCHIVE names one, that is taken as it is and nothing is built.
+ifdef LAMPHUDET_ARCHIVE
+ARCHIVE := $(abspath $(LAMPHUDET_ARCHIVE))
+archive:
+	@test -f '$(ARCHIVE)' || { echo 'there is no archive $(ARCHIVE)'; exit 1; }
+else
+ARCHIVE := $(CURDIR)/target/staticlib/liblamphudet.a
+archive: | rt-found
+	rt staticlib lamphudet
+endif
 
 # The sample texts, each with its record or its refusal in words. The program is proved before it is run.
 demo: | rt-found
@@ -12,12 +31,33 @@ demo: | rt-found
 test: | rt-found
 	@.ci/run
 
+# The independent implementation is held to its own published vectors first, then the archive to it.
+CARGO := LAMPHUDET_ARCHIVE='$(ARCHIVE)' cargo
+CARGO_FLAGS := --quiet --release --locked --offline
+compare: archive | cargo-found
+	@$(CARGO) test $(CARGO_FLAGS) --manifest-path tests/compare/Cargo.toml --lib
+	@$(CARGO) run $(CARGO_FLAGS) --manifest-path tests/compare/Cargo.toml -- $(SEED)
+
+bench: archive | cargo-found
+	@$(CARGO) run $(CARGO_FLAGS) --manifest-path bench/Cargo.toml
+
+PLACE = $(DESTDIR)$(abspath $(PREFIX))
+install: archive
+	install -d '$(PLACE)/include' '$(PLACE)/lib/pkgconfig'
+	install -m 644 include/lamphudet.h '$(PLACE)/include/lamphudet.h'
+	install -m 644 '$(ARCHIVE)' '$(PLACE)/lib/liblamphudet.a'
+	sed 's|@PREFIX@|$(abspath $(PREFIX))|; s|@VERSION@|$(VERSION)|' lamphudet.pc.in > '$(PLACE)/lib/pkgconfig/lamphudet.pc'
+	chmod 644 '$(PLACE)/lib/pkgconfig/lamphudet.pc'
+
 format: | rt-found
 	rt fmt
 
 clean:
 	rm -rf target
 
-.PHONY: rt-found
+.PHONY: rt-found cargo-found
 rt-found:
 	@command -v rt > /dev/null || { echo 'the Rattle toolchain is not on the PATH: the command rt is what builds and proves this repository'; exit 1; }
+
+cargo-found:
+	@command -v cargo > /dev/null || { echo 'cargo is not on the PATH: it builds the independent Rust implementation (on Debian: apt install cargo)'; exit 1; }

@@ -1,0 +1,21 @@
+-- The digest's own promise, told in numbers.
+use borrow.Author.Needs.{needs}
+use Rattle.lamphudet.proofs.lamphudet_digest.Statement.{statement}
+use Rattle.lamphudet.proofs.lamphudet_digest.Tie as tie
+
+digest-requires : tie.Need-digest-requires
+digest-requires c κs = search needs
+
+told-of-requires : tie.Need-told-of-requires
+told-of-requires c κs = search needs
+
+same-length : tie.Need-same-length
+same-length c = search needs
+
+returns : tie.Need-returns
+returns c =
+    let d = c .before .before .before .digest .ensures in
+    (rw (c .told-of .ensures, d .answer), d .output)
+
+pub lamphudet-digest-spec : {M : Type 1} → statement M
+lamphudet-digest-spec = tie.close (tie.spec digest-requires told-of-requires same-length returns)

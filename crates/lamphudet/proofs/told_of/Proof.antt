@@ -1,0 +1,26 @@
+-- The two cases of `toldBy`.
+use borrow.Author.Needs.{needs}
+use Rattle.lamphudet.specs.Told.{toldBy}
+use Rattle.lamphudet.proofs.told_of.Statement.{statement}
+use Rattle.lamphudet.proofs.told_of.Tie as tie
+
+enum-known-answer : tie.Need-enum-known-answer
+enum-known-answer c = search needs
+
+enum-known-answer-2 : tie.Need-enum-known-answer-2
+enum-known-answer-2 c = search needs
+
+number-requires : tie.Need-number-requires
+number-requires c κs = search needs
+
+returns : tie.Need-returns
+unfolding toldBy
+returns c = rw (c .before .answer .given .1)
+
+returns-2 : tie.Need-returns-2
+unfolding toldBy
+returns-2 c = rw (c .number .ensures, c .before .before .answer2 .given .1)
+
+pub told-of-spec : {M : Type 1} → statement M
+told-of-spec =
+    tie.close (tie.spec enum-known-answer enum-known-answer-2 number-requires returns returns-2)

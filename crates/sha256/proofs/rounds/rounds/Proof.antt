@@ -1,0 +1,197 @@
+-- What is left of the rounds gives the same as all of them; a turn takes eight off, on words that are there (`rounds-turn`).
+use borrow.Author.Needs.{needs}
+use native.Mathlib.Omega.{arith}
+use mathlib.Core.Path.{_≡_, _∙_, ap, sym, refl}
+use denote.Ref.{now}
+use lib.ListN.{length, drop}
+use Prim.Native.Nat.{_+_, _≤_, _%_, _-_}
+use native.Mathlib.Nat.{add-sub-cancel-left}
+use Rattle.sha256.specs.Constants.{K}
+use Rattle.sha256.specs.Hash.{rounds, schedule}
+use Rattle.sha256.proofs.ListLaws.{length-part}
+use Rattle.sha256.proofs.RoundLaws.{length-K, rounds-turn, rounds-done}
+use Rattle.sha256.proofs.ScheduleLaws.{There, there-first, there-more}
+use Rattle.sha256.proofs.rounds.rounds.Statement.{statement}
+use Rattle.sha256.proofs.rounds.rounds.Tie as tie
+
+abbrev Inv-loop : tie.InvT-loop
+Inv-loop block k w₀ s₀ t₀ w s t =
+    (t ≤ 48) × (t % 8 ≡ 0) × There block w (t + 16)
+    × (rounds (drop t K) (drop t (schedule block)) s ≡ rounds K (schedule block) s₀)
+
+abbrev μ-loop : tie.MeasureT-loop
+μ-loop block k w₀ s₀ t₀ w s t = 48 - t
+
+abbrev Inv-loop2 : tie.InvT-loop2
+Inv-loop2 block k w s₀ t₀ s t =
+    (t ≤ 64) × (t % 8 ≡ 0)
+    × (rounds (drop t K) (drop t (schedule block)) s ≡ rounds (drop t₀ K) (drop t₀ (schedule block)) s₀)
+
+abbrev μ-loop2 : tie.MeasureT-loop2
+μ-loop2 block k w s₀ t₀ s t = 64 - t
+
+round-constants-requires : tie.Need-round-constants-requires Inv-loop μ-loop Inv-loop2 μ-loop2
+round-constants-requires c κs = search needs
+
+first-words-requires : tie.Need-first-words-requires Inv-loop μ-loop Inv-loop2 μ-loop2
+first-words-requires c κs = search needs
+
+loop-holds : tie.Need-loop-holds Inv-loop μ-loop Inv-loop2 μ-loop2
+loop-holds c = (search needs, search needs, there-first _ _ (search needs) (c .first-words .ensures), search needs)
+
+add-eight-growing : tie.Need-add-eight-growing Inv-loop μ-loop Inv-loop2 μ-loop2
+add-eight-growing c = search needs
+
+mul-eight-growing : tie.Need-mul-eight-growing Inv-loop μ-loop Inv-loop2 μ-loop2
+mul-eight-growing c = search needs
+
+sub-eight-growing : tie.Need-sub-eight-growing Inv-loop μ-loop Inv-loop2 μ-loop2
+sub-eight-growing c = search needs
+
+part-eight-growing-start : tie.Need-part-eight-growing-start Inv-loop μ-loop Inv-loop2 μ-loop2
+part-eight-growing-start c = search needs
+
+part-eight-growing-end : tie.Need-part-eight-growing-end Inv-loop μ-loop Inv-loop2 μ-loop2
+part-eight-growing-end c = search needs
+
+slice-aggregate-eight-growing :
+    tie.Need-slice-aggregate-eight-growing Inv-loop μ-loop Inv-loop2 μ-loop2
+slice-aggregate-eight-growing c = search needs
+
+eight-growing-requires : tie.Need-eight-growing-requires Inv-loop μ-loop Inv-loop2 μ-loop2
+eight-growing-requires c κs =
+    let l = c .before .before .before .before .loop in
+    let k = c .before .before .before .before .before .before .round-constants in (
+      rw add-sub-cancel-left (length-part (k .result) (l .t) 8 (omega (arith, ap length (k .ensures) ∙ length-K))),
+      omega arith,
+      l .inv .2 .long,
+    )
+
+add-t : tie.Need-add-t Inv-loop μ-loop Inv-loop2 μ-loop2
+add-t c = search needs
+
+loop-less : tie.Need-loop-less Inv-loop μ-loop Inv-loop2 μ-loop2
+loop-less c = search needs
+
+loop-again : tie.Need-loop-again Inv-loop μ-loop Inv-loop2 μ-loop2
+loop-again c =
+    let B = now (c .before .before .before .before .before .before .before .before .before .before .args .block) in
+    let l = c .before .before .before .before .before .before .loop in
+    let k = c .before .before .before .before .before .before .before .before .round-constants in
+    let g = c .before .eight-growing in (
+      omega arith,
+      omega arith,
+      there-more B (l .w) (g .last .1 .0) (l .t) (l .inv .2) (g .kept .1 .0 ∙ l .inv .2 .long) (g .ensures .words),
+      rw (g .ensures .done, add-sub-cancel-left)
+          (rounds-turn (k .result) B (l .w) (l .t + 16) (l .t) (l .s) (k .ensures) (l .inv .2) (omega arith) (omega arith))
+          ∙ l .inv .3,
+    )
+
+loop2-holds : tie.Need-loop2-holds Inv-loop μ-loop Inv-loop2 μ-loop2
+loop2-holds c = (omega arith, c .before .loop .inv .1, refl)
+
+add-eight : tie.Need-add-eight Inv-loop μ-loop Inv-loop2 μ-loop2
+add-eight c = search needs
+
+mul-eight : tie.Need-mul-eight Inv-loop μ-loop Inv-loop2 μ-loop2
+mul-eight c = search needs
+
+sub-eight : tie.Need-sub-eight Inv-loop μ-loop Inv-loop2 μ-loop2
+sub-eight c = search needs
+
+part-eight-start : tie.Need-part-eight-start Inv-loop μ-loop Inv-loop2 μ-loop2
+part-eight-start c = search needs
+
+part-eight-end : tie.Need-part-eight-end Inv-loop μ-loop Inv-loop2 μ-loop2
+part-eight-end c = search needs
+
+add-eight-2 : tie.Need-add-eight-2 Inv-loop μ-loop Inv-loop2 μ-loop2
+add-eight-2 c = search needs
+
+mul-eight-2 : tie.Need-mul-eight-2 Inv-loop μ-loop Inv-loop2 μ-loop2
+mul-eight-2 c = search needs
+
+sub-eight-2 : tie.Need-sub-eight-2 Inv-loop μ-loop Inv-loop2 μ-loop2
+sub-eight-2 c = search needs
+
+part-eight-start-2 : tie.Need-part-eight-start-2 Inv-loop μ-loop Inv-loop2 μ-loop2
+part-eight-start-2 c = search needs
+
+part-eight-end-2 : tie.Need-part-eight-end-2 Inv-loop μ-loop Inv-loop2 μ-loop2
+part-eight-end-2 c = search needs
+
+eight-requires : tie.Need-eight-requires Inv-loop μ-loop Inv-loop2 μ-loop2
+eight-requires c κs =
+    let t = c .before .before .before .before .before .loop2 .t in
+    let w = c .before .before .before .before .before .before .before .loop in
+    let k = c .before .before .before .before .before .before .before .before .before .round-constants in
+    let h : t + 8 ≤ 64 = omega arith in
+    rw add-sub-cancel-left (
+      length-part (k .result) t 8 (omega (arith, ap length (k .ensures) ∙ length-K)),
+      length-part (w .w) t 8 (omega (arith, w .inv .2 .long)),
+    )
+
+add-t-2 : tie.Need-add-t-2 Inv-loop μ-loop Inv-loop2 μ-loop2
+add-t-2 c = search needs
+
+loop2-less : tie.Need-loop2-less Inv-loop μ-loop Inv-loop2 μ-loop2
+loop2-less c = search needs
+
+loop2-again : tie.Need-loop2-again Inv-loop μ-loop Inv-loop2 μ-loop2
+loop2-again c =
+    let B = now (c .before .before .before .before .before .before .before .before .before .before .before .before .args .block) in
+    let l = c .before .before .before .before .before .before .loop2 in
+    let w = c .before .before .before .before .before .before .before .before .loop in
+    let k = c .before .before .before .before .before .before .before .before .before .before .round-constants in
+    let all : w .t + 16 ≡ 64 = omega arith in
+    let h : l .t + 8 ≤ 64 = omega arith in (
+      h,
+      omega arith,
+      rw (c .eight .ensures, add-sub-cancel-left)
+          (rounds-turn (k .result) B (w .w) 64 (l .t) (l .s) (k .ensures) (rw all at (w .inv .2)) h (omega arith))
+          ∙ l .inv .2,
+    )
+
+returns : tie.Need-returns Inv-loop μ-loop Inv-loop2 μ-loop2
+returns c =
+    let l = c .before .loop2 in
+    sym (rounds-done K (schedule (now (c .before .before .before .before .before .before .before .args .block))) (l .t) (l .s) (omega (arith, length-K)))
+    ∙ l .inv .2 ∙ c .before .before .before .loop .inv .3
+
+pub rounds-spec : {M : Type 1} → statement M
+rounds-spec =
+    tie.close
+    (tie.spec
+    Inv-loop
+    μ-loop
+    Inv-loop2
+    μ-loop2
+    round-constants-requires
+    first-words-requires
+    loop-holds
+    add-eight-growing
+    mul-eight-growing
+    sub-eight-growing
+    part-eight-growing-start
+    part-eight-growing-end
+    slice-aggregate-eight-growing
+    eight-growing-requires
+    add-t
+    loop-less
+    loop-again
+    loop2-holds
+    add-eight
+    mul-eight
+    sub-eight
+    part-eight-start
+    part-eight-end
+    add-eight-2
+    mul-eight-2
+    sub-eight-2
+    part-eight-start-2
+    part-eight-end-2
+    eight-requires
+    add-t-2
+    loop2-less
+    loop2-again
+    returns)

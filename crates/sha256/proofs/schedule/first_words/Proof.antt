@@ -1,0 +1,67 @@
+-- The words before place t are the block's; a turn stores one more (`upTo-more`).
+use borrow.Author.Needs.{needs}
+use native.Mathlib.Omega.{arith}
+use mathlib.Core.Path.{_≡_}
+use denote.Ref.{now}
+use Prim.Native.Nat.{_≤_, _<_, _-_}
+use lib.ListN.{length, take}
+use Rattle.sha256.specs.Parsing.{word}
+use Rattle.sha256.specs.Hash.{upTo}
+use Rattle.sha256.proofs.ScheduleLaws.{upTo-more}
+use Rattle.sha256.proofs.schedule.first_words.Statement.{statement}
+use Rattle.sha256.proofs.schedule.first_words.Tie as tie
+
+abbrev Inv-loop : tie.InvT-loop
+Inv-loop block w₀ t₀ w t = (t ≤ 16) × (length w ≡ 64) × (take t w ≡ upTo (word block) t)
+
+abbrev μ-loop : tie.MeasureT-loop
+μ-loop block w₀ t₀ w t = 16 - t
+
+loop-holds : tie.Need-loop-holds Inv-loop μ-loop
+unfolding upTo
+loop-holds c = search needs
+
+word-requires : tie.Need-word-requires Inv-loop μ-loop
+word-requires c κs = search needs
+
+mul-w : tie.Need-mul-w Inv-loop μ-loop
+mul-w c = search needs
+
+array-write-w : tie.Need-array-write-w Inv-loop μ-loop
+array-write-w c = search needs
+
+add-t : tie.Need-add-t Inv-loop μ-loop
+add-t c = search needs
+
+loop-less : tie.Need-loop-less Inv-loop μ-loop
+loop-less c = search needs
+
+loop-again : tie.Need-loop-again Inv-loop μ-loop
+loop-again c =
+    let l = c .before .before .loop in
+    let h : l .t < length (l .w) = omega arith in (
+      search needs,
+      search needs,
+      rw (c .word .ensures) (upTo-more (word (now (c .before .before .before .before .args .block))) (l .w) (l .t) h (l .inv .2)),
+    )
+
+returns : tie.Need-returns Inv-loop μ-loop
+returns c =
+    let l = c .before .loop in
+    let e : l .t ≡ 16 = omega arith in
+    rw e at (l .inv .2)
+
+pub first-words-spec : {M : Type 1} → statement M
+first-words-spec =
+    tie.close
+    (tie.spec
+    Inv-loop
+    μ-loop
+    loop-holds
+    word-requires
+    mul-w
+    array-write-w
+    add-t
+    loop-less
+    loop-again
+    returns)

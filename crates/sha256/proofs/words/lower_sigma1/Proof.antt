@@ -1,0 +1,26 @@
+-- Nested rotations add, and pass through XOR (`nest-two`).
+use lib.Dec.{lit≤}
+use mathlib.Core.Path.{ap}
+use Prim.Native.Nat.{ℕ}
+use borrow.Author.Needs.{needs}
+use Rattle.sha256.specs.Words.{_⊕_, shr}
+use Rattle.sha256.specs.Functions.{σ1}
+use Rattle.sha256.proofs.RotationLaws.{nest-two}
+use Rattle.sha256.proofs.words.lower_sigma1.Statement.{statement}
+use Rattle.sha256.proofs.words.lower_sigma1.Tie as tie
+
+rotr-requires : tie.Need-rotr-requires
+rotr-requires c κs = search needs
+
+rotr-requires-2 : tie.Need-rotr-requires-2
+rotr-requires-2 c κs = search needs
+
+returns : tie.Need-returns
+unfolding σ1
+returns c =
+    let x = c .before .before .args .x in
+    rw (c .rotr2 .ensures, c .before .rotr .ensures)
+    (ap (λ (n : ℕ). n ⊕ shr 10 x) (nest-two 32 17 2 x (lit≤ tt) (c .before .before .fits .x .fits)))
+
+pub lower-sigma1-spec : {M : Type 1} → statement M
+lower-sigma1-spec = tie.close (tie.spec rotr-requires rotr-requires-2 returns)

@@ -1,0 +1,15 @@
+-- The shorter formula agrees with the paper's on single bits (`majority`).
+use Rattle.sha256.specs.Functions.{Maj}
+use Rattle.sha256.proofs.BitLaws.{majority}
+use Rattle.sha256.proofs.words.maj.Statement.{statement}
+use Rattle.sha256.proofs.words.maj.Tie as tie
+
+returns : tie.Need-returns
+unfolding Maj
+returns c =
+    let a = c .args in
+    let f = c .fits in
+    majority 32 (a .x) (a .y) (a .z) (f .x .fits) (f .y .fits) (f .z .fits)
+
+pub maj-spec : {M : Type 1} → statement M
+maj-spec = tie.close (tie.spec returns)

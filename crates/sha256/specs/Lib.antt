@@ -1,0 +1,8 @@
+pub mod Words
+pub mod Functions
+pub mod Constants
+pub mod Padding
+pub mod Parsing
+pub mod Hash
+pub mod Grown
+pub mod Answer

@@ -1,0 +1,149 @@
+// The rounds of a block and the hash value after it: FIPS 180-4, 6.2.2, steps 2 to 4.
+ghost use mathlib.Core.Path.{_≡_};
+ghost use Prim.Native.Nat.{_+_, _≤_};
+ghost use lib.ListN.{length};
+ghost use Rattle.sha256.specs.Constants as C;
+ghost use Rattle.sha256.specs.Hash as S;
+ghost use Rattle.sha256.specs.Grown.{Grown};
+use super::constants;
+use super::schedule;
+use super::words;
+
+// The working variables.
+pub struct Working {
+    pub a: u32,
+    pub b: u32,
+    pub c: u32,
+    pub d: u32,
+    pub e: u32,
+    pub f: u32,
+    pub g: u32,
+    pub h: u32,
+}
+
+// Step 2.
+fn started(hash: [u32; 8]) -> Working
+    ensures { λ r. ⌜ r ≡ S.started hash ⌝ }
+{
+    Working {
+        a: hash[0],
+        b: hash[1],
+        c: hash[2],
+        d: hash[3],
+        e: hash[4],
+        f: hash[5],
+        g: hash[6],
+        h: hash[7],
+    }
+}
+
+fn t1(k: u32, w: u32, s: Working) -> u32
+    ensures { λ r. ⌜ r ≡ S.T1 k w s ⌝ }
+{
+    let x = words::add(s.h, words::upper_sigma1(s.e));
+    let y = words::add(x, words::ch(s.e, s.f, s.g));
+    words::add(words::add(y, k), w)
+}
+
+fn t2(s: Working) -> u32
+    ensures { λ r. ⌜ r ≡ S.T2 s ⌝ }
+{
+    words::add(words::upper_sigma0(s.a), words::maj(s.a, s.b, s.c))
+}
+
+// One t of step 3.
+fn round(k: u32, w: u32, s: Working) -> Working
+    ensures { λ r. ⌜ r ≡ S.round k w s ⌝ }
+{
+    let x = t1(k, w, s);
+    let y = t2(s);
+    Working {
+        a: words::add(x, y),
+        b: s.a,
+        c: s.b,
+        d: s.c,
+        e: words::add(s.d, x),
+        f: s.e,
+        g: s.f,
+        h: s.g,
+    }
+}
+
+// Eight of them: then each working variable is back in its place, so that no word was moved from one to the next.
+fn eight(k: &[u32], w: &[u32], start: Working) -> Working
+    requires { ⌜ (length (now k) ≡ 8) × (length (now w) ≡ 8) ⌝ }
+    ensures { λ r. ⌜ r ≡ S.rounds (now (k .entry)) (now (w .entry)) start ⌝ }
+{
+    let mut s = start;
+    let mut i = 0;
+    while i < 8 {
+        let next = round(k[i], w[i], s);
+        s = next;
+        i += 1;
+    }
+    s
+}
+
+// Eight of them from t on, and beside each the word that stands sixteen after its own, so that neither waits for the other.
+fn eight_growing(k: &[u32], w: &mut [u32], t: usize, start: Working) -> Working
+    requires { ⌜ (length (now k) ≡ 8) × (t + 24 ≤ 64) × (length (now w) ≡ 64) ⌝ }
+    ensures { λ r. ⌜ Grown (now (k .entry)) (now (w .entry)) (now (w .exit)) t start r ⌝ }
+{
+    let mut s = start;
+    let mut i = 0;
+    while i < 8 {
+        let next = round(k[i], w[t + i], s);
+        let x = schedule::next_word(w, t + 16 + i);
+        w[t + 16 + i] = x;
+        s = next;
+        i += 1;
+    }
+    s
+}
+
+// Step 3, from the working variables of step 2: the schedule grows for as long as a word is missing.
+fn rounds(block: &[u8], start: Working) -> Working
+    requires { ⌜ length (now block) ≡ 64 ⌝ }
+    ensures { λ r. ⌜ r ≡ S.rounds C.K (S.schedule (now (block .entry))) start ⌝ }
+{
+    let k = constants::round_constants();
+    let mut w = schedule::first_words(block);
+    let mut s = start;
+    let mut t = 0;
+    while t < 48 {
+        let next = eight_growing(&k[t..t + 8], &mut w, t, s);
+        s = next;
+        t += 8;
+    }
+    while t < 64 {
+        let next = eight(&k[t..t + 8], &w[t..t + 8], s);
+        s = next;
+        t += 8;
+    }
+    s
+}
+
+// Step 4.
+fn added(s: Working, hash: [u32; 8]) -> [u32; 8]
+    ensures { λ r. ⌜ r ≡ S.added s hash ⌝ }
+{
+    [
+        words::add(s.a, hash[0]),
+        words::add(s.b, hash[1]),
+        words::add(s.c, hash[2]),
+        words::add(s.d, hash[3]),
+        words::add(s.e, hash[4]),
+        words::add(s.f, hash[5]),
+        words::add(s.g, hash[6]),
+        words::add(s.h, hash[7]),
+    ]
+}
+
+// The hash value after a block of 64 octets.
+pub(crate) fn compress(hash: [u32; 8], block: &[u8]) -> [u32; 8]
+    requires { ⌜ length (now block) ≡ 64 ⌝ }
+    ensures { λ r. ⌜ r ≡ S.compressed hash (now (block .entry)) ⌝ }
+{
+    let s = rounds(block, started(hash));
+    added(s, hash)
+}

@@ -1,0 +1,34 @@
+//! What the papers say, in plain Rust and for reading rather than for proving.
+
+pub mod calls;
+pub mod sha256;
+
+/// An answer as it passes to C: 0 and a length or an offset, or a refusal's number and its place.
+#[repr(C)]
+#[derive(Clone, Copy, Debug, PartialEq, Eq)]
+pub struct Answer {
+    pub number: u32,
+    pub value: u64,
+}
+
+/// A call's complete outcome: its answer, and the octets at the start of the lent output that it changes.
+#[derive(Clone, Debug, PartialEq, Eq)]
+pub struct Outcome {
+    pub answer: Answer,
+    pub written: Vec<u8>,
+}
+
+impl Outcome {
+    /// A refusal writes nothing.
+    pub fn refused(number: u32, place: u64) -> Outcome {
+        Outcome { answer: Answer { number, value: place }, written: Vec::new() }
+    }
+
+    /// All of these octets, or refusal 16 where the lent output has no room for them.
+    pub fn written(octets: Vec<u8>, room: usize) -> Outcome {
+        if room < octets.len() {
+            return Outcome::refused(16, 0);
+        }
+        Outcome { answer: Answer { number: 0, value: octets.len() as u64 }, written: octets }
+    }
+}

@@ -1,0 +1,76 @@
+//! What is printed: one line a call with its count, and for a difference all that is needed to make it again.
+
+/// How many differences of one call are printed whole. The others are counted.
+const SHOWN: u64 = 5;
+
+/// The cases of one call.
+pub struct Tally {
+    call: &'static str,
+    seed: u64,
+    cases: u64,
+    failed: u64,
+}
+
+impl Tally {
+    pub fn new(call: &'static str, seed: u64) -> Tally {
+        Tally { call, seed, cases: 0, failed: 0 }
+    }
+
+    /// Counts one case. The lines tell what was lent and what differs; there are none where nothing does.
+    pub fn case(&mut self, lines: Vec<String>) {
+        self.cases += 1;
+        if lines.is_empty() {
+            return;
+        }
+        self.failed += 1;
+        if self.failed > SHOWN {
+            return;
+        }
+        println!("{}: case {} of seed {} differs", self.call, grouped(self.cases), self.seed);
+        for line in lines {
+            println!("  {line}");
+        }
+    }
+
+    /// Prints the call's line and gives how many cases passed and how many failed.
+    pub fn close(self) -> (u64, u64) {
+        let failed = match self.failed {
+            0 => String::new(),
+            failed => format!(", {} differ", grouped(failed)),
+        };
+        println!("{}: {} cases{failed}", self.call, grouped(self.cases));
+        (self.cases - self.failed, self.failed)
+    }
+}
+
+pub fn hex(octets: &[u8]) -> String {
+    octets.iter().map(|octet| format!("{octet:02x}")).collect()
+}
+
+/// A number with its digits in threes.
+pub fn grouped(number: u64) -> String {
+    let digits = number.to_string();
+    let threes = digits.as_bytes().rchunks(3).rev().map(String::from_utf8_lossy);
+    threes.collect::<Vec<_>>().join(",")
+}
+
+#[cfg(test)]
+mod tests {
+    use super::*;
+
+    #[test]
+    fn digits_in_threes() {
+        assert_eq!(grouped(0), "0");
+        assert_eq!(grouped(999), "999");
+        assert_eq!(grouped(65_535), "65,535");
+        assert_eq!(grouped(1_000_000), "1,000,000");
+    }
+
+    #[test]
+    fn differences_are_counted() {
+        let mut tally = Tally::new("test", 1);
+        tally.case(Vec::new());
+        tally.case(vec!["a test of the report itself".into()]);
+        assert_eq!(tally.close(), (1, 1));
+    }
+}
