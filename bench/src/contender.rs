@@ -1,8 +1,4 @@
-//! Whose digest is measured.
-
-use crate::libcrypto::Libcrypto;
-use compare::border;
-use compare::paper::sha256::sha256;
+//! Whose work is measured.
 
 #[derive(Clone, Copy, PartialEq, Eq)]
 pub enum Contender {
@@ -11,9 +7,6 @@ pub enum Contender {
     OpensslPlain,
     Openssl,
 }
-
-/// What the work is, ready to be done again and again.
-pub type Work = Box<dyn FnMut()>;
 
 impl Contender {
     pub const ALL: [Contender; 4] = [Contender::Library, Contender::Rust, Contender::OpensslPlain, Contender::Openssl];
@@ -44,29 +37,5 @@ impl Contender {
     /// Valgrind has no SHA extensions: there libcrypto would take other code than the code that is timed.
     pub fn countable(self) -> bool {
         self != Contender::Openssl
-    }
-
-    /// One digest of so many octets; none where the contender is not installed. Each digest goes into the next input, so
-    /// that none can be left out or begun before the one ahead of it has ended.
-    pub fn work(self, size: usize) -> Option<Work> {
-        let mut input = vec![0x3c; size];
-        let mut digest = [0; 32];
-        match self {
-            Contender::Library => Some(Box::new(move || {
-                input[0] = digest[0];
-                border::bare_digest(&input, &mut digest);
-            })),
-            Contender::Rust => Some(Box::new(move || {
-                input[0] = digest[0];
-                digest = sha256(&input);
-            })),
-            Contender::OpensslPlain | Contender::Openssl => {
-                let libcrypto = Libcrypto::open()?;
-                Some(Box::new(move || {
-                    input[0] = digest[0];
-                    libcrypto.sha256(&input, &mut digest);
-                }))
-            }
-        }
     }
 }

@@ -1,20 +1,22 @@
 //! Measures the library beside other implementations and prints ratios. Nothing here passes or fails.
 //!
-//!     bench                           every table
-//!     bench worker CONTENDER          measures what is asked on standard input (the tables start one a contender)
-//!     bench once CONTENDER SIZE TIMES the work alone, for counting instructions
+//!     bench                               every table
+//!     bench worker CONTENDER              measures what is asked on standard input (the tables start one a contender)
+//!     bench once CONTENDER JOB SIZE TIMES the work alone, for counting instructions
 
 mod contender;
 mod counts;
+mod job;
 mod libcrypto;
+#[cfg(feature = "records")]
+mod records;
 mod rounds;
 mod table;
+mod work;
 mod worker;
 
 use contender::Contender;
-
-/// Octets to digest: one block, two sizes between, and the longest input.
-const SIZES: [usize; 4] = [64, 1_024, 16_384, 65_535];
+use job::Job;
 
 fn main() {
     let words: Vec<String> = std::env::args().skip(1).collect();
@@ -22,29 +24,32 @@ fn main() {
     match words[..] {
         [] => tables(),
         ["worker", name] => worker::serve(Contender::named(name)),
-        ["once", name, size, times] => once(Contender::named(name), number(size), number(times)),
-        _ => eprintln!("bench needs no argument"),
+        ["once", name, kind, size, times] => once(Contender::named(name), Job::named(kind, size), times),
+        _ => eprintln!("bench takes no argument"),
     }
 }
 
-fn number(word: &str) -> usize {
-    word.parse().expect("a number")
-}
-
-fn once(contender: Contender, size: usize, times: usize) {
-    let mut work = contender.work(size).expect("a contender that was found before");
-    (0..times).for_each(|_| work());
+fn once(contender: Contender, job: Job, times: &str) {
+    let mut work = work::of(contender, job).expect("a contender that was found before");
+    (0..times.parse().expect("a count")).for_each(|_: usize| work());
 }
 
 fn tables() {
+    one_table("One digest, by octets", &Contender::ALL, &Job::DIGESTS);
+    if !Job::RECORDS.is_empty() {
+        one_table("One record", &[Contender::Library, Contender::Rust], &Job::RECORDS);
+    }
+}
+
+fn one_table(title: &str, contenders: &[Contender], jobs: &[Job]) {
     let (present, absent): (Vec<_>, Vec<_>) =
-        Contender::ALL.into_iter().partition(|contender| contender.work(SIZES[0]).is_some());
-    table::times(&present, &SIZES.map(|size| (size, rounds::medians(&present, size))));
-    match counts::counts(&present, &SIZES) {
-        Some(rows) => table::instructions(&present, &rows),
-        None => println!("\nNo instruction counts: valgrind is not installed."),
+        contenders.iter().partition(|contender| work::of(**contender, jobs[0]).is_some());
+    table::times(title, &present, jobs, &rounds::medians(&present, jobs));
+    match counts::counts(&present, jobs) {
+        Some(rows) => table::instructions(title, &present, jobs, &rows),
+        None => println!("Valgrind is not installed: no instructions are counted.\n"),
     }
     for contender in absent {
-        println!("\nNo column {}: libcrypto is not installed.", contender.title());
+        println!("Libcrypto is not installed: no column {}.\n", contender.title());
     }
 }

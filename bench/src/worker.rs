@@ -2,7 +2,9 @@
 //! share one process, and then the others should have no better conditions. A worker does what it is asked and answers
 //! with the time; while it is not asked, it waits.
 
-use crate::contender::{Contender, Work};
+use crate::contender::Contender;
+use crate::job::Job;
+use crate::work::{self, Work};
 use std::io::{BufRead, BufReader, Write};
 use std::path::PathBuf;
 use std::process::{Child, ChildStdin, ChildStdout, Command, Stdio};
@@ -25,9 +27,9 @@ impl Worker {
         Worker { child, asks, answers }
     }
 
-    /// Nanoseconds for so many digests of so many octets.
-    pub fn nanoseconds(&mut self, size: usize, times: usize) -> u64 {
-        writeln!(self.asks, "{size} {times}").expect("a worker that reads");
+    /// Nanoseconds for doing a job so many times.
+    pub fn nanoseconds(&mut self, job: Job, times: usize) -> u64 {
+        writeln!(self.asks, "{} {} {times}", job.kind(), job.size()).expect("a worker that reads");
         let mut line = String::new();
         self.answers.read_line(&mut line).expect("a worker that answers");
         line.trim().parse().expect("a worker that answers a number")
@@ -54,22 +56,23 @@ pub fn with_instructions(command: &mut Command, contender: Contender) {
 }
 
 pub fn serve(contender: Contender) {
-    let mut ready: Option<(usize, Work)> = None;
+    let mut ready: Option<(Job, Work)> = None;
     for line in std::io::stdin().lock().lines() {
-        let line = line.expect("a line");
-        let (size, times) = line.split_once(' ').expect("a size and a count");
-        let (size, times) = (size.parse().expect("a size"), times.parse().expect("a count"));
-        let (_, mut work) = match ready.take() {
-            Some((of, work)) if of == size => (of, work),
-            _ => (size, contender.work(size).expect("a contender that was found before")),
+        let (job, times) = asked(&line.expect("a line"));
+        let mut work = match ready.take() {
+            Some((of, work)) if of == job => work,
+            _ => work::of(contender, job).expect("a contender that was found before"),
         };
-        println!("{}", timed(&mut work, times));
-        ready = Some((size, work));
+        let start = Instant::now();
+        (0..times).for_each(|_| work());
+        println!("{}", start.elapsed().as_nanos());
+        ready = Some((job, work));
     }
 }
 
-fn timed(work: &mut Work, times: usize) -> u128 {
-    let start = Instant::now();
-    (0..times).for_each(|_| work());
-    start.elapsed().as_nanos()
+fn asked(line: &str) -> (Job, usize) {
+    match line.split(' ').collect::<Vec<_>>()[..] {
+        [kind, size, times] => (Job::named(kind, size), times.parse().expect("a count")),
+        _ => panic!("a worker is asked for a kind, a size and a count"),
+    }
 }

@@ -166,13 +166,17 @@ module _ (f : Form) (t : List ℕ) (k : Keeps f t) where
   name-fits : length (trimmed (field f name t)) ≤ 39
   name-fits = rw (trimmed-length (field f name t)) (omega (arith, trimmed-le (field f name t), name-length, name-room f))
 
+  whole-number : take (length (numberBy f t (spanOf f t))) (padded 22 (numberBy f t (spanOf f t))) ≡ numberBy f t (spanOf f t)
+  whole-number = take-padded 22 (numberBy f t (spanOf f t)) ∙ take-all 22 (numberBy f t (spanOf f t)) room
+
   pub holds : Holds f t (recordBy f t (spanOf f t))
-  unfolding recordBy
+  unfolding recordBy numberBy
   holds = record {
     form-held = refl;
     code-held = exact code 2 (fixed f .code-width);
     state-held = exact state 3 (fixed f .state-width);
-    number-held = take-padded 22 (numberBy f t (spanOf f t)) ∙ take-all 22 (numberBy f t (spanOf f t)) room;
+    short-held = λ e. whole-number ∙ rw (short-span f t e);
+    long-held = λ e. whole-number ∙ rw (long-span f t e (k .number-ends e .0) (k .number-ends e .1));
     nationality-held = exact nationality 3 (fixed f .nationality-width);
     birth-held = exact birth 6 (fixed f .birth-width);
     sex-held = refl;
@@ -236,11 +240,11 @@ module _ (f : Form) (t : List ℕ) (k : Keeps f t) where
       (both-and (ap expiryRule (exact expiry 6 (fixed f .expiry-width)) ∙ k .expiry-kept)
       name-sound)))))))
 
-pub kept-and-sound : (t : List ℕ) → readText t .outcome ≡ passed → (f : Form) × Holds f t (readText t .kept) × (isSound (readText t .kept) ≡ true)
+pub kept-and-sound : (t : List ℕ) → readText t .outcome ≡ passed → (f : Form) × Keeps f t × Holds f t (readText t .kept) × (isSound (readText t .kept) ≡ true)
 unfolding answered
 kept-and-sound t e =
     let w = accepted-form t e in
     let f = w .0 in
     let size = by-told f (length t) (w .1) in
     let k = keeps f t size (w .2) in
-    (f, rw (read-as f t size, w .2) (holds f t k), rw (read-as f t size, w .2) (sound f t k))
+    (f, k, rw (read-as f t size, w .2) (holds f t k), rw (read-as f t size, w .2) (sound f t k))

@@ -51,3 +51,17 @@ unfolding has among parts partOf layout same rank isLong longest
 long-has Td1 t e = refl
 long-has Td2 t e = refl
 long-has Td3 t e = absurd (false-not-true e)
+
+-- the further characters and their digit stand within the optional field
+pub span-within : (f : Form) (t : List ℕ) (n : ℕ) → spanOf f t ≡ Long n → n < width f optional
+unfolding spanOf cutAt
+span-within f t n e = go (isLong f t) (leb 2 (filler f t) && ltb (filler f t) (width f optional)) refl e
+  where
+    go : (a b : Bool) → leb 2 (filler f t) && ltb (filler f t) (width f optional) ≡ b
+        → cond a (cond b (Long (filler f t - 1)) Bad) Short ≡ Long n → n < width f optional
+    go false b p q = absurd (let z : _≡_ {A = ℕ} 0 1 = cc in omega arith)
+    go true false p q = absurd (let z : _≡_ {A = ℕ} 0 1 = cc in omega arith)
+    go true true p q =
+        let both = and-both (leb 2 (filler f t)) (ltb (filler f t) (width f optional)) p in
+        let same-number : filler f t - 1 ≡ n = cc in
+        omega (arith, ltb-true (filler f t) (width f optional) (both .1))

@@ -1,14 +1,15 @@
 -- The starred examples of document 01, "Examples", as one table: each row is an example, and `isRight` says what it claims.
-use Prim.Native.Nat.{ℕ}
+use Prim.Native.Nat.{ℕ, _+_}
 use Prim.Native.Char.{code}
 use Prim.Native.String as text
 use Prim.Native.String.{String}
 use mathlib.Core.Bool.{Bool, true, false, cond, not, _&&_}
 use mathlib.Core.List.{List, [], _∷_}
 use lib.Dec.{eqb}
+use lib.ListN.{getD}
 use Rattle.zone.specs.declared.form.Form.the-variants.{Td3}
-use Rattle.zone.specs.Part.{number, birth, expiry}
-use Rattle.zone.specs.Form.{field, covered}
+use Rattle.zone.specs.Part.{Part, number, numberCheck, birth, birthCheck, expiry, expiryCheck, composite}
+use Rattle.zone.specs.Form.{start, field, covered}
 use Rattle.digit.specs.Check.{checkOf}
 use Rattle.field.specs.Date.{birthRule}
 
@@ -25,14 +26,18 @@ pub data Example : Type 0 where
   -- the four check digits of a TD3 text besides the personal one: number, birth, expiry, composite
   digits : String → (n b e c : ℕ) → Example
 
+-- a digit of a TD3 text is the one worked out, and stands in its place
+unfoldable pub isDigitAt : List ℕ → Part → List ℕ → ℕ → Bool
+isDigitAt t x covers n = eqb (checkOf covers) n && eqb (getD t (start Td3 x) 0) (48 + n)
+
 unfoldable pub isRight : Example → Bool
 isRight (check s n) = eqb (checkOf (octets s)) n
 isRight (birthKept s) = birthRule (octets s)
 isRight (birthRefused s) = not (birthRule (octets s))
 isRight (digits s n b e c) =
-    eqb (checkOf (field Td3 number (octets s))) n
-    && (eqb (checkOf (field Td3 birth (octets s))) b
-    && (eqb (checkOf (field Td3 expiry (octets s))) e && eqb (checkOf (covered Td3 (octets s))) c))
+    isDigitAt (octets s) numberCheck (field Td3 number (octets s)) n
+    && (isDigitAt (octets s) birthCheck (field Td3 birth (octets s)) b
+    && (isDigitAt (octets s) expiryCheck (field Td3 expiry (octets s)) e && isDigitAt (octets s) composite (covered Td3 (octets s)) c))
 
 -- `P<UTONORD<<ELIN`, fillers to 44, then the second line
 unfoldable pub T3 : String

@@ -1,6 +1,8 @@
 -- The checks of a text one after the other, and which of them a refusal names: document 01, "The text", Order.
 use Prim.Native.Nat.{ℕ}
 use mathlib.Core.List.{List, [], _∷_, _++_, map}
+use mathlib.Core.Bool.{Bool, true, _&&_}
+use lib.Dec.{ltb}
 use lib.ListN.{length}
 use Rattle.refusal.specs.Outcome.{Outcome, passed, refused}
 use Rattle.zone.specs.declared.form.Form.{Form}
@@ -22,3 +24,9 @@ checksOf t = checksBy (formOf (length t)) t
 pub data FirstFailing : List Outcome → ℕ → ℕ → Type 0 where
   here : {n p : ℕ} {rest : List Outcome} → FirstFailing (refused n p ∷ rest) n p
   later : {n p : ℕ} {rest : List Outcome} → FirstFailing rest n p → FirstFailing (passed ∷ rest) n p
+
+-- each number is below the next
+unfoldable pub isRising : List ℕ → Bool
+isRising [] = true
+isRising (n ∷ []) = true
+isRising (n ∷ (m ∷ ns)) = ltb n m && isRising (m ∷ ns)

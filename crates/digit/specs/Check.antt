@@ -27,7 +27,7 @@ checkOf s = sumFrom 0 s % 10
 unfoldable pub digitOf : List ℕ → ℕ
 digitOf s = 48 + checkOf s
 
--- a sum under way goes on over further characters, with the weights where they stopped
+-- no words of the paper: a sum under way goes on over further characters, with the weights where they stopped
 unfoldable pub Tally·over : Tally → List ℕ → Tally
 Tally·over t s = record { turn = (t .turn + length s) % 3; sum = (t .sum + sumFrom (t .turn) s) % 10 }
 

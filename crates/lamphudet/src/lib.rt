@@ -2,27 +2,27 @@
 ghost use mathlib.Core.Path.{_≡_};
 ghost use Rattle.refusal.specs.Length.{lengthOf};
 ghost use Rattle.sha256.specs.Answer.{digestAnswer, digestOut};
-ghost use Rattle.lamphudet.specs.Told.{toldBy};
+ghost use Rattle.lamphudet.specs.Answer.{inC};
 use refusal::Written;
 
 // What C receives: number 0 and how many octets were written, or the refusal's number and its place.
 #[repr(C)]
-pub struct Told {
+pub struct Answer {
     pub number: u32,
     pub value: u64,
 }
 
-fn told_of(answer: Written) -> Told
-    ensures { λ r. ⌜ r ≡ toldBy (lengthOf answer) ⌝ }
+fn in_c(answer: Written) -> Answer
+    ensures { λ r. ⌜ r ≡ inC (lengthOf answer) ⌝ }
 {
     match answer {
-        Written::Octets(n) => Told {
+        Written::Octets(n) => Answer {
             number: 0,
             value: n as u64,
         },
         Written::Refused(refusal) => {
             let cause = refusal.cause;
-            Told {
+            Answer {
                 number: cause.number(),
                 value: refusal.place as u64,
             }
@@ -30,10 +30,11 @@ fn told_of(answer: Written) -> Told
     }
 }
 
+// The SHA-256 digest of the input, into the first 32 octets of the output.
 #[no_mangle]
-pub extern "C" fn lamphudet_digest(input: &[u8], digest: &mut [u8]) -> Told
-    ensures { λ r. ⌜ r ≡ toldBy (digestAnswer (now (input .entry)) (now (digest .entry))) ⌝ }
+pub extern "C" fn lamphudet_digest(input: &[u8], digest: &mut [u8]) -> Answer
+    ensures { λ r. ⌜ r ≡ inC (digestAnswer (now (input .entry)) (now (digest .entry))) ⌝ }
     ensures { λ _. ⌜ now (digest .exit) ≡ digestOut (now (input .entry)) (now (digest .entry)) ⌝ }
 {
-    told_of(sha256::digest(input, digest))
+    in_c(sha256::digest(input, digest))
 }

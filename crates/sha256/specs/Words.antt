@@ -1,5 +1,5 @@
 -- Words of w bits, as the numbers below 2 ^ w, and the operations on them: FIPS 180-4, 2.2.2 and 3.2.
--- The operations on bits are the kit's own, of `lib.Bits`.
+-- AND, OR and XOR are the kit's own, of `lib.Bits`; the complement and the shifts are arithmetic.
 use Prim.Native.Nat.{ℕ, _+_, _-_, _*_, _/_, _%_, _^_}
 use lib.Bits.{bitAnd, bitOr, bitXor}
 

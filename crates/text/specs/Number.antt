@@ -36,10 +36,12 @@ numberRule f t span = not (isFiller (getD (field f number t) 0 0)) && spanRule s
 unfoldable pub checkedBy : Form → List ℕ → Span → List ℕ
 checkedBy f t Short = field f number t
 checkedBy f t (Long further) = field f number t ++ take further (field f optional t)
+-- refused before its check is looked at
 checkedBy f t Bad = field f number t
 
 -- trailing fillers are dropped; inner ones stay
 unfoldable pub numberBy : Form → List ℕ → Span → List ℕ
 numberBy f t Short = trimmed (field f number t)
 numberBy f t (Long further) = field f number t ++ take further (field f optional t)
+-- refused: no record holds it
 numberBy f t Bad = trimmed (field f number t)

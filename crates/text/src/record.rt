@@ -8,6 +8,7 @@ ghost use Rattle.zone.specs.Record.{padded, trimmed};
 ghost use Rattle.text.specs.Number.{numberBy};
 ghost use Rattle.text.specs.Read.{recordBy};
 use crate::number::Span;
+use zone::alphabet::FILLER;
 use zone::form::Form;
 use zone::record::Record;
 use zone::record::trimmed_length;
@@ -15,7 +16,7 @@ use zone::record::trimmed_length;
 fn two_at(text: &[u8], at: usize) -> [u8; 2]
     ensures { λ r. ⌜ r ≡ padded 2 (take 2 (drop at (now (text .entry)))) ⌝ }
 {
-    let mut room = [60u8; 2];
+    let mut room = [FILLER; 2];
     lent::copy(&mut room, lent::part(text, at, 2));
     room
 }
@@ -23,7 +24,7 @@ fn two_at(text: &[u8], at: usize) -> [u8; 2]
 fn three_at(text: &[u8], at: usize) -> [u8; 3]
     ensures { λ r. ⌜ r ≡ padded 3 (take 3 (drop at (now (text .entry)))) ⌝ }
 {
-    let mut room = [60u8; 3];
+    let mut room = [FILLER; 3];
     lent::copy(&mut room, lent::part(text, at, 3));
     room
 }
@@ -31,16 +32,16 @@ fn three_at(text: &[u8], at: usize) -> [u8; 3]
 fn six_at(text: &[u8], at: usize) -> [u8; 6]
     ensures { λ r. ⌜ r ≡ padded 6 (take 6 (drop at (now (text .entry)))) ⌝ }
 {
-    let mut room = [60u8; 6];
+    let mut room = [FILLER; 6];
     lent::copy(&mut room, lent::part(text, at, 6));
     room
 }
 
-fn name_chars(form: Form, text: &[u8]) -> [u8; 39]
+fn name_chars(form: Form, text: &[u8]) -> [u8; Form::NAME]
     ensures { λ r. ⌜ r ≡ padded 39 (trimmed (field form name (now (text .entry)))) ⌝ }
 {
     let at = form.places();
-    let mut room = [60u8; 39];
+    let mut room = [FILLER; Form::NAME];
     lent::copy(&mut room, lent::part(text, at.name, form.name_width()));
     room
 }
@@ -53,16 +54,16 @@ fn name_length(form: Form, text: &[u8]) -> usize
 }
 
 // The nine and the further characters, joined.
-fn joined<'a>(nine: &'a [u8], further: &'a [u8]) -> [u8; 22]
+fn joined<'a>(nine: &'a [u8], further: &'a [u8]) -> [u8; Form::NUMBER]
     ensures { λ r. ⌜ r ≡ padded 22 (now (nine .entry) ++ now (further .entry)) ⌝ }
 {
-    let mut room = [60u8; 22];
+    let mut room = [FILLER; Form::NUMBER];
     lent::copy(&mut room, nine);
     lent::copy_at(&mut room, nine.len(), further);
     room
 }
 
-fn number_chars(form: Form, text: &[u8], span: Span) -> [u8; 22]
+fn number_chars(form: Form, text: &[u8], span: Span) -> [u8; Form::NUMBER]
     ensures { λ r. ⌜ r ≡ padded 22 (numberBy form (now (text .entry)) span) ⌝ }
 {
     let at = form.places();

@@ -160,7 +160,7 @@ fn words(cause: Cause) {
         Cause::Name => say(b"name"),
         Cause::Digit => say(b"check digit"),
         Cause::Encoding => say(b"encoding"),
-        Cause::Common => say(b"EF.COM content"),
+        Cause::EfCom => say(b"EF.COM content"),
         Cause::SecurityObject => say(b"security object content"),
         Cause::Algorithm => say(b"digest algorithm"),
         Cause::Group => say(b"group unlisted, lent before, or without entry; no group 1 lent"),

@@ -19,14 +19,14 @@ isFiller c = eqb c 60
 unfoldable pub isCharacter : ℕ → Bool
 isCharacter c = isDigit c || (isLetter c || isFiller c)
 
+-- none of these
+unfoldable pub isForeign : ℕ → Bool
+isForeign c = not (isCharacter c)
+
 -- the place of the first octet that passes a test, or the length where none does
 unfoldable pub first : (ℕ → Bool) → List ℕ → ℕ
 first p [] = 0
 first p (c ∷ s) = cond (p c) 0 (suc (first p s))
-
--- none of these
-unfoldable pub isForeign : ℕ → Bool
-isForeign c = not (isCharacter c)
 
 -- the first octet outside the alphabet
 unfoldable pub firstForeign : List ℕ → ℕ

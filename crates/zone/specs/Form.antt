@@ -107,7 +107,7 @@ joinedCuts t (s ∷ ss) = cut t s ++ joinedCuts t ss
 unfoldable pub covered : Form → List ℕ → List ℕ
 covered f t = joinedCuts t (stretches f)
 
--- what the code has of these, a row of constants for each form
+-- no words of the paper: the rows of constants that the code has of these
 unfoldable pub placesOf : Form → Places
 placesOf f = record {
   code = start f code;

@@ -132,57 +132,9 @@ impl Form {
         ensures { λ r. ⌜ r ≡ placesOf self ⌝ }
     {
         match self {
-            Form::Td1 => Places {
-                code: 0,
-                state: 2,
-                number: 5,
-                number_check: 14,
-                optional: 15,
-                birth: 30,
-                birth_check: 36,
-                sex: 37,
-                expiry: 38,
-                expiry_check: 44,
-                nationality: 45,
-                composite: 59,
-                name: 60,
-                personal: 90,
-                personal_check: 90,
-            },
-            Form::Td2 => Places {
-                code: 0,
-                state: 2,
-                name: 5,
-                number: 36,
-                number_check: 45,
-                nationality: 46,
-                birth: 49,
-                birth_check: 55,
-                sex: 56,
-                expiry: 57,
-                expiry_check: 63,
-                optional: 64,
-                composite: 71,
-                personal: 72,
-                personal_check: 72,
-            },
-            Form::Td3 => Places {
-                code: 0,
-                state: 2,
-                name: 5,
-                number: 44,
-                number_check: 53,
-                nationality: 54,
-                birth: 57,
-                birth_check: 63,
-                sex: 64,
-                expiry: 65,
-                expiry_check: 71,
-                personal: 72,
-                personal_check: 86,
-                composite: 87,
-                optional: 88,
-            },
+            Form::Td1 => td1_places(),
+            Form::Td2 => td2_places(),
+            Form::Td3 => td3_places(),
         }
     }
 
@@ -190,54 +142,139 @@ impl Form {
         ensures { λ r. ⌜ r ≡ coveredOf self ⌝ }
     {
         match self {
-            Form::Td1 => Covered {
-                first: Stretch {
-                    start: 5,
-                    width: 25,
-                },
-                second: Stretch {
-                    start: 30,
-                    width: 7,
-                },
-                third: Stretch {
-                    start: 38,
-                    width: 7,
-                },
-                fourth: Stretch {
-                    start: 48,
-                    width: 11,
-                },
-            },
-            Form::Td2 => Covered {
-                first: Stretch {
-                    start: 36,
-                    width: 10,
-                },
-                second: Stretch {
-                    start: 49,
-                    width: 7,
-                },
-                third: Stretch {
-                    start: 57,
-                    width: 14,
-                },
-                fourth: Stretch { start: 0, width: 0 },
-            },
-            Form::Td3 => Covered {
-                first: Stretch {
-                    start: 44,
-                    width: 10,
-                },
-                second: Stretch {
-                    start: 57,
-                    width: 7,
-                },
-                third: Stretch {
-                    start: 65,
-                    width: 22,
-                },
-                fourth: Stretch { start: 0, width: 0 },
-            },
+            Form::Td1 => td1_covered(),
+            Form::Td2 => td2_covered(),
+            Form::Td3 => td3_covered(),
         }
+    }
+}
+
+// The rows.
+fn td1_places() -> Places
+    ensures { λ r. ⌜ r ≡ placesOf Form.Td1 ⌝ }
+{
+    Places {
+        code: 0,
+        state: 2,
+        number: 5,
+        number_check: 14,
+        optional: 15,
+        birth: 30,
+        birth_check: 36,
+        sex: 37,
+        expiry: 38,
+        expiry_check: 44,
+        nationality: 45,
+        composite: 59,
+        name: 60,
+        personal: 90,
+        personal_check: 90,
+    }
+}
+
+fn td2_places() -> Places
+    ensures { λ r. ⌜ r ≡ placesOf Form.Td2 ⌝ }
+{
+    Places {
+        code: 0,
+        state: 2,
+        name: 5,
+        number: 36,
+        number_check: 45,
+        nationality: 46,
+        birth: 49,
+        birth_check: 55,
+        sex: 56,
+        expiry: 57,
+        expiry_check: 63,
+        optional: 64,
+        composite: 71,
+        personal: 72,
+        personal_check: 72,
+    }
+}
+
+fn td3_places() -> Places
+    ensures { λ r. ⌜ r ≡ placesOf Form.Td3 ⌝ }
+{
+    Places {
+        code: 0,
+        state: 2,
+        name: 5,
+        number: 44,
+        number_check: 53,
+        nationality: 54,
+        birth: 57,
+        birth_check: 63,
+        sex: 64,
+        expiry: 65,
+        expiry_check: 71,
+        personal: 72,
+        personal_check: 86,
+        composite: 87,
+        optional: 88,
+    }
+}
+
+fn td1_covered() -> Covered
+    ensures { λ r. ⌜ r ≡ coveredOf Form.Td1 ⌝ }
+{
+    Covered {
+        first: Stretch {
+            start: 5,
+            width: 25,
+        },
+        second: Stretch {
+            start: 30,
+            width: 7,
+        },
+        third: Stretch {
+            start: 38,
+            width: 7,
+        },
+        fourth: Stretch {
+            start: 48,
+            width: 11,
+        },
+    }
+}
+
+fn td2_covered() -> Covered
+    ensures { λ r. ⌜ r ≡ coveredOf Form.Td2 ⌝ }
+{
+    Covered {
+        first: Stretch {
+            start: 36,
+            width: 10,
+        },
+        second: Stretch {
+            start: 49,
+            width: 7,
+        },
+        third: Stretch {
+            start: 57,
+            width: 14,
+        },
+        fourth: Stretch { start: 0, width: 0 },
+    }
+}
+
+fn td3_covered() -> Covered
+    ensures { λ r. ⌜ r ≡ coveredOf Form.Td3 ⌝ }
+{
+    Covered {
+        first: Stretch {
+            start: 44,
+            width: 10,
+        },
+        second: Stretch {
+            start: 57,
+            width: 7,
+        },
+        third: Stretch {
+            start: 65,
+            width: 22,
+        },
+        fourth: Stretch { start: 0, width: 0 },
     }
 }

@@ -1,6 +1,7 @@
 // What the library keeps of a document. Names, numbers and codes are characters; places past a length are fillers.
 ghost use mathlib.Core.Path.{_≡_};
 ghost use Rattle.zone.specs.Record.{blank, trimmedLength};
+use crate::alphabet::FILLER;
 use crate::form::Form;
 
 pub struct Record {
@@ -24,15 +25,15 @@ impl Record {
     {
         Record {
             form: Form::Td1,
-            code: [60; 2],
-            state: [60; 3],
-            number: [60; Form::NUMBER],
+            code: [FILLER; 2],
+            state: [FILLER; 3],
+            number: [FILLER; Form::NUMBER],
             number_len: 0,
-            nationality: [60; 3],
-            birth: [60; 6],
-            sex: 60,
-            expiry: [60; 6],
-            name: [60; Form::NAME],
+            nationality: [FILLER; 3],
+            birth: [FILLER; 6],
+            sex: FILLER,
+            expiry: [FILLER; 6],
+            name: [FILLER; Form::NAME],
             name_len: 0,
         }
     }
@@ -45,7 +46,7 @@ pub fn trimmed_length(s: &[u8]) -> usize
     let mut n = 0;
     let mut i = 0;
     while i < s.len() {
-        if s[i] != 60 {
+        if s[i] != FILLER {
             n = i + 1;
         }
         i += 1;

@@ -1,6 +1,8 @@
 //! Ranges that are lent to a call, each between guard octets, and what has changed in and around them afterwards.
 
+use crate::fence::Pages;
 use crate::seeds::Seeds;
+use std::ops::{Deref, DerefMut};
 
 /// Guard octets before and after each range: more than a block, so that a block written at a wrong place is seen.
 const GUARD: usize = 128;
@@ -8,11 +10,27 @@ const GUARD: usize = 128;
 const ALIGNMENT: usize = 64;
 
 pub struct Lent {
-    octets: Vec<u8>,
+    octets: Held,
     before: Vec<u8>,
     start: usize,
     length: usize,
     absent: bool,
+}
+
+enum Held {
+    Guarded(Vec<u8>),
+    Fenced(Pages),
+}
+
+/// Which end of a range lies at a fence. The other has guard octets.
+#[derive(Clone, Copy)]
+pub enum Side {
+    Start,
+    End,
+}
+
+impl Side {
+    pub const BOTH: [Side; 2] = [Side::Start, Side::End];
 }
 
 impl Lent {
@@ -26,8 +44,24 @@ impl Lent {
         let start = GUARD + (ALIGNMENT - first % ALIGNMENT) % ALIGNMENT + shift % ALIGNMENT;
         octets.resize(start - GUARD, 0);
         octets.extend([&guards[..GUARD], content, &guards[GUARD..]].concat());
-        let before = octets.clone();
-        Lent { octets, before, start, length: content.len(), absent: false }
+        Lent::of(Held::Guarded(octets), start, content.len())
+    }
+
+    /// The content with one of its ends at a page that may not be touched.
+    pub fn fenced(content: &[u8], side: Side) -> Lent {
+        let mut pages = Pages::new(content.len());
+        let start = match side {
+            Side::Start => 0,
+            Side::End => pages.len() - content.len(),
+        };
+        pages.fill(0x5a);
+        pages[start..start + content.len()].copy_from_slice(content);
+        Lent::of(Held::Fenced(pages), start, content.len())
+    }
+
+    fn of(octets: Held, start: usize, length: usize) -> Lent {
+        let before = octets.to_vec();
+        Lent { octets, before, start, length, absent: false }
     }
 
     /// An empty range whose pointer is null, as a C host may have it. It must not be read.
@@ -66,6 +100,25 @@ impl Lent {
     }
 }
 
+impl Deref for Held {
+    type Target = [u8];
+    fn deref(&self) -> &[u8] {
+        match self {
+            Held::Guarded(octets) => octets,
+            Held::Fenced(pages) => pages,
+        }
+    }
+}
+
+impl DerefMut for Held {
+    fn deref_mut(&mut self) -> &mut [u8] {
+        match self {
+            Held::Guarded(octets) => octets,
+            Held::Fenced(pages) => pages,
+        }
+    }
+}
+
 #[cfg(test)]
 mod tests {
     use super::*;
@@ -90,5 +143,17 @@ mod tests {
             lent.octets[at] ^= 1;
         }
         assert_eq!(lent.changed(0), None);
+    }
+
+    #[test]
+    fn a_fenced_range_ends_at_its_page() {
+        for length in [0, 1, 4_095, 4_096, 4_097, 65_536] {
+            let content = vec![7; length];
+            let mut first = Lent::fenced(&content, Side::Start);
+            assert_eq!(first.pointer() as usize % 4_096, 0);
+            let mut last = Lent::fenced(&content, Side::End);
+            assert_eq!((last.pointer() as usize + length) % 4_096, 0);
+            assert_eq!((first.content(), last.content()), (&content[..], &content[..]));
+        }
     }
 }

@@ -3,6 +3,7 @@
 
 pub mod border;
 pub mod cases;
+pub mod fence;
 pub mod guard;
 pub mod judge;
 pub mod paper;

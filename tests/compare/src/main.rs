@@ -4,7 +4,7 @@
 //!
 //! The last line is `N passed, M failed`, and the exit status is 0 only where nothing failed.
 
-use compare::cases;
+use compare::{cases, fence};
 use std::process::ExitCode;
 
 /// The seed where none is given: every run of the gate tries the same cases.
@@ -19,6 +19,7 @@ fn main() -> ExitCode {
             return ExitCode::from(2);
         }
     };
+    fence::watch();
     let counts = counts(seed);
     let passed: u64 = counts.iter().map(|(passed, _)| passed).sum();
     let failed: u64 = counts.iter().map(|(_, failed)| failed).sum();
@@ -30,5 +31,11 @@ fn main() -> ExitCode {
 fn counts(seed: u64) -> Vec<(u64, u64)> {
     vec![
         cases::digest::compare(seed).close(),
+        #[cfg(feature = "records")]
+        cases::read_text::compare(seed).close(),
+        #[cfg(feature = "records")]
+        cases::write_text::compare(seed).close(),
+        #[cfg(feature = "records")]
+        cases::next_entry::compare(seed).close(),
     ]
 }

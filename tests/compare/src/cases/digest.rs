@@ -2,7 +2,8 @@
 
 use crate::border;
 use crate::cases::vectors;
-use crate::guard::Lent;
+use crate::fence;
+use crate::guard::{Lent, Side};
 use crate::judge::differences;
 use crate::paper::{calls, Answer, Outcome};
 use crate::report::{hex, Tally};
@@ -26,6 +27,7 @@ pub fn compare(seed: u64) -> Tally {
     run.output_lengths();
     run.starts();
     run.empty_ranges();
+    run.fenced();
     run.random();
     run.threads();
     run.tally
@@ -100,13 +102,24 @@ impl Run {
     fn empty_ranges(&mut self) {
         for room in [0, 31, 32, 40] {
             let output = Lent::new(&self.seeds.octets(room), 0);
-            self.held_to_paper(Lent::absent(), output);
+            self.watched(Lent::absent(), output);
         }
         for length in [0, 3, 65_535, 65_536] {
             let input = Lent::new(&self.seeds.octets(length), 0);
-            self.held_to_paper(input, Lent::absent());
+            self.watched(input, Lent::absent());
         }
-        self.held_to_paper(Lent::absent(), Lent::absent());
+        self.watched(Lent::absent(), Lent::absent());
+    }
+
+    /// Nothing is read past either end of the input, nor the pointer of an empty one.
+    fn fenced(&mut self) {
+        for length in (0..=130).chain([1_000, 4_096, 65_535, 65_536]) {
+            for (side, room) in Side::BOTH.into_iter().flat_map(|side| [0, 31, 32, 33].map(|room| (side, room))) {
+                let input = Lent::fenced(&self.seeds.octets(length), side);
+                let output = Lent::fenced(&self.seeds.octets(room), side);
+                self.watched(input, output);
+            }
+        }
     }
 
     fn random(&mut self) {
@@ -133,6 +146,10 @@ impl Run {
     /// One case, its ranges at starts of the seed's choice.
     fn case(&mut self, input: &[u8], room: usize) {
         self.tally.case(drawn(&mut self.seeds, input, room));
+    }
+
+    fn watched(&mut self, input: Lent, output: Lent) {
+        fence::during(about(&input, &output), || self.held_to_paper(input, output));
     }
 
     fn held_to_paper(&mut self, input: Lent, output: Lent) {
@@ -167,9 +184,12 @@ fn held(expected: &Outcome, mut input: Lent, mut output: Lent) -> Vec<String> {
     let given = border::digest(&mut input, &mut output);
     let mut lines = differences(expected, given, &[&input], Some(&output));
     if !lines.is_empty() {
-        let (octets, room) = (input.content_before(), output.length());
-        lines.insert(0, format!("{} octets of input, {room} of output", octets.len()));
-        lines.insert(1, format!("input:    {}", hex(octets)));
+        lines.splice(0..0, about(&input, &output));
     }
     lines
+}
+
+fn about(input: &Lent, output: &Lent) -> Vec<String> {
+    let octets = input.content_before();
+    vec![format!("digest of {} octets into {}", octets.len(), output.length()), format!("input:    {}", hex(octets))]
 }

@@ -1,7 +1,12 @@
 //! What the papers say, in plain Rust and for reading rather than for proving.
 
 pub mod calls;
+pub mod entry;
+pub mod field;
+pub mod form;
+pub mod record;
 pub mod sha256;
+pub mod text;
 
 /// An answer as it passes to C: 0 and a length or an offset, or a refusal's number and its place.
 #[repr(C)]

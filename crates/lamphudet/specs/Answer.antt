@@ -1,9 +1,9 @@
 -- The answer that C receives: a number and a value (document 01, "What the server lends and gets": plain calls on numbers and byte ranges).
 use Prim.Native.Nat.{ℕ}
 use Rattle.refusal.specs.Length.{Length, written, refused}
-use Rattle.lamphudet.specs.declared.Told.{Told}
+use Rattle.lamphudet.specs.declared.Answer.{Answer}
 
 -- 0 and how many octets were written, or the refusal's number and its place
-unfoldable pub toldBy : Length → Told
-toldBy (written n) = record { number = 0; value = n }
-toldBy (refused number place) = record { number = number; value = place }
+unfoldable pub inC : Length → Answer
+inC (written n) = record { number = 0; value = n }
+inC (refused number place) = record { number = number; value = place }

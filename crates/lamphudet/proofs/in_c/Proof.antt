@@ -1,8 +1,8 @@
--- The two cases of `toldBy`.
+-- The two cases of `inC`.
 use borrow.Author.Needs.{needs}
-use Rattle.lamphudet.specs.Told.{toldBy}
-use Rattle.lamphudet.proofs.told_of.Statement.{statement}
-use Rattle.lamphudet.proofs.told_of.Tie as tie
+use Rattle.lamphudet.specs.Answer.{inC}
+use Rattle.lamphudet.proofs.in_c.Statement.{statement}
+use Rattle.lamphudet.proofs.in_c.Tie as tie
 
 enum-known-answer : tie.Need-enum-known-answer
 enum-known-answer c = search needs
@@ -14,13 +14,13 @@ number-requires : tie.Need-number-requires
 number-requires c κs = search needs
 
 returns : tie.Need-returns
-unfolding toldBy
+unfolding inC
 returns c = rw (c .before .answer .given .1)
 
 returns-2 : tie.Need-returns-2
-unfolding toldBy
+unfolding inC
 returns-2 c = rw (c .number .ensures, c .before .before .answer2 .given .1)
 
-pub told-of-spec : {M : Type 1} → statement M
-told-of-spec =
+pub in-c-spec : {M : Type 1} → statement M
+in-c-spec =
     tie.close (tie.spec enum-known-answer enum-known-answer-2 number-requires returns returns-2)

@@ -1,0 +1,14 @@
+-- The starts that the layout's widths add up to.
+use borrow.Author.Needs.{needs}
+use mathlib.Core.Path.{refl}
+use Rattle.zone.specs.Form.{placesOf, layout, start, startIn}
+use Rattle.zone.specs.Part.{rank, same}
+use Rattle.zone.proofs.form.td1_places.Statement.{statement}
+use Rattle.zone.proofs.form.td1_places.Tie as tie
+
+returns : tie.Need-returns
+unfolding placesOf layout start startIn rank same
+returns c = refl
+
+pub td1-places-spec : {M : Type 1} → statement M
+td1-places-spec = tie.close (tie.spec returns)

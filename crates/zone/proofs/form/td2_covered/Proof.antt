@@ -1,0 +1,13 @@
+-- The stretches that the paper gives as places of lines.
+use borrow.Author.Needs.{needs}
+use mathlib.Core.Path.{refl}
+use Rattle.zone.specs.Form.{coveredOf, stretchAt, stretches, stretchOf, covers, line}
+use Rattle.zone.proofs.form.td2_covered.Statement.{statement}
+use Rattle.zone.proofs.form.td2_covered.Tie as tie
+
+returns : tie.Need-returns
+unfolding coveredOf stretchAt stretches stretchOf covers line
+returns c = refl
+
+pub td2-covered-spec : {M : Type 1} → statement M
+td2-covered-spec = tie.close (tie.spec returns)

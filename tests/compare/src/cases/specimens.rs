@@ -1,0 +1,28 @@
+//! Texts that are printed in the papers: the specimens of Doc 9303 parts 4 to 6, and T3 of document 01.
+
+pub const T3: &str = "P<UTONORD<<ELIN<<<<<<<<<<<<<<<<<<<<<<<<<<<<<\
+                      K7<<<<<<<1UTO9001158F3006302<<<<<<<<<<<<<<00";
+
+/// Doc 9303-4, appendix A: a passport, with a personal number.
+pub const ERIKSSON_TD3: &str = "P<UTOERIKSSON<<ANNA<MARIA<<<<<<<<<<<<<<<<<<<\
+                                L898902C36UTO7408122F1204159ZE184226B<<<<<10";
+
+/// Doc 9303-5, appendix A.
+pub const ERIKSSON_TD1: &str = "I<UTOD231458907<<<<<<<<<<<<<<<\
+                                7408122F1204159UTO<<<<<<<<<<<6\
+                                ERIKSSON<<ANNA<MARIA<<<<<<<<<<";
+
+/// Doc 9303-6, appendix A.
+pub const ERIKSSON_TD2: &str = "I<UTOERIKSSON<<ANNA<MARIA<<<<<<<<<<<\
+                                D231458907UTO7408122F1204159<<<<<<<6";
+
+/// Doc 9303-5: the number D23145890734, longer than its field.
+pub const LONG_TD1: &str = "I<UTOD23145890<7349<<<<<<<<<<<\
+                            3407127M9507122UTO<<<<<<<<<<<2\
+                            STEVENSON<<PETER<JOHN<<<<<<<<<";
+
+/// Doc 9303-6: the same number in TD2.
+pub const LONG_TD2: &str = "I<UTOSTEVENSON<<PETER<JOHN<<<<<<<<<<\
+                            D23145890<UTO3407127M95071227349<<<8";
+
+pub const ALL: [&str; 6] = [T3, ERIKSSON_TD3, ERIKSSON_TD1, ERIKSSON_TD2, LONG_TD1, LONG_TD2];
