@@ -12,7 +12,7 @@ use Rattle.zone.specs.Alphabet.{isFiller, isLetter, first, firstFiller}
 use Rattle.zone.specs.Record.{trimmedLength, trimmed, padded}
 use Rattle.zone.proofs.Classes.{letter-range}
 use Rattle.field.specs.Letters.{every}
-use Rattle.text.specs.Sound.{isSolid}
+use Rattle.sound.specs.Sound.{isSolid}
 use Rattle.demands.proofs.Span.{false-not-true}
 
 -- ---- trailing fillers

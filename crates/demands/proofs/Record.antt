@@ -26,7 +26,7 @@ use Rattle.text.specs.declared.number.Span.the-variants.{Short, Long, Bad}
 use Rattle.text.specs.Number.{isLong, spanOf, numberBy}
 use Rattle.text.specs.Order.{verdictBy}
 use Rattle.text.specs.Read.{readText, answered, recordBy}
-use Rattle.text.specs.Sound.{isShaped, isHeld, isSolid, isNumber, isSound}
+use Rattle.sound.specs.Sound.{isShaped, isHeld, isSolid, isNumber, isDocument, isHolder, isSound}
 use Rattle.demands.specs.Accepted.{Keeps, filler}
 use Rattle.demands.specs.Held.{Holds}
 use Rattle.demands.proofs.Form.{by-told}
@@ -228,17 +228,18 @@ module _ (f : Form) (t : List ℕ) (k : Keeps f t) where
       (rw (padded-trimmed 39 s, first-padded 39 s long some, both .0) (every-padded isNameCharacter 39 s long filler-in-name (both .1)))
 
   pub sound : isSound (recordBy f t (spanOf f t)) ≡ true
-  unfolding isSound recordBy
+  unfolding isSound isDocument isHolder recordBy
   sound =
       both-and shaped
+      (both-and
       (both-and (ap (codeRule f) (exact code 2 (fixed f .code-width)) ∙ k .code-kept)
       (both-and (ap stateRule (exact state 3 (fixed f .state-width)) ∙ k .state-kept)
-      (both-and number-sound
+      number-sound))
       (both-and (ap stateRule (exact nationality 3 (fixed f .nationality-width)) ∙ k .nationality-kept)
       (both-and (ap birthRule (exact birth 6 (fixed f .birth-width)) ∙ k .birth-kept)
       (both-and (k .sex-kept)
       (both-and (ap expiryRule (exact expiry 6 (fixed f .expiry-width)) ∙ k .expiry-kept)
-      name-sound)))))))
+      name-sound)))))
 
 pub kept-and-sound : (t : List ℕ) → readText t .outcome ≡ passed → (f : Form) × Keeps f t × Holds f t (readText t .kept) × (isSound (readText t .kept) ≡ true)
 unfolding answered

@@ -2,6 +2,8 @@
 ghost use mathlib.Core.Path.{_≡_};
 ghost use Rattle.digit.specs.Check.{value, weight, digitOf, Tally·over, Tally·digit};
 
+pub mod composite;
+
 // What a character counts.
 pub fn value(c: u8) -> usize
     ensures { λ r. ⌜ r ≡ value c ⌝ }

@@ -6,7 +6,7 @@ use Prim.Native.Nat.{ℕ, zero, suc, _+_, _-_, _≤_, _<_}
 use native.Mathlib.Nat.{zero-add, add-sub-cancel-left}
 use native.Mathlib.Numerals.{add-one}
 use native.Mathlib.Omega.{arith}
-use lib.ListN.{length, take, drop, getD, set, length-drop, drop-of-length-le, take-append-drop}
+use lib.ListN.{length, take, drop, getD, set, length-drop, drop-of-length-le, take-append-drop, replicate}
 use Rattle.lent.specs.Copied.{copied, copiedAt}
 use lib.Seq.{drop-nil, take-all, paste, paste-suc, take-length, drop-length}
 
@@ -54,3 +54,9 @@ copy-into to at from back e =
     let k : length (drop at to) ≤ length to - at = rw length-drop (omega arith) in
     let w : take (length to - at) (drop at to) ≡ drop at to = take-all (length to - at) (drop at to) k in
     rw (e, w, drop-of-length-le (drop at to) k, append-nil)
+
+-- a range filled to its end
+pub fill-ends : (to : List ℕ) (c i : ℕ) → length to ≤ i → i ≤ length to → replicate i c ++ drop i to ≡ replicate (length to) c
+fill-ends to c i h k =
+    let e : i ≡ length to = omega arith in
+    rw (e, drop-length to, append-nil)

@@ -1,6 +1,6 @@
 // Lent octets, read and filled without a condition: whatever is asked for past the end is simply not there.
 ghost use mathlib.Core.Path.{_≡_};
-ghost use lib.ListN.{length, take, drop, getD};
+ghost use lib.ListN.{length, take, drop, getD, set, replicate};
 ghost use Rattle.lent.specs.Copied.{copied, copiedAt};
 
 // The octet at a place, 0 past the end.
@@ -44,5 +44,25 @@ pub fn copy_at(to: &mut [u8], at: usize, from: &[u8])
 {
     if at <= to.len() {
         copy(&mut to[at..], from);
+    }
+}
+
+// One octet of a range becomes another. Past the end there is nothing to change.
+pub fn put(to: &mut [u8], at: usize, c: u8)
+    ensures { λ _. ⌜ now (to .exit) ≡ set (now (to .entry)) at c ⌝ }
+{
+    if at < to.len() {
+        to[at] = c;
+    }
+}
+
+// Every octet of a range becomes the same.
+pub fn fill(to: &mut [u8], c: u8)
+    ensures { λ _. ⌜ now (to .exit) ≡ replicate (length (now (to .entry))) c ⌝ }
+{
+    let mut i = 0;
+    while i < to.len() {
+        to[i] = c;
+        i += 1;
     }
 }

@@ -1,4 +1,3 @@
 pub mod Number
 pub mod Order
 pub mod Read
-pub mod Sound

@@ -6,16 +6,16 @@ ghost use lib.ListN.{take};
 ghost use mathlib.Core.List.{_++_};
 ghost use Prim.Native.Nat.{_+_};
 ghost use Rattle.refusal.specs.Outcome.{outcomeOf, passed, orElse};
-ghost use Rattle.zone.specs.Form.{parts, start, width, field, cut, covered};
+ghost use Rattle.zone.specs.Form.{parts, start, width, field, covered};
 ghost use Rattle.zone.specs.Part.{number, optional, birth, birthCheck, expiry, expiryCheck, personal, personalCheck, composite};
-ghost use Rattle.digit.specs.Check.{digitOf, Tally·over};
+ghost use Rattle.digit.specs.Check.{digitOf};
 ghost use Rattle.text.specs.Order.{digitAt, numberDigit, furtherDigit, digitCheck, inOrder};
 use crate::number::Span;
 use digit::Tally;
+use digit::composite::covered_digit;
 use refusal::Cause;
 use refusal::Verdict;
 use zone::form::Form;
-use zone::form::Stretch;
 
 // Whether a place holds the check digit of a field.
 fn digit_at<'a>(text: &'a [u8], place: usize, covers: &'a [u8]) -> Verdict
@@ -62,24 +62,6 @@ fn personal_digit(form: Form, text: &[u8]) -> Verdict
     } else {
         Verdict::Passed
     }
-}
-
-// A sum goes on over a stretch of the text.
-fn over_stretch(tally: Tally, text: &[u8], s: Stretch) -> Tally
-    ensures { λ r. ⌜ r ≡ Tally·over tally (cut (now (text .entry)) s) ⌝ }
-{
-    tally.over(lent::part(text, s.start, s.width))
-}
-
-// The digit of everything that the composite covers.
-fn covered_digit(form: Form, text: &[u8]) -> u8
-    ensures { λ r. ⌜ r ≡ digitOf (covered form (now (text .entry))) ⌝ }
-{
-    let covers = form.covered();
-    let one = over_stretch(Tally::new(), text, covers.first);
-    let two = over_stretch(one, text, covers.second);
-    let three = over_stretch(two, text, covers.third);
-    over_stretch(three, text, covers.fourth).digit()
 }
 
 fn composite_digit(form: Form, text: &[u8]) -> Verdict

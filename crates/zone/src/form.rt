@@ -1,7 +1,7 @@
 // The three forms of document 01, "The text": which length tells which, and where everything stands in each. A form is a row of
 // constants here; what reads and writes a text goes by these and by nothing else of the form.
 ghost use mathlib.Core.Path.{_≡_};
-ghost use Rattle.zone.specs.Form.{formOf, placesOf, coveredOf, width, longest};
+ghost use Rattle.zone.specs.Form.{formOf, placesOf, coveredOf, width, longest, total};
 ghost use Rattle.zone.specs.Part.{name, optional, personal};
 
 pub enum Form {
@@ -83,6 +83,16 @@ impl Form {
             72 => Told::As(Form::Td2),
             88 => Told::As(Form::Td3),
             _ => Told::Unknown,
+        }
+    }
+
+    pub fn text_length(self) -> usize
+        ensures { λ r. ⌜ r ≡ total self ⌝ }
+    {
+        match self {
+            Form::Td1 => 90,
+            Form::Td2 => 72,
+            Form::Td3 => 88,
         }
     }
 

@@ -4,9 +4,9 @@ use denote.Ref.{now}
 use mathlib.Core.List.{_++_}
 use Rattle.zone.specs.Form.{cut, coveredOf}
 use Rattle.zone.proofs.Covers.{covered-four}
 use Rattle.digit.proofs.Sums.{over-over, over-digit}
-use Rattle.text.proofs.digits.covered_digit.Statement.{statement}
-use Rattle.text.proofs.digits.covered_digit.Tie as tie
+use Rattle.digit.proofs.composite.covered_digit.Statement.{statement}
+use Rattle.digit.proofs.composite.covered_digit.Tie as tie
 
 covered-requires : tie.Need-covered-requires
 covered-requires c κs = search needs

@@ -31,14 +31,21 @@ isSolid c = not (isFiller c)
 unfoldable pub isNumber : List ℕ → ℕ → Bool
 isNumber s n = every isCharacter s && (isSolid (getD s 0 0) && every isSolid (drop 9 (take n s)))
 
-unfoldable pub isSound : Record → Bool
-isSound r =
-    isShaped r
-    && (codeRule (r .form) (r .code)
+-- what stands for the document: code, issuing state and number keep their rules
+unfoldable pub isDocument : Record → Bool
+isDocument r =
+    codeRule (r .form) (r .code)
     && (stateRule (r .state)
-    && ((isHeld (longest (r .form)) (r .number) (r .«number_len») && isNumber (r .number) (r .«number_len»))
-    && (stateRule (r .nationality)
+    && (isHeld (longest (r .form)) (r .number) (r .«number_len») && isNumber (r .number) (r .«number_len»)))
+
+-- and what stands for its holder
+unfoldable pub isHolder : Record → Bool
+isHolder r =
+    stateRule (r .nationality)
     && (birthRule (r .birth)
     && (sexRule (r .sex)
     && (expiryRule (r .expiry)
-    && (isHeld (width (r .form) name) (r .name) (r .«name_len») && nameRule (r .name)))))))))
+    && (isHeld (width (r .form) name) (r .name) (r .«name_len») && nameRule (r .name)))))
+
+unfoldable pub isSound : Record → Bool
+isSound r = isShaped r && (isDocument r && isHolder r)

@@ -1,8 +1,8 @@
 -- One call on the stretch.
 use borrow.Author.Needs.{needs}
 use Rattle.zone.specs.Form.{cut}
-use Rattle.text.proofs.digits.over_stretch.Statement.{statement}
-use Rattle.text.proofs.digits.over_stretch.Tie as tie
+use Rattle.digit.proofs.composite.over_stretch.Statement.{statement}
+use Rattle.digit.proofs.composite.over_stretch.Tie as tie
 
 part-requires : tie.Need-part-requires
 part-requires c κs = search needs

@@ -1,0 +1,62 @@
+-- A store at i makes one more octet the same.
+use Prim.Native.Nat.{_≤_, _<_, _-_, _+_}
+use mathlib.Core.Path.{_≡_, ap, _∙_, refl}
+use mathlib.Core.List.{_++_}
+use lib.ListN.{length, drop, set, replicate, length-set}
+use native.Mathlib.Omega.{arith}
+use borrow.Author.Needs.{needs}
+use borrow.Author.Fill.{fill-more}
+use Rattle.lent.proofs.Lists.{fill-ends}
+use Rattle.lent.proofs.fill.Statement.{statement}
+use Rattle.lent.proofs.fill.Tie as tie
+
+abbrev Inv-loop : tie.InvT-loop
+Inv-loop to₀ c i₀ to i = (i ≤ length to₀) × (length to ≡ length to₀) × (to ≡ replicate i c ++ drop i to₀)
+
+abbrev μ-loop : tie.MeasureT-loop
+μ-loop to₀ c i₀ to i = length to₀ - i
+
+loop-holds : tie.Need-loop-holds Inv-loop μ-loop
+loop-holds c = (search needs, refl, refl)
+
+slice-write-to : tie.Need-slice-write-to Inv-loop μ-loop
+slice-write-to c = search needs
+
+add-i : tie.Need-add-i Inv-loop μ-loop
+add-i c = search needs
+
+loop-less : tie.Need-loop-less Inv-loop μ-loop
+loop-less c = search needs
+
+loop-again : tie.Need-loop-again Inv-loop μ-loop
+loop-again c =
+    let a = c .before .before .args in
+    let l = c .before .loop in
+    let h : l .i < length (a .to .now) = omega arith in (
+      search needs,
+      simp length-set (search needs),
+      ap (λ s. set s (l .i) (a .c)) (l .inv .2) ∙ fill-more (l .i) (a .c) (a .to .now) h,
+    )
+
+same-length : tie.Need-same-length Inv-loop μ-loop
+same-length c = search needs
+
+returns : tie.Need-returns Inv-loop μ-loop
+returns c =
+    let a = c .before .before .args in
+    let l = c .before .loop in
+    l .inv .2 ∙ fill-ends (a .to .now) (a .c) (l .i) (omega (arith, c .loop-test .left, l .inv .0, l .inv .1)) (l .inv .0)
+
+pub fill-spec : {M : Type 1} → statement M
+fill-spec =
+    tie.close
+    (tie.spec
+    Inv-loop
+    μ-loop
+    loop-holds
+    slice-write-to
+    add-i
+    loop-less
+    loop-again
+    same-length
+    returns)

@@ -1,0 +1,55 @@
+-- Each call puts its part.
+use borrow.Author.Needs.{needs}
+use Rattle.writing.specs.Text.{put, mark, numberIn, furtherIn, putLong}
+use Rattle.zone.specs.Form.{placesOf}
+use Rattle.zone.proofs.Widths.{fixed, within, total-le}
+use native.Mathlib.Omega.{arith}
+use Rattle.zone.specs.Part.{optional}
+use Rattle.writing.proofs.number.put_long.Statement.{statement}
+use Rattle.writing.proofs.number.put_long.Tie as tie
+
+places-requires : tie.Need-places-requires
+places-requires c κs = search needs
+
+put-nine-requires : tie.Need-put-nine-requires
+put-nine-requires c κs = search needs
+
+put-requires : tie.Need-put-requires
+put-requires c κs = search needs
+
+optional-width-requires : tie.Need-optional-width-requires
+optional-width-requires c κs = search needs
+
+put-further-requires : tie.Need-put-further-requires
+unfolding placesOf
+put-further-requires c κs =
+    let f = c .before .before .before .before .before .before .before .before .before .before .before .before .before .args .r .form in
+    rw (c .before .before .before .before .before .before .before .before .before .before .before .places .ensures)
+    (omega (arith, within f optional, total-le f))
+
+same-length : tie.Need-same-length
+same-length c = search needs
+
+returns : tie.Need-returns
+unfolding putLong put mark numberIn furtherIn placesOf
+returns c =
+    rw (
+      c .before .before .put-further .ensures,
+      c .before .before .before .optional-width .ensures,
+      c .before .before .before .before .before .before .before .put .ensures,
+      c .before .before .before .before .before .before .before .before .before .before .before .put-nine .ensures,
+      c .before .before .before .before .before .before .before .before .before .before .before .before .before .before .places .ensures,
+      fixed (c .before .before .before .before .before .before .before .before .before .before .before .before .before .before .before .before .args .r .form) .number-width,
+    )
+
+pub put-long-spec : {M : Type 1} → statement M
+put-long-spec =
+    tie.close
+    (tie.spec
+    places-requires
+    put-nine-requires
+    put-requires
+    optional-width-requires
+    put-further-requires
+    same-length
+    returns)

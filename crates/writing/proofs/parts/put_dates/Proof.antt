@@ -1,0 +1,34 @@
+-- Each call puts its part.
+use borrow.Author.Needs.{needs}
+use Rattle.writing.specs.Text.{put, mark, putDates}
+use Rattle.zone.specs.Form.{placesOf}
+use Rattle.zone.proofs.Widths.{fixed}
+use Rattle.writing.proofs.parts.put_dates.Statement.{statement}
+use Rattle.writing.proofs.parts.put_dates.Tie as tie
+
+places-requires : tie.Need-places-requires
+places-requires c κs = search needs
+
+put-date-requires : tie.Need-put-date-requires
+put-date-requires c κs = search needs
+
+put-date-requires-2 : tie.Need-put-date-requires-2
+put-date-requires-2 c κs = search needs
+
+same-length : tie.Need-same-length
+same-length c = search needs
+
+returns : tie.Need-returns
+unfolding putDates put mark placesOf
+returns c =
+    rw (
+      c .before .before .put-date2 .ensures,
+      c .before .before .before .before .before .before .put-date .ensures,
+      c .before .before .before .before .before .before .before .before .before .before .places .ensures,
+      fixed (c .before .before .before .before .before .before .before .before .before .before .before .before .args .r .form) .expiry-width,
+      fixed (c .before .before .before .before .before .before .before .before .before .before .before .before .args .r .form) .birth-width,
+    )
+
+pub put-dates-spec : {M : Type 1} → statement M
+put-dates-spec =
+    tie.close (tie.spec places-requires put-date-requires put-date-requires-2 same-length returns)

@@ -1,0 +1,34 @@
+-- Each call puts its part.
+use borrow.Author.Needs.{needs}
+use Rattle.writing.specs.Text.{put, putOpening}
+use Rattle.zone.specs.Form.{placesOf}
+use Rattle.zone.proofs.Widths.{fixed}
+use Rattle.writing.proofs.parts.put_opening.Statement.{statement}
+use Rattle.writing.proofs.parts.put_opening.Tie as tie
+
+places-requires : tie.Need-places-requires
+places-requires c κs = search needs
+
+put-two-requires : tie.Need-put-two-requires
+put-two-requires c κs = search needs
+
+put-three-requires : tie.Need-put-three-requires
+put-three-requires c κs = search needs
+
+same-length : tie.Need-same-length
+same-length c = search needs
+
+returns : tie.Need-returns
+unfolding putOpening put placesOf
+returns c =
+    rw (
+      c .before .before .put-three .ensures,
+      c .before .before .before .before .before .before .put-two .ensures,
+      c .before .before .before .before .before .before .before .before .before .before .places .ensures,
+      fixed (c .before .before .before .before .before .before .before .before .before .before .before .before .args .r .form) .state-width,
+      fixed (c .before .before .before .before .before .before .before .before .before .before .before .before .args .r .form) .code-width,
+    )
+
+pub put-opening-spec : {M : Type 1} → statement M
+put-opening-spec =
+    tie.close (tie.spec places-requires put-two-requires put-three-requires same-length returns)

@@ -1,0 +1,57 @@
+// The parts of a text around its number, in the places of the record's form.
+ghost use mathlib.Core.Path.{_≡_};
+ghost use Rattle.writing.specs.Text.{putOpening, putDates, putPerson, putLast};
+use crate::fields::put_date;
+use crate::fields::put_name;
+use crate::fields::put_three;
+use crate::fields::put_two;
+use digit::composite::covered_digit;
+use zone::record::Record;
+
+// Code and issuing state.
+pub fn put_opening(text: &mut [u8], r: Record)
+    ensures { λ _. ⌜ now (text .exit) ≡ putOpening r (now (text .entry)) ⌝ }
+{
+    let form = r.form;
+    let at = form.places();
+    let code = r.code;
+    let state = r.state;
+    put_two(text, at.code, code);
+    put_three(text, at.state, state);
+}
+
+// Birth and expiry, each with its check digit.
+pub fn put_dates(text: &mut [u8], r: Record)
+    ensures { λ _. ⌜ now (text .exit) ≡ putDates r (now (text .entry)) ⌝ }
+{
+    let form = r.form;
+    let at = form.places();
+    let birth = r.birth;
+    let expiry = r.expiry;
+    put_date(text, at.birth, at.birth_check, birth);
+    put_date(text, at.expiry, at.expiry_check, expiry);
+}
+
+// Nationality, sex and name.
+pub fn put_person(text: &mut [u8], r: Record)
+    ensures { λ _. ⌜ now (text .exit) ≡ putPerson r (now (text .entry)) ⌝ }
+{
+    let form = r.form;
+    let at = form.places();
+    let nationality = r.nationality;
+    let name = r.name;
+    put_three(text, at.nationality, nationality);
+    lent::put(text, at.sex, r.sex);
+    put_name(text, at.name, form.name_width(), name);
+}
+
+// The personal check, where the form has one, and the composite digit, which covers all the rest.
+pub fn put_last(text: &mut [u8], r: Record)
+    ensures { λ _. ⌜ now (text .exit) ≡ putLast r (now (text .entry)) ⌝ }
+{
+    let form = r.form;
+    let at = form.places();
+    lent::put(text, at.personal_check, 48);
+    let d = covered_digit(form, text);
+    lent::put(text, at.composite, d);
+}

@@ -1,0 +1,21 @@
+// A whole text, into a range of its length.
+ghost use mathlib.Core.Path.{_≡_};
+ghost use Rattle.writing.specs.Text.{putAll};
+use crate::number::put_number;
+use crate::parts::put_dates;
+use crate::parts::put_last;
+use crate::parts::put_opening;
+use crate::parts::put_person;
+use zone::alphabet::FILLER;
+use zone::record::Record;
+
+pub fn put_all(text: &mut [u8], r: Record)
+    ensures { λ _. ⌜ now (text .exit) ≡ putAll r (now (text .entry)) ⌝ }
+{
+    lent::fill(text, FILLER);
+    put_opening(text, r);
+    put_number(text, r);
+    put_dates(text, r);
+    put_person(text, r);
+    put_last(text, r);
+}
