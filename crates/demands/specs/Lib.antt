@@ -2,3 +2,5 @@ pub mod Accepted
 pub mod Ordered
 pub mod Held
 pub mod Examples
+pub mod Runs
+pub mod Keys

@@ -1,0 +1,81 @@
+-- Laws of what is read: the characters by their codes, `charactersAt` and the field that it fills, and how far a whole entry reaches.
+use Prim.Native.Nat.{ℕ, zero, suc, _+_, _-_, _*_, _<_, _≤_}
+use mathlib.Core.Path.{_≡_, refl, ap, sym, _∙_}
+use mathlib.Core.Bool.{true}
+use mathlib.Core.List.{List, [], _∷_, _++_}
+use mathlib.Core.Logic.{_⊎_}
+use native.Mathlib.Nat.{zero-add}
+use native.Mathlib.Numerals.{unary-clauses}
+use native.Mathlib.Omega.{arith}
+use borrow.Author.Tests.{leb-true}
+use lib.Dec.{leb, eqb}
+use lib.ListN.{length, take, drop, getD, set, replicate, length-drop}
+use lib.Seq.{take-all}
+use Rattle.lent.specs.Copied.{copied}
+use Rattle.lent.proofs.Bools.{and-both}
+use Rattle.lent.proofs.Lists.{copy-more, copy-ends}
+use Rattle.zone.proofs.Padded.{copied-padded, padded-exact}
+use Rattle.entry.specs.Bits.{number}
+use Rattle.entry.specs.Codes.{characterOf}
+use Rattle.entry.specs.Entry.{size}
+use Rattle.entry.specs.Run.{charactersAt, nameLength, spare, isWhole}
+
+-- the table of k characters, from the n-th code on
+unfoldable pub byCode : (k n : ℕ) → List ℕ
+byCode zero n = []
+byCode (suc k) n = characterOf n ∷ byCode k (suc n)
+
+getD-byCode : (k n i : ℕ) → i < k → getD (byCode k n) i 0 ≡ characterOf (n + i)
+unfolding byCode
+getD-byCode zero n i h = absurd (omega arith)
+getD-byCode (suc k) n zero h = simp unary-clauses
+getD-byCode (suc k) n (suc i) h =
+    let e : suc n + i ≡ n + suc i = omega arith in
+    getD-byCode k (suc n) i (omega arith) ∙ ap characterOf e
+
+pub by-code : (code : ℕ) → code < 64 → getD (byCode 64 0) code 0 ≡ characterOf code
+by-code code h = getD-byCode 64 0 code h ∙ ap characterOf (zero-add code)
+
+pub length-characters : (s : List ℕ) (k n : ℕ) → length (charactersAt s k n) ≡ n
+unfolding charactersAt
+length-characters s k zero = refl
+length-characters s k (suc n) = ap suc (length-characters s (k + 6) n)
+
+pub getD-characters : (s : List ℕ) (k n i : ℕ) → i < n → getD (charactersAt s k n) i 0 ≡ characterOf (number s (k + 6 * i) 6)
+unfolding charactersAt
+getD-characters s k zero i h = absurd (omega arith)
+getD-characters s k (suc n) zero h = simp unary-clauses
+getD-characters s k (suc n) (suc i) h =
+    let e : k + 6 + 6 * i ≡ k + 6 * suc i = omega arith in
+    getD-characters s (k + 6) n i (omega arith) ∙ ap (λ (x : ℕ). characterOf (number s x 6)) e
+
+-- one more of them at the front of a range, and the end of either
+pub unpack-more : (to s : List ℕ) (k n i : ℕ) → i < length to → i < n
+    → set (take i (charactersAt s k n) ++ drop i to) i (characterOf (number s (k + 6 * i) 6))
+    ≡ take (i + 1) (charactersAt s k n) ++ drop (i + 1) to
+unpack-more to s k n i ht hn =
+    let h : i < length (charactersAt s k n) = rw (length-characters s k n) hn in
+    rw (← getD-characters s k n i hn) (copy-more to (charactersAt s k n) i ht h)
+
+pub unpack-ends : (to s : List ℕ) (k n i : ℕ) → i ≤ length to → i ≤ n → (n ≤ i) ⊎ (length to ≤ i)
+    → take i (charactersAt s k n) ++ drop i to ≡ copied to (charactersAt s k n)
+unpack-ends to s k n i ht hn e =
+    let h : i ≤ length (charactersAt s k n) = rw (length-characters s k n) hn in
+    let f : (length (charactersAt s k n) ≤ i) ⊎ (length to ≤ i) = rw (length-characters s k n) e in
+    copy-ends to (charactersAt s k n) i ht h f
+
+-- characters over as many fillers
+pub characters-fill : (s : List ℕ) (k n : ℕ) → copied (replicate n 60) (charactersAt s k n) ≡ charactersAt s k n
+characters-fill s k n = copied-padded n (charactersAt s k n) ∙ padded-exact n (charactersAt s k n) (length-characters s k n)
+
+-- what is left of a run from an offset on
+pub rest-of-run : (w : List ℕ) (at : ℕ) → take (length w - at) (drop at w) ≡ drop at w
+rest-of-run w at = take-all (length w - at) (drop at w) (rw length-drop (omega arith))
+
+-- an entry that is whole has all the bits of its name
+pub whole-reaches : (s : List ℕ) → isWhole s ≡ true → 278 + 6 * nameLength s ≤ 8 * length s
+unfolding isWhole size
+whole-reaches s e =
+    let n = nameLength s in
+    let h : size n ≤ length s = leb-true (size n) (length s) (and-both (leb (size n) (length s)) (eqb (number s (278 + 6 * n) (spare n)) 0) e .0) in
+    omega arith

@@ -1,0 +1,25 @@
+-- The number matched on is a code, or none.
+use borrow.Author.Needs.{needs}
+use borrow.Author.Tests.{ne-eqb}
+use Rattle.entry.specs.Codes.{sexBy}
+use Rattle.entry.proofs.characters.sex_by.Statement.{statement}
+use Rattle.entry.proofs.characters.sex_by.Tie as tie
+
+returns : tie.Need-returns
+unfolding sexBy
+returns c = rw (c .match .keys1)
+
+returns-2 : tie.Need-returns-2
+unfolding sexBy
+returns-2 c = rw (c .match .keys2)
+
+returns-3 : tie.Need-returns-3
+unfolding sexBy
+returns-3 c = rw (c .match .keys3)
+
+returns-4 : tie.Need-returns-4
+unfolding sexBy
+returns-4 c = let r = c .match .rest in simp (ne-eqb _ _ (r .1), ne-eqb _ _ (r .0 .1), ne-eqb _ _ (r .0 .0 .1))
+
+pub sex-by-spec : {M : Type 1} → statement M
+sex-by-spec = tie.close (tie.spec returns returns-2 returns-3 returns-4)

@@ -1,0 +1,62 @@
+-- House and whole first; what is left is the record.
+use borrow.Author.Needs.{needs}
+use mathlib.Core.Path.{sym, _∙_}
+use Rattle.entry.specs.Run.{houseIn, isEntry, entryBy}
+use Rattle.entry.proofs.run.entry_as.Statement.{statement}
+use Rattle.entry.proofs.run.entry_as.Tie as tie
+
+bits-requires : tie.Need-bits-requires
+bits-requires c κs = search needs
+
+name-length-requires : tie.Need-name-length-requires
+name-length-requires c κs = search needs
+
+is-house-requires : tie.Need-is-house-requires
+is-house-requires c κs = search needs
+
+is-whole-requires : tie.Need-is-whole-requires
+is-whole-requires c κs = search needs
+
+sound-entry-requires : tie.Need-sound-entry-requires
+unfolding houseIn
+sound-entry-requires c κs =
+    let house = sym (c .before .before .before .is-house .ensures) ∙ c .before .before .if1 .taken in
+    let whole = sym (c .before .is-whole .ensures) ∙ c .if2 .taken in
+    ((search needs, search needs, search needs), (c .before .before .before .before .before .bits .ensures, house, whole))
+
+no-entry-requires : tie.Need-no-entry-requires
+no-entry-requires c κs = search needs
+
+no-entry-requires-2 : tie.Need-no-entry-requires-2
+no-entry-requires-2 c κs = search needs
+
+returns : tie.Need-returns
+returns c = c .sound-entry .ensures
+
+returns-2 : tie.Need-returns-2
+unfolding houseIn isEntry entryBy
+returns-2 c =
+    let house = rw (c .before .before .before .before .before .before .bits .ensures) at (sym (c .before .before .before .before .is-house .ensures) ∙ c .before .before .before .if1 .taken) in
+    let cut = sym (c .before .before .is-whole .ensures) ∙ c .before .if2 .left in
+    rw (c .no-entry .ensures, house, cut)
+
+returns-3 : tie.Need-returns-3
+unfolding houseIn isEntry entryBy
+returns-3 c =
+    let house = rw (c .before .before .before .before .bits .ensures) at (sym (c .before .before .is-house .ensures) ∙ c .before .if1 .left) in
+    rw (c .no-entry2 .ensures, house)
+
+pub entry-as-spec : {M : Type 1} → statement M
+entry-as-spec =
+    tie.close
+    (tie.spec
+    bits-requires
+    name-length-requires
+    is-house-requires
+    is-whole-requires
+    sound-entry-requires
+    no-entry-requires
+    no-entry-requires-2
+    returns
+    returns-2
+    returns-3)

@@ -1,0 +1,49 @@
+-- By the form that the bits tell.
+use borrow.Author.Needs.{needs}
+use mathlib.Core.Path.{sym, _∙_}
+use Rattle.entry.specs.Run.{formIn, entryBy}
+use Rattle.entry.proofs.run.entry_at.Statement.{statement}
+use Rattle.entry.proofs.run.entry_at.Tie as tie
+
+bits-requires : tie.Need-bits-requires
+bits-requires c κs = search needs
+
+form-by-requires : tie.Need-form-by-requires
+form-by-requires c κs = search needs
+
+enum-known-told : tie.Need-enum-known-told
+enum-known-told c = search needs
+
+entry-as-requires : tie.Need-entry-as-requires
+entry-as-requires c κs = search needs
+
+enum-told : tie.Need-enum-told
+enum-told c = search needs
+
+no-entry-requires : tie.Need-no-entry-requires
+no-entry-requires c κs = search needs
+
+returns : tie.Need-returns
+unfolding formIn
+returns c =
+    let told = rw (c .before .before .before .before .before .bits .ensures) at (sym (c .before .before .before .before .form-by .ensures) ∙ c .before .before .told .given .1) in
+    rw (c .entry-as .ensures, told)
+
+returns-2 : tie.Need-returns-2
+unfolding formIn entryBy
+returns-2 c =
+    let told = rw (c .before .before .before .before .bits .ensures) at (sym (c .before .before .before .form-by .ensures) ∙ c .before .enum-told .given .1) in
+    rw (c .no-entry .ensures, told)
+
+pub entry-at-spec : {M : Type 1} → statement M
+entry-at-spec =
+    tie.close
+    (tie.spec
+    bits-requires
+    form-by-requires
+    enum-known-told
+    entry-as-requires
+    enum-told
+    no-entry-requires
+    returns
+    returns-2)

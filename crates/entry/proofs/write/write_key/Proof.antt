@@ -1,0 +1,42 @@
+-- One writing after another.
+use borrow.Author.Needs.{needs}
+use Rattle.entry.specs.Entry.{putKey}
+use Rattle.entry.proofs.Ink.{wrote-then, wrote-length}
+use Rattle.entry.proofs.write.write_key.Statement.{statement}
+use Rattle.entry.proofs.write.write_key.Tie as tie
+
+write-house-requires : tie.Need-write-house-requires
+write-house-requires c κs = search needs
+
+push-all-requires : tie.Need-push-all-requires
+push-all-requires c κs = search needs
+
+push-all-requires-2 : tie.Need-push-all-requires-2
+push-all-requires-2 c κs = search needs
+
+push-all-requires-3 : tie.Need-push-all-requires-3
+push-all-requires-3 c κs = search needs
+
+push-all-requires-4 : tie.Need-push-all-requires-4
+push-all-requires-4 c κs = search needs
+
+returns : tie.Need-returns
+unfolding putKey
+returns c = wrote-then (c .before .before .before .before .before .before .before .before .before .before .before .before .before .before .before .before .before .before .before .before .before .before .before .before .before .before .before .before .before .before .write-house .ensures)
+    (wrote-then (c .before .before .before .before .before .before .before .before .before .before .before .before .before .before .before .before .before .before .before .before .before .before .before .push-all .ensures)
+    (wrote-then (c .before .before .before .before .before .before .before .before .before .before .before .before .before .before .before .before .push-all2 .ensures) (wrote-then (c .before .before .before .before .before .before .before .before .before .push-all3 .ensures) (c .before .before .push-all4 .ensures))))
+
+same-length : tie.Need-same-length
+same-length c = wrote-length (returns c)
+
+pub write-key-spec : {M : Type 1} → statement M
+write-key-spec =
+    tie.close
+    (tie.spec
+    write-house-requires
+    push-all-requires
+    push-all-requires-2
+    push-all-requires-3
+    push-all-requires-4
+    same-length
+    returns)

@@ -1,0 +1,35 @@
+-- What the bits of an entry stand for: document 01, "The entry".
+use Prim.Native.Nat.{ℕ, _+_, _-_}
+use mathlib.Core.Bool.{cond, _&&_}
+use mathlib.Core.List.{List, [], _∷_}
+use lib.Dec.{eqb, leb}
+use Rattle.zone.specs.Alphabet.{isDigit, isLetter}
+use Rattle.zone.specs.declared.form.Form.{Form}
+use Rattle.zone.specs.declared.form.Form.the-variants.{Td1, Td2, Td3}
+use Rattle.zone.specs.declared.form.Told.{Told}
+use Rattle.zone.specs.declared.form.Told.the-variants.{As, Unknown}
+
+-- `<` 0, digits 1-10, letters 11-36
+unfoldable pub codeOf : ℕ → ℕ
+codeOf c = cond (isDigit c) (c - 47) (cond (isLetter c) (c - 54) 0)
+
+-- the character of a code; 0, which is none, for a code above 36
+unfoldable pub characterOf : ℕ → ℕ
+characterOf n = cond (eqb n 0) 60 (cond (leb n 10) (n + 47) (cond (leb n 36) (n + 54) 0))
+
+-- TD1 0, TD2 1, TD3 2
+unfoldable pub formCode : Form → ℕ
+formCode Td1 = 0
+formCode Td2 = 1
+formCode Td3 = 2
+
+unfoldable pub formBy : ℕ → Told
+formBy n = cond (eqb n 0) (As Td1) (cond (eqb n 1) (As Td2) (cond (eqb n 2) (As Td3) Unknown))
+
+-- `<` 0, F 1, M 2
+unfoldable pub sexCode : ℕ → ℕ
+sexCode c = cond (eqb c 70) 1 (cond (eqb c 77) 2 0)
+
+-- the sex of a code; 0, which is none, for 3
+unfoldable pub sexBy : ℕ → ℕ
+sexBy n = cond (eqb n 0) 60 (cond (eqb n 1) 70 (cond (eqb n 2) 77 0))

@@ -1,0 +1,6 @@
+pub mod Bits
+pub mod Codes
+pub mod Entry
+pub mod Ink
+pub mod Kept
+pub mod Run

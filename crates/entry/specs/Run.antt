@@ -1,0 +1,96 @@
+-- Reading a run: document 01, "A run is read entry by entry, each with the offset of the next", and 18 of "Refusal numbers".
+use Prim.Native.Nat.{ℕ, zero, suc, _+_, _-_, _*_}
+use mathlib.Core.Bool.{Bool, cond, _&&_}
+use mathlib.Core.List.{List, [], _∷_}
+use lib.Dec.{eqb, leb, ltb}
+use lib.ListN.{length, drop}
+use Rattle.refusal.specs.Numbers.{numberOf}
+use Rattle.zone.specs.declared.form.Form.{Form}
+use Rattle.zone.specs.declared.form.Told.{Told}
+use Rattle.zone.specs.declared.form.Told.the-variants.{As, Unknown}
+use Rattle.zone.specs.declared.record.Record.{Record}
+use Rattle.zone.specs.Record.{blank, trimmedLength, padded}
+use Rattle.sound.specs.Sound.{isSound}
+use Rattle.entry.specs.Bits.{number}
+use Rattle.entry.specs.Codes.{characterOf, formBy, sexBy}
+use Rattle.entry.specs.Entry.{size, isHouse}
+use Rattle.entry.specs.declared.run.Step.{Step}
+use Rattle.entry.specs.declared.run.Step.the-variants.{Next, End, Refused}
+use Rattle.entry.specs.declared.run.Found.{Found}
+
+-- where a run goes on: at the next offset, at its end, or not at all
+pub data Onward : Type 0 where
+  next : ℕ → Onward
+  none : Onward
+  refused : (number place : ℕ) → Onward
+
+-- the paper's number and values of each case
+abbrev pub onwardOf : Step → Onward
+onwardOf (Next offset) = next offset
+onwardOf End = none
+onwardOf (Refused r) = refused (numberOf (r .cause)) (r .place)
+
+-- an answer in the paper's terms
+pub record Answer : Type 0 where
+  pub onward : Onward
+  pub house : ℕ
+  pub kept : Record
+
+unfoldable pub answerOf : Found → Answer
+answerOf r = record { onward = onwardOf (r .step); house = r .house; kept = r .kept }
+
+-- n characters of 6 bits each, from the k-th bit on
+unfoldable pub charactersAt : List ℕ → (k n : ℕ) → List ℕ
+charactersAt s k zero = []
+charactersAt s k (suc n) = characterOf (number s k 6) ∷ charactersAt s (k + 6) n
+
+unfoldable pub houseIn : List ℕ → ℕ
+houseIn s = number s 0 15
+
+unfoldable pub formIn : List ℕ → Told
+formIn s = formBy (number s 15 3)
+
+unfoldable pub nameLength : List ℕ → ℕ
+nameLength s = number s 272 6
+
+-- the record that the bits say: the number without the fillers that fill it up
+unfoldable pub recordIn : Form → List ℕ → Record
+recordIn f s = record {
+  form = f;
+  code = charactersAt s 240 2;
+  state = charactersAt s 18 3;
+  number = charactersAt s 36 22;
+  «number_len» = trimmedLength (charactersAt s 36 22);
+  nationality = charactersAt s 252 3;
+  birth = charactersAt s 168 6;
+  sex = sexBy (number s 270 2);
+  expiry = charactersAt s 204 6;
+  name = padded 39 (charactersAt s 278 (nameLength s));
+  «name_len» = nameLength s;
+}
+
+-- the bits behind the name, to the next byte
+unfoldable pub spare : ℕ → ℕ
+spare n = 8 * size n - (278 + 6 * n)
+
+-- not cut off, and the spare bits zero
+unfoldable pub isWhole : List ℕ → Bool
+isWhole s = leb (size (nameLength s)) (length s) && eqb (number s (278 + 6 * nameLength s) (spare (nameLength s))) 0
+
+unfoldable pub isEntry : Form → List ℕ → Bool
+isEntry f s = isHouse (houseIn s) && (isWhole s && isSound (recordIn f s))
+
+-- 18, at the start of that entry: the blank record, house 0
+unfoldable pub noEntry : ℕ → Answer
+noEntry at = record { onward = refused 18 at; house = 0; kept = blank }
+
+unfoldable pub entryBy : Told → List ℕ → ℕ → Answer
+entryBy (As f) s at =
+    cond (isEntry f s) (record { onward = next (at + size (nameLength s)); house = houseIn s; kept = recordIn f s }) (noEntry at)
+entryBy Unknown s at = noEntry at
+
+-- at the end the answer is that none is left; an offset past the end is 18 at that offset
+unfoldable pub readEntry : List ℕ → ℕ → Answer
+readEntry w at =
+    cond (eqb at (length w)) (record { onward = none; house = 0; kept = blank })
+    (cond (ltb (length w) at) (noEntry at) (entryBy (formIn (drop at w)) (drop at w) at))

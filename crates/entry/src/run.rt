@@ -1,0 +1,177 @@
+// A run of entries, read one by one.
+ghost use mathlib.Core.Path.{_≡_};
+ghost use mathlib.Core.Bool.{true};
+ghost use Prim.Native.Nat.{_+_, _*_, _^_, _<_, _≤_};
+ghost use lib.ListN.{length};
+ghost use Rattle.zone.specs.declared.form.Told.the-variants.{As};
+ghost use Rattle.entry.specs.Entry as E;
+ghost use Rattle.entry.specs.Run as R;
+use crate::bits::bits;
+use crate::characters;
+use refusal::Cause;
+use refusal::Refusal;
+use zone::form::Form;
+use zone::form::Told;
+use zone::record::Record;
+use zone::record::trimmed_length;
+
+// Where a run goes on: at the next offset, nowhere since none is left, or nowhere since what stands there is no entry.
+pub enum Step {
+    Next(usize),
+    End,
+    Refused(Refusal),
+}
+
+// What stands at an offset. House and record are 0 and the blank one but where the run goes on.
+pub struct Found {
+    pub step: Step,
+    pub house: u32,
+    pub kept: Record,
+}
+
+pub(crate) fn is_house(house: u32) -> bool
+    ensures { λ r. ⌜ r ≡ E.isHouse house ⌝ }
+{
+    1 <= house && house <= 32767
+}
+
+fn name_length(s: &[u8]) -> usize
+    ensures { λ r. ⌜ (r ≡ R.nameLength (now (s .entry))) × (r < 64) ⌝ }
+{
+    bits(s, 272, 6) as usize
+}
+
+// The octets of an entry whose name has n characters, and the bits of the last that are left over.
+pub(crate) fn size(n: usize) -> usize
+    requires { ⌜ n < 64 ⌝ }
+    ensures { λ r. ⌜ (r ≡ E.size n) × (r < 128) ⌝ }
+{
+    (278 + 6 * n + 7) / 8
+}
+
+fn spare(n: usize) -> usize
+    requires { ⌜ n < 64 ⌝ }
+    ensures { λ r. ⌜ (r ≡ R.spare n) × (r < 8) ⌝ }
+{
+    8 * size(n) - (278 + 6 * n)
+}
+
+// Not cut off, and the spare bits zero. The name has n characters.
+fn is_whole(s: &[u8], n: usize) -> bool
+    requires { ⌜ (n < 64) × (n ≡ R.nameLength (now s)) ⌝ }
+    ensures { λ r. ⌜ r ≡ R.isWhole (now (s .entry)) ⌝ }
+{
+    if size(n) <= s.len() {
+        bits(s, 278 + 6 * n, spare(n)) == 0
+    } else {
+        false
+    }
+}
+
+// The record that the bits say, where none of its characters is cut off.
+fn record_in(form: Form, s: &[u8]) -> Record
+    requires { ⌜ 278 + 6 * R.nameLength (now s) ≤ 8 * length (now s) ⌝ }
+    ensures { λ r. ⌜ r ≡ R.recordIn form (now (s .entry)) ⌝ }
+{
+    let code = characters::two_at(s, 240);
+    let state = characters::three_at(s, 18);
+    let number = characters::number_at(s, 36);
+    let number_len = trimmed_length(&number);
+    let nationality = characters::three_at(s, 252);
+    let birth = characters::six_at(s, 168);
+    let sex = characters::sex_by(bits(s, 270, 2));
+    let expiry = characters::six_at(s, 204);
+    let name_len = name_length(s);
+    let name = characters::name_at(s, 278, name_len);
+    Record {
+        form,
+        code,
+        state,
+        number,
+        number_len,
+        nationality,
+        birth,
+        sex,
+        expiry,
+        name,
+        name_len,
+    }
+}
+
+// 18 at the start of what is no entry.
+fn no_entry(at: usize) -> Found
+    ensures { λ r. ⌜ R.answerOf r ≡ R.noEntry at ⌝ }
+{
+    Found {
+        step: Step::Refused(Refusal {
+            cause: Cause::Entry,
+            place: at,
+        }),
+        house: 0,
+        kept: Record::blank(),
+    }
+}
+
+// What has a house and is whole is an entry where the record is sound.
+fn sound_entry(form: Form, s: &[u8], at: usize, house: u32, n: usize) -> Found
+    requires { ⌜ (n < 64) × (n ≡ R.nameLength (now s)) × (at + length (now s) < 2 ^ 63) ⌝ }
+    requires { ⌜ (house ≡ R.houseIn (now s)) × (E.isHouse house ≡ true) × (R.isWhole (now s) ≡ true) ⌝ }
+    ensures { λ r. ⌜ R.answerOf r ≡ R.entryBy (As form) (now (s .entry)) at ⌝ }
+{
+    let kept = record_in(form, s);
+    if sound::is_sound(kept) {
+        Found {
+            step: Step::Next(at + size(n)),
+            house,
+            kept,
+        }
+    } else {
+        no_entry(at)
+    }
+}
+
+// The tests that cost little go before the record.
+fn entry_as(form: Form, s: &[u8], at: usize) -> Found
+    requires { ⌜ at + length (now s) < 2 ^ 63 ⌝ }
+    ensures { λ r. ⌜ R.answerOf r ≡ R.entryBy (As form) (now (s .entry)) at ⌝ }
+{
+    let house = bits(s, 0, 15);
+    let n = name_length(s);
+    if is_house(house) {
+        if is_whole(s, n) {
+            sound_entry(form, s, at, house, n)
+        } else {
+            no_entry(at)
+        }
+    } else {
+        no_entry(at)
+    }
+}
+
+fn entry_at(s: &[u8], at: usize) -> Found
+    requires { ⌜ at + length (now s) < 2 ^ 63 ⌝ }
+    ensures { λ r. ⌜ R.answerOf r ≡ R.entryBy (R.formIn (now (s .entry))) (now (s .entry)) at ⌝ }
+{
+    let told = characters::form_by(bits(s, 15, 3));
+    match told {
+        Told::As(form) => entry_as(form, s, at),
+        Told::Unknown => no_entry(at),
+    }
+}
+
+// What stands at an offset of a run: an entry and where the next one stands, none at the run's end, or a refusal.
+pub fn next(run: &[u8], at: usize) -> Found
+    ensures { λ r. ⌜ R.answerOf r ≡ R.readEntry (now (run .entry)) at ⌝ }
+{
+    if at == run.len() {
+        return Found {
+            step: Step::End,
+            house: 0,
+            kept: Record::blank(),
+        };
+    }
+    if run.len() < at {
+        return no_entry(at);
+    }
+    entry_at(&run[at..], at)
+}
