@@ -1,33 +1,52 @@
 // The calls that a C host makes. A call here decides nothing: it hands the lent ranges on and tells the answer in numbers.
 ghost use mathlib.Core.Path.{_≡_};
-ghost use Rattle.refusal.specs.Length.{lengthOf};
+ghost use Rattle.text.specs.Read.{readText};
 ghost use Rattle.sha256.specs.Answer.{digestAnswer, digestOut};
+ghost use Rattle.entry.specs.Run.{readEntry};
 ghost use Rattle.lamphudet.specs.Answer.{inC};
-use refusal::Written;
+ghost use Rattle.lamphudet.specs.Calls.{readAnswer, readOut, writtenAnswer, writtenOut, nextInC};
+use crate::border::in_c;
+use crate::border::next_in_c;
 
-// What C receives: number 0 and how many octets were written, or the refusal's number and its place.
+mod border;
+mod kept;
+
+// What C receives: number 0 and how many octets were written or where a run goes on, or the refusal's number and its place.
 #[repr(C)]
 pub struct Answer {
     pub number: u32,
     pub value: u64,
 }
 
-fn in_c(answer: Written) -> Answer
-    ensures { λ r. ⌜ r ≡ inC (lengthOf answer) ⌝ }
+// A text is read, and its record entered under a house.
+#[no_mangle]
+pub extern "C" fn lamphudet_read_text(house: u32, text: &[u8], entry: &mut [u8]) -> Answer
+    ensures { λ r. ⌜ r ≡ inC (readAnswer house (readText (now (text .entry))) (now (entry .entry))) ⌝ }
+    ensures { λ _. ⌜ now (entry .exit) ≡ readOut house (readText (now (text .entry))) (now (entry .entry)) ⌝ }
 {
-    match answer {
-        Written::Octets(n) => Answer {
-            number: 0,
-            value: n as u64,
-        },
-        Written::Refused(refusal) => {
-            let cause = refusal.cause;
-            Answer {
-                number: cause.number(),
-                value: refusal.place as u64,
-            }
-        }
-    }
+    let reading = text::read::read(text);
+    let verdict = reading.verdict;
+    let record = reading.kept;
+    in_c(kept::enter(verdict, record, house, entry))
+}
+
+// The record of exactly one entry is written as a text.
+#[no_mangle]
+pub extern "C" fn lamphudet_write_text(entry: &[u8], text: &mut [u8]) -> Answer
+    ensures { λ r. ⌜ r ≡ inC (writtenAnswer (now (entry .entry)) (now (text .entry))) ⌝ }
+    ensures { λ _. ⌜ now (text .exit) ≡ writtenOut (now (entry .entry)) (now (text .entry)) ⌝ }
+{
+    in_c(kept::write_only(entry, text))
+}
+
+// Where a run of entries goes on.
+#[no_mangle]
+pub extern "C" fn lamphudet_next_entry(run: &[u8], offset: u64) -> Answer
+    ensures { λ r. ⌜ r ≡ nextInC (readEntry (now (run .entry)) offset .onward) ⌝ }
+{
+    let found = entry::run::next(run, offset as usize);
+    let step = found.step;
+    next_in_c(step)
 }
 
 // The SHA-256 digest of the input, into the first 32 octets of the output.

@@ -1,0 +1,42 @@
+-- The three cases of `nextInC`.
+use borrow.Author.Needs.{needs}
+use Rattle.lamphudet.specs.Answer.{inC}
+use Rattle.lamphudet.specs.Calls.{nextInC}
+use Rattle.lamphudet.proofs.border.next_in_c.Statement.{statement}
+use Rattle.lamphudet.proofs.border.next_in_c.Tie as tie
+
+enum-known-step : tie.Need-enum-known-step
+enum-known-step c = search needs
+
+enum-told : tie.Need-enum-told
+enum-told c = search needs
+
+enum-known-step-2 : tie.Need-enum-known-step-2
+enum-known-step-2 c = search needs
+
+denied-requires : tie.Need-denied-requires
+denied-requires c κs = search needs
+
+returns : tie.Need-returns
+unfolding nextInC inC
+returns c = rw (c .before .step .given .1)
+
+returns-2 : tie.Need-returns-2
+unfolding nextInC inC
+returns-2 c = rw (c .enum-told .given .1)
+
+returns-3 : tie.Need-returns-3
+unfolding nextInC inC
+returns-3 c = rw (c .denied .ensures, c .before .before .step2 .given .1)
+
+pub next-in-c-spec : {M : Type 1} → statement M
+next-in-c-spec =
+    tie.close
+    (tie.spec
+    enum-known-step
+    enum-told
+    enum-known-step-2
+    denied-requires
+    returns
+    returns-2
+    returns-3)

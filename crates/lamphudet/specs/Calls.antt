@@ -1,0 +1,49 @@
+-- What the calls of a C host answer and leave: document 01, "What the server lends and gets". There a record passes as its entry.
+use Prim.Native.Nat.{ℕ}
+use mathlib.Core.Bool.{Bool, false, cond}
+use mathlib.Core.List.{List}
+use lib.Dec.{eqb}
+use lib.ListN.{length}
+use Rattle.refusal.specs.Outcome as outcome
+use Rattle.refusal.specs.Length.{Length, refused}
+use Rattle.zone.specs.declared.record.Record.{Record}
+use Rattle.text.specs.Read as reading
+use Rattle.writing.specs.Answer.{textAnswer, textOut}
+use Rattle.entry.specs.Entry.{entryAnswer, entryOut}
+use Rattle.entry.specs.Run as run
+use Rattle.lamphudet.specs.declared.Answer.{Answer}
+
+-- a call that reads is given a house too and tests 17, then 16, after all the reader's refusals
+unfoldable pub enteredAnswer : outcome.Outcome → ℕ → Record → List ℕ → Length
+enteredAnswer outcome.passed house r out = entryAnswer house r out
+enteredAnswer (outcome.refused number place) house r out = refused number place
+
+unfoldable pub enteredOut : outcome.Outcome → ℕ → Record → List ℕ → List ℕ
+enteredOut outcome.passed house r out = entryOut house r out
+enteredOut (outcome.refused number place) house r out = out
+
+-- the same of whatever was read
+unfoldable pub readAnswer : ℕ → reading.Answer → List ℕ → Length
+readAnswer house a out = enteredAnswer (a .outcome) house (a .kept) out
+
+unfoldable pub readOut : ℕ → reading.Answer → List ℕ → List ℕ
+readOut house a out = enteredOut (a .outcome) house (a .kept) out
+
+-- exactly one entry: the run goes on at its own end
+unfoldable pub isOnly : run.Onward → ℕ → Bool
+isOnly (run.next offset) n = eqb offset n
+isOnly run.none n = false
+isOnly (run.refused number place) n = false
+
+-- the text writer is given exactly one entry and tests 18 (at 0, also for none or anything after it), then 16
+unfoldable pub writtenAnswer : List ℕ → List ℕ → Length
+writtenAnswer e out = cond (isOnly (run.readEntry e 0 .onward) (length e)) (textAnswer (run.readEntry e 0 .kept) out) (refused 18 0)
+
+unfoldable pub writtenOut : List ℕ → List ℕ → List ℕ
+writtenOut e out = cond (isOnly (run.readEntry e 0 .onward) (length e)) (textOut (run.readEntry e 0 .kept) out) out
+
+-- a run's call answers with the next offset alone; at the end with 0 and 0
+unfoldable pub nextInC : run.Onward → Answer
+nextInC (run.next offset) = record { number = 0; value = offset }
+nextInC run.none = record { number = 0; value = 0 }
+nextInC (run.refused number place) = record { number = number; value = place }

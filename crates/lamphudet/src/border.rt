@@ -1,0 +1,49 @@
+// What C receives of an answer: two numbers.
+ghost use mathlib.Core.Path.{_≡_};
+ghost use Rattle.refusal.specs.Length.{lengthOf, refused};
+ghost use Rattle.refusal.specs.Numbers.{numberOf};
+ghost use Rattle.entry.specs.Run.{onwardOf};
+ghost use Rattle.lamphudet.specs.Answer.{inC};
+ghost use Rattle.lamphudet.specs.Calls.{nextInC};
+use crate::Answer;
+use entry::run::Step;
+use refusal::Refusal;
+use refusal::Written;
+
+fn denied(refusal: Refusal) -> Answer
+    ensures { λ r. ⌜ r ≡ inC (refused (numberOf (refusal .cause)) (refusal .place)) ⌝ }
+{
+    let cause = refusal.cause;
+    Answer {
+        number: cause.number(),
+        value: refusal.place as u64,
+    }
+}
+
+pub fn in_c(answer: Written) -> Answer
+    ensures { λ r. ⌜ r ≡ inC (lengthOf answer) ⌝ }
+{
+    match answer {
+        Written::Octets(n) => Answer {
+            number: 0,
+            value: n as u64,
+        },
+        Written::Refused(refusal) => denied(refusal),
+    }
+}
+
+pub fn next_in_c(step: Step) -> Answer
+    ensures { λ r. ⌜ r ≡ nextInC (onwardOf step) ⌝ }
+{
+    match step {
+        Step::Next(offset) => Answer {
+            number: 0,
+            value: offset as u64,
+        },
+        Step::End => Answer {
+            number: 0,
+            value: 0,
+        },
+        Step::Refused(refusal) => denied(refusal),
+    }
+}
