@@ -6,11 +6,11 @@ VERSION = 0.1.0
 # The seed of the compared cases; empty for the one that the gate takes.
 SEED ?=
 
-.PHONY: all archive demo test compare bench install format clean
+.PHONY: all archive desk demo test compare bench install format clean
 
 all: archive
 
-# The archive that install, compare and bench take. Where LAMPHUDET_ARCHIVE names one, that is taken as it is and nothing is built.
+# The archive that desk, install, compare and bench take. Where LAMPHUDET_ARCHIVE names one, that is taken as it is and nothing is built.
 ifdef LAMPHUDET_ARCHIVE
 ARCHIVE := $(abspath $(LAMPHUDET_ARCHIVE))
 archive:
@@ -21,12 +21,20 @@ archive: | rt-found
 	rt staticlib lamphudet
 endif
 
-# The sample texts, each with its record or its refusal in words. The program is proved before it is run.
-demo: | rt-found
+# The desk: a C host over the header and the archive alone.
+CC ?= cc
+CFLAGS ?= -O2
+DESK ?= target/desk
+desk: archive | cc-found
+	@mkdir -p '$(dir $(DESK))'
+	@$(CC) -std=c99 -Wall -Wextra -Wpedantic $(CFLAGS) -Iinclude -o '$(DESK)' examples/desk/*.c '$(ARCHIVE)'
+
+# The desk on its samples, sound and refused. The library is proved before it is run.
+demo: | cc-found
 	@mkdir -p target
-	@echo 'proving the reader and the samples (a minute or two the first time) ..'
-	@rt check vectors > target/demo.log 2>&1 || { tail -n 20 target/demo.log; exit 1; }
-	@target/bin/vectors
+	@echo 'building the library and the desk (some minutes the first time: the library is proved) ..'
+	@$(MAKE) --no-print-directory desk > target/demo.log 2>&1 || { tail -n 20 target/demo.log; exit 1; }
+	@examples/desk/demo '$(DESK)'
 
 test: | rt-found
 	@.ci/run
@@ -55,9 +63,12 @@ format: | rt-found
 clean:
 	rm -rf target
 
-.PHONY: rt-found cargo-found
+.PHONY: rt-found cargo-found cc-found
 rt-found:
 	@command -v rt > /dev/null || { echo 'the Rattle toolchain is not on the PATH: the command rt is what builds and proves this repository'; exit 1; }
 
 cargo-found:
 	@command -v cargo > /dev/null || { echo 'cargo is not on the PATH: it builds the independent Rust implementation (on Debian: apt install cargo)'; exit 1; }
+
+cc-found:
+	@command -v $(firstword $(CC)) > /dev/null || { echo '$(firstword $(CC)) is not on the PATH: a C compiler builds the desk (on Debian: apt install gcc)'; exit 1; }

@@ -33,6 +33,136 @@ typedef struct lamphudet_answer {
 } lamphudet_answer;
 
 /*
+ * The refusals. These numbers stay what they are.
+ *
+ *   No.  Cause                                                            Place
+ *    1   text not 72, 88 or 90; presentation or digest input over 65,535  start of the text; 0
+ *    2   character not A-Z, 0-9, <                                        the first such
+ *    3   document code                                                    field start
+ *    4   state or nationality                                             field start
+ *    5   document number                                                  field start
+ *    6   date                                                             field start
+ *    7   sex                                                              its place
+ *    8   name                                                             field start
+ *    9   check digit                                                      the digit
+ *   10   encoding                                                         the element's tag, or the first octet left over
+ *   11   EF.COM content                                                   the element's tag, or the octet in the tag list
+ *   12   security object content                                          the element's tag
+ *   13   digest algorithm                                                 its tag
+ *   14   group unlisted, lent before, or without entry; no group 1 lent   file start; the presentation's length
+ *   15   digest differs                                                   file start
+ *   16   lent output too short                                            0
+ *   17   house or record not sound                                        0
+ *   18   not an entry                                                     start of that entry
+ */
+enum lamphudet_refusal {
+    LAMPHUDET_REFUSED_LENGTH = 1,
+    LAMPHUDET_REFUSED_CHARACTER = 2,
+    LAMPHUDET_REFUSED_CODE = 3,
+    LAMPHUDET_REFUSED_STATE = 4,
+    LAMPHUDET_REFUSED_NUMBER = 5,
+    LAMPHUDET_REFUSED_DATE = 6,
+    LAMPHUDET_REFUSED_SEX = 7,
+    LAMPHUDET_REFUSED_NAME = 8,
+    LAMPHUDET_REFUSED_DIGIT = 9,
+    LAMPHUDET_REFUSED_ENCODING = 10,
+    LAMPHUDET_REFUSED_EF_COM = 11,
+    LAMPHUDET_REFUSED_SECURITY_OBJECT = 12,
+    LAMPHUDET_REFUSED_ALGORITHM = 13,
+    LAMPHUDET_REFUSED_GROUP = 14,
+    LAMPHUDET_REFUSED_DIGEST = 15,
+    LAMPHUDET_REFUSED_OUTPUT = 16,
+    LAMPHUDET_REFUSED_UNSOUND = 17,
+    LAMPHUDET_REFUSED_ENTRY = 18
+};
+
+/* An answer's number in words. They end in no full stop, and live as long as the program. */
+static inline const char *lamphudet_words(uint32_t number)
+{
+    switch (number) {
+    case 0: return "not refused";
+    case LAMPHUDET_REFUSED_LENGTH: return "text not 72, 88 or 90; presentation or digest input over 65,535";
+    case LAMPHUDET_REFUSED_CHARACTER: return "character not A-Z, 0-9, <";
+    case LAMPHUDET_REFUSED_CODE: return "document code";
+    case LAMPHUDET_REFUSED_STATE: return "state or nationality";
+    case LAMPHUDET_REFUSED_NUMBER: return "document number";
+    case LAMPHUDET_REFUSED_DATE: return "date";
+    case LAMPHUDET_REFUSED_SEX: return "sex";
+    case LAMPHUDET_REFUSED_NAME: return "name";
+    case LAMPHUDET_REFUSED_DIGIT: return "check digit";
+    case LAMPHUDET_REFUSED_ENCODING: return "encoding";
+    case LAMPHUDET_REFUSED_EF_COM: return "EF.COM content";
+    case LAMPHUDET_REFUSED_SECURITY_OBJECT: return "security object content";
+    case LAMPHUDET_REFUSED_ALGORITHM: return "digest algorithm";
+    case LAMPHUDET_REFUSED_GROUP: return "group unlisted, lent before, or without entry; no group 1 lent";
+    case LAMPHUDET_REFUSED_DIGEST: return "digest differs";
+    case LAMPHUDET_REFUSED_OUTPUT: return "lent output too short";
+    case LAMPHUDET_REFUSED_UNSOUND: return "house or record not sound";
+    case LAMPHUDET_REFUSED_ENTRY: return "not an entry";
+    default: return "not a refusal's number";
+    }
+}
+
+/*
+ * An entry is the octets under which a house keeps a record: to be stored, compared and joined to runs as they are. The same
+ * house and record always give the same octets, and no others are an entry of them.
+ *
+ * The first LAMPHUDET_KEY octets of two entries agree exactly when house, form, issuing state, complete document number,
+ * birth and expiry agree.
+ *
+ * A host that shows an entry finds the record in its bits, the most significant first: house 15, form 3 (TD1 0, TD2 1,
+ * TD3 2), state 18, number 132 (filled up with <), birth 36, expiry 36, which is the key; then code 12, nationality 18,
+ * sex 2 (< 0, F 1, M 2), name length 6, name, and zero bits to the next octet. A character is 6 bits: < 0, digits 1 to 10,
+ * letters 11 to 36.
+ */
+#define LAMPHUDET_ENTRY_MAX 64 /* octets of the longest entry; the shortest has 36 */
+#define LAMPHUDET_KEY 30       /* octets of an entry's key */
+#define LAMPHUDET_TEXT_MAX 90  /* characters of the longest text */
+
+/*
+ * Reads the text of a machine readable zone, its lines joined without line ends, and writes the entry of the house and the
+ * text's record to the first octets of entry. Answers 0 and how many these are: 36 to LAMPHUDET_ENTRY_MAX.
+ *
+ * Refuses, in this order:
+ *   1   at 0: the text has not 72, 88 or 90 characters
+ *   2   at the first character that is not A-Z, 0-9 or <
+ *   then the first field in the text that breaks its rule:
+ *   3   at the start of the document code
+ *   4   at the start of the issuing state, or of the nationality
+ *   5   at the start of the document number
+ *   6   at the start of the birth, or of the expiry
+ *   7   at the sex
+ *   8   at the start of the name
+ *   then:
+ *   9   at the first check digit in the text that is wrong
+ *   17  at 0: the house is not 1 to 32,767
+ *   16  at 0: entry has fewer octets than this entry needs
+ */
+lamphudet_answer lamphudet_read_text(uint32_t house, const uint8_t *text, size_t text_len, uint8_t *entry, size_t entry_len);
+
+/*
+ * Writes the text of an entry's record to the first octets of text, lines joined, and answers 0 and how many these are:
+ * 90 for TD1, 72 for TD2, 88 for TD3. The house stands in no text. Optional places that a long number does not need are
+ * fillers, and TD3's personal check is 0: a text that was read comes back as it was, but for optional data and the digits
+ * over them.
+ *
+ * Refuses, in this order:
+ *   18  at 0: entry is not exactly one entry; none at all, a part of one, or one with anything behind it
+ *   16  at 0: text has fewer octets than this text needs
+ */
+lamphudet_answer lamphudet_write_text(const uint8_t *entry, size_t entry_len, uint8_t *text, size_t text_len);
+
+/*
+ * Goes along a run, which is entries joined with nothing between. Answers 0 and the offset behind the entry that begins at
+ * offset: the entry is the octets from the one to the other, and the next one begins there. At the end of the run, where
+ * offset is run_len, the answer is 0 and 0: none is left. Writes nothing.
+ *
+ * Refuses:
+ *   18  at offset: no entry begins there, or it is cut off, or offset is past the end
+ */
+lamphudet_answer lamphudet_next_entry(const uint8_t *run, size_t run_len, uint64_t offset);
+
+/*
  * Writes the SHA-256 digest (FIPS 180-4) of the input to the first 32 octets of digest, and answers 0 and 32.
  *
  * Refuses, in this order:

@@ -1,37 +1,40 @@
 //! What is measured.
 
+use compare::report::grouped;
+
 #[derive(Clone, Copy, PartialEq, Eq)]
 pub enum Job {
     /// One digest of so many octets.
     Digest(usize),
-    /// One text read and written as an entry.
-    #[cfg(feature = "records")]
+    /// One text read, and its entry written.
     ReadText,
-    /// One entry read and written as a text.
-    #[cfg(feature = "records")]
-    WriteText,
     /// One entry of a run read.
-    #[cfg(feature = "records")]
     NextEntry,
+    /// One entry read, and its text written.
+    WriteText,
 }
 
 impl Job {
     /// One block, two sizes between, and the longest input.
     pub const DIGESTS: [Job; 4] = [Job::Digest(64), Job::Digest(1_024), Job::Digest(16_384), Job::Digest(65_535)];
-    #[cfg(feature = "records")]
-    pub const RECORDS: [Job; 3] = [Job::ReadText, Job::WriteText, Job::NextEntry];
-    #[cfg(not(feature = "records"))]
-    pub const RECORDS: [Job; 0] = [];
+    pub const RECORDS: [Job; 3] = [Job::ReadText, Job::NextEntry, Job::WriteText];
 
     pub fn kind(self) -> &'static str {
         match self {
             Job::Digest(_) => "digest",
-            #[cfg(feature = "records")]
             Job::ReadText => "read_text",
-            #[cfg(feature = "records")]
-            Job::WriteText => "write_text",
-            #[cfg(feature = "records")]
             Job::NextEntry => "next_entry",
+            Job::WriteText => "write_text",
+        }
+    }
+
+    /// What its row in a table begins with.
+    pub fn title(self) -> String {
+        match self {
+            Job::Digest(size) => grouped(size as u64),
+            Job::ReadText => "texts read, entries written".into(),
+            Job::NextEntry => "entries read".into(),
+            Job::WriteText => "texts written from entries".into(),
         }
     }
 
@@ -39,8 +42,7 @@ impl Job {
     pub fn size(self) -> usize {
         match self {
             Job::Digest(size) => size,
-            #[cfg(feature = "records")]
-            _ => 0,
+            Job::ReadText | Job::NextEntry | Job::WriteText => 0,
         }
     }
 

@@ -8,7 +8,6 @@ mod contender;
 mod counts;
 mod job;
 mod libcrypto;
-#[cfg(feature = "records")]
 mod records;
 mod rounds;
 mod table;
@@ -17,6 +16,7 @@ mod worker;
 
 use contender::Contender;
 use job::Job;
+use table::Unit;
 
 fn main() {
     let words: Vec<String> = std::env::args().skip(1).collect();
@@ -35,16 +35,14 @@ fn once(contender: Contender, job: Job, times: &str) {
 }
 
 fn tables() {
-    one_table("One digest, by octets", &Contender::ALL, &Job::DIGESTS);
-    if !Job::RECORDS.is_empty() {
-        one_table("One record", &[Contender::Library, Contender::Rust], &Job::RECORDS);
-    }
+    one_table("One digest, by octets", Unit::Nanoseconds, &Contender::ALL, &Job::DIGESTS);
+    one_table("Records", Unit::ASecond, &[Contender::Library, Contender::Rust], &Job::RECORDS);
 }
 
-fn one_table(title: &str, contenders: &[Contender], jobs: &[Job]) {
+fn one_table(title: &str, unit: Unit, contenders: &[Contender], jobs: &[Job]) {
     let (present, absent): (Vec<_>, Vec<_>) =
         contenders.iter().partition(|contender| work::of(**contender, jobs[0]).is_some());
-    table::times(title, &present, jobs, &rounds::medians(&present, jobs));
+    table::times(title, unit, &present, jobs, &rounds::medians(&present, jobs));
     match counts::counts(&present, jobs) {
         Some(rows) => table::instructions(title, &present, jobs, &rows),
         None => println!("Valgrind is not installed: no instructions are counted.\n"),

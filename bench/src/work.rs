@@ -3,6 +3,7 @@
 use crate::contender::Contender;
 use crate::job::Job;
 use crate::libcrypto::Libcrypto;
+use crate::records;
 use compare::border;
 use compare::paper::sha256::sha256;
 
@@ -12,8 +13,7 @@ pub type Work = Box<dyn FnMut()>;
 pub fn of(contender: Contender, job: Job) -> Option<Work> {
     match job {
         Job::Digest(size) => digest(contender, size),
-        #[cfg(feature = "records")]
-        _ => crate::records::of(contender, job),
+        Job::ReadText | Job::NextEntry | Job::WriteText => records::of(contender, job),
     }
 }
 

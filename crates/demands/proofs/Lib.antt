@@ -21,4 +21,10 @@ pub mod Answers
 pub mod Runs
 pub mod Lengths
 pub mod Apart
-pub mod Laid
+pub mod Marks
+pub mod Ones
+pub mod Clear
+pub mod Fillers
+pub mod Puts
+pub mod Shown
+pub mod RoundTrip

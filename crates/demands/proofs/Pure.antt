@@ -1,4 +1,4 @@
--- A sound record taken apart: its fields have the places of a record, and every character of theirs is of the alphabet.
+-- A sound record taken apart: its fields have the places of a record and keep their rules, and every character of theirs is of the alphabet.
 use Prim.Native.Nat.{ℕ, zero, suc, _+_, _-_, _*_, _≤_, _<_}
 use mathlib.Core.Path.{_≡_, refl, ap, sym, _∙_}
 use mathlib.Core.Bool.{Bool, true, false, cond, not, _&&_, _||_}
@@ -8,7 +8,7 @@ use native.Mathlib.Nat.{le-trans}
 use native.Mathlib.Omega.{arith}
 use borrow.Author.Tests.{eqb-true, leb-true}
 use lib.Dec.{eqb, leb}
-use lib.ListN.{length, getD}
+use lib.ListN.{length, take, drop, getD}
 use Rattle.lent.proofs.Bools.{and-both, or-either}
 use Rattle.zone.specs.Alphabet.{isDigit, isLetter, isFiller, isCharacter}
 use Rattle.zone.specs.declared.form.Form.{Form}
@@ -22,7 +22,7 @@ use Rattle.field.specs.Letters.{stateRule, lettersThenFillers, sexRule, nameRul
 use Rattle.field.specs.declared.date.Pair.{Pair}
 use Rattle.field.specs.declared.date.Pair.the-variants.{Known, Unknown, Neither}
 use Rattle.field.specs.Date.{pairOf, yearOf, monthOf, dayOf, daysIn, yearRule, monthRule, dayRule, birthRule, isKnown, expiryRule}
-use Rattle.sound.specs.Sound.{isSound, isShaped, isHeld, isNumber, isDocument, isHolder}
+use Rattle.sound.specs.Sound.{isSound, isShaped, isHeld, isSolid, isNumber, isDocument, isHolder}
 use Rattle.demands.proofs.Span.{false-not-true}
 use Rattle.demands.proofs.Endings.{every-each}
 
@@ -90,6 +90,18 @@ card-letter c e = go (or-either (eqb c 65 || eqb c 67) (eqb c 73) e)
     go : (eqb c 65 || eqb c 67 ≡ true) ⊎ (eqb c 73 ≡ true) → isCharacter c ≡ true
     go (inl h) = first-two (or-either (eqb c 65) (eqb c 67) h)
     go (inr h) = one-of c 73 refl h
+
+sex-pure : (c : ℕ) → sexRule c ≡ true → isCharacter c ≡ true
+unfolding sexRule isLetter
+sex-pure c e = go (or-either (eqb c 77 || eqb c 70) (isFiller c) e)
+  where
+    letters : (eqb c 77 ≡ true) ⊎ (eqb c 70 ≡ true) → isCharacter c ≡ true
+    letters (inl h) = one-of c 77 refl h
+    letters (inr h) = one-of c 70 refl h
+
+    go : (eqb c 77 || eqb c 70 ≡ true) ⊎ (isFiller c ≡ true) → isCharacter c ≡ true
+    go (inl h) = letters (or-either (eqb c 77) (eqb c 70) h)
+    go (inr h) = filler-in c h
 
 card-pure : (s : List ℕ) → length s ≡ 2 → cardRule (getD s 0 0) (getD s 1 0) ≡ true → every isCharacter s ≡ true
 unfolding cardRule isSecond
@@ -187,7 +199,7 @@ name-pure (c ∷ s) e =
 
 -- ---- the record
 
-name-room : (f : Form) → width f name ≤ 39
+pub name-room : (f : Form) → width f name ≤ 39
 unfolding width widthIn layout rank same
 name-room Td1 = omega arith
 name-room Td2 = omega arith
@@ -205,12 +217,24 @@ pub record Sound (r : Record) : Type 0 where
   pub name-ends : trimmedLength (r .name) ≡ r .«name_len»
   pub name-some : 1 ≤ r .«name_len»
   pub name-most : r .«name_len» ≤ 39
+  pub name-fits : r .«name_len» ≤ width (r .form) name
+  pub number-some : 1 ≤ r .«number_len»
+  pub number-most : r .«number_len» ≤ longest (r .form)
+  pub code-kept : codeRule (r .form) (r .code) ≡ true
+  pub state-kept : stateRule (r .state) ≡ true
+  pub number-begins : isSolid (getD (r .number) 0 0) ≡ true
+  pub further-solid : every isSolid (drop 9 (take (r .«number_len») (r .number))) ≡ true
+  pub nationality-kept : stateRule (r .nationality) ≡ true
+  pub birth-kept : birthRule (r .birth) ≡ true
   pub sex-kept : sexRule (r .sex) ≡ true
+  pub expiry-kept : expiryRule (r .expiry) ≡ true
+  pub name-kept : nameRule (r .name) ≡ true
   pub code-characters : every isCharacter (r .code) ≡ true
   pub state-characters : every isCharacter (r .state) ≡ true
   pub number-characters : every isCharacter (r .number) ≡ true
   pub nationality-characters : every isCharacter (r .nationality) ≡ true
   pub birth-characters : every isCharacter (r .birth) ≡ true
+  pub sex-character : isCharacter (r .sex) ≡ true
   pub expiry-characters : every isCharacter (r .expiry) ≡ true
   pub name-characters : every isCharacter (r .name) ≡ true
 
@@ -264,6 +288,8 @@ taken-apart r e =
     let h4 = and-both _ _ (h3 .1) in
     let h5 = and-both _ _ (h4 .1) in
     let number = held (longest (r .form)) (r .number) (r .«number_len») (d3 .0) in
+    let written = and-both _ _ (d3 .1) in
+    let solid = and-both (isSolid (getD (r .number) 0 0)) (every isSolid (drop 9 (take (r .«number_len») (r .number)))) (written .1) in
     let named = held (width (r .form) name) (r .name) (r .«name_len») (h5 .0) in
     record {
       code-places = shape .shape-code;
@@ -277,12 +303,24 @@ taken-apart r e =
       name-ends = named .2;
       name-some = named .0;
       name-most = le-trans (named .1) (name-room (r .form));
+      name-fits = named .1;
+      number-some = number .0;
+      number-most = number .1;
+      code-kept = d1 .0;
+      state-kept = d2 .0;
+      number-begins = solid .0;
+      further-solid = solid .1;
+      nationality-kept = h1 .0;
+      birth-kept = h2 .0;
       sex-kept = h3 .0;
+      expiry-kept = h4 .0;
+      name-kept = h5 .1;
       code-characters = code-pure (r .form) (r .code) (shape .shape-code) (d1 .0);
       state-characters = state-pure (r .state) (shape .shape-state) (d2 .0);
-      number-characters = and-both _ _ (d3 .1) .0;
+      number-characters = written .0;
       nationality-characters = state-pure (r .nationality) (shape .shape-nationality) (h1 .0);
       birth-characters = birth-pure (r .birth) (shape .shape-birth) (h2 .0);
+      sex-character = sex-pure (r .sex) (h3 .0);
       expiry-characters = expiry-pure (r .expiry) (shape .shape-expiry) (h4 .0);
       name-characters = name-pure (r .name) (and-both (isLetter (getD (r .name) 0 0)) (every isNameCharacter (r .name)) (h5 .1) .1);
     }

@@ -32,15 +32,10 @@ use Rattle.demands.specs.Held.{Holds}
 use Rattle.demands.proofs.Form.{by-told}
 use Rattle.demands.proofs.Span.{short-span, long-span}
 use Rattle.demands.proofs.Rules.{keeps, accepted-form, read-as}
+use Rattle.demands.proofs.Pure.{name-room}
 use Rattle.demands.proofs.Endings.{trimmed-fillers, trimmed-twice, trimmed-some, ends-solid, letter-solid, solid-before, every-append, every-take, every-drop, every-replicate, every-each}
 
 -- ---- widths
-
-name-room : (f : Form) → width f name ≤ 39
-unfolding width widthIn layout rank same
-name-room Td1 = omega arith
-name-room Td2 = omega arith
-name-room Td3 = omega arith
 
 some-name : (f : Form) → 0 < width f name
 unfolding width widthIn layout rank same

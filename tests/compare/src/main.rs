@@ -31,11 +31,8 @@ fn main() -> ExitCode {
 fn counts(seed: u64) -> Vec<(u64, u64)> {
     vec![
         cases::digest::compare(seed).close(),
-        #[cfg(feature = "records")]
         cases::read_text::compare(seed).close(),
-        #[cfg(feature = "records")]
         cases::write_text::compare(seed).close(),
-        #[cfg(feature = "records")]
         cases::next_entry::compare(seed).close(),
     ]
 }

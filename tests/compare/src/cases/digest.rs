@@ -1,10 +1,9 @@
 //! The cases of the digest.
 
 use crate::border;
+use crate::cases::trials::{self, Call, Trials};
 use crate::cases::vectors;
-use crate::fence;
 use crate::guard::{Lent, Side};
-use crate::judge::differences;
 use crate::paper::{calls, Answer, Outcome};
 use crate::report::{hex, Tally};
 use crate::seeds::Seeds;
@@ -19,32 +18,58 @@ const THREADS: usize = 4;
 
 /// Runs every case and gives the counts.
 pub fn compare(seed: u64) -> Tally {
-    let mut run = Run { tally: Tally::new("digest", seed), seeds: Seeds::new(seed) };
-    run.published();
-    run.short_lengths();
-    run.block_edges();
-    run.long_lengths();
-    run.output_lengths();
-    run.starts();
-    run.empty_ranges();
-    run.fenced();
-    run.random();
-    run.threads();
-    run.tally
+    let mut trials = Trials::<Digest>::new(seed);
+    trials.published();
+    trials.short_lengths();
+    trials.block_edges();
+    trials.long_lengths();
+    trials.output_lengths();
+    trials.starts();
+    trials.empty_ranges();
+    trials.fenced();
+    trials.random();
+    trials.threads();
+    trials.tally
 }
 
-struct Run {
-    tally: Tally,
-    seeds: Seeds,
+struct Digest {
+    input: Lent,
+    output: Lent,
 }
 
-impl Run {
+impl Call for Digest {
+    const NAME: &'static str = "digest";
+
+    fn expected(&self) -> Outcome {
+        calls::digest(self.input.content(), self.output.length())
+    }
+
+    fn made(&mut self) -> Answer {
+        border::digest(&mut self.input, &mut self.output)
+    }
+
+    fn input(&self) -> &Lent {
+        &self.input
+    }
+
+    fn output(&self) -> Option<&Lent> {
+        Some(&self.output)
+    }
+
+    fn about(&self) -> Vec<String> {
+        let lent = self.input.content_before();
+        let first = format!("digest of {} octets into {}", lent.len(), self.output.length());
+        vec![first, format!("input:    {}", hex(lent))]
+    }
+}
+
+impl Trials<Digest> {
     fn published(&mut self) {
         for (message, digest) in vectors::published() {
             let answer = Answer { number: 0, value: 32 };
             let expected = Outcome { answer, written: digest.to_vec() };
             let output = Lent::new(&self.seeds.octets(32), 0);
-            self.tally.case(held(&expected, Lent::new(&message, 0), output));
+            self.count(trials::held_to(&expected, Digest { input: Lent::new(&message, 0), output }));
         }
     }
 
@@ -93,7 +118,7 @@ impl Run {
             for length in [0, 1, 55, 64, 119, 1_000] {
                 let input = Lent::new(&self.seeds.octets(length), shift);
                 let output = Lent::new(&self.seeds.octets(32), shift % 8);
-                self.held_to_paper(input, output);
+                self.hold(Digest { input, output });
             }
         }
     }
@@ -102,13 +127,13 @@ impl Run {
     fn empty_ranges(&mut self) {
         for room in [0, 31, 32, 40] {
             let output = Lent::new(&self.seeds.octets(room), 0);
-            self.watched(Lent::absent(), output);
+            self.watch(Digest { input: Lent::absent(), output });
         }
         for length in [0, 3, 65_535, 65_536] {
             let input = Lent::new(&self.seeds.octets(length), 0);
-            self.watched(input, Lent::absent());
+            self.watch(Digest { input, output: Lent::absent() });
         }
-        self.watched(Lent::absent(), Lent::absent());
+        self.watch(Digest { input: Lent::absent(), output: Lent::absent() });
     }
 
     /// Nothing is read past either end of the input, nor the pointer of an empty one.
@@ -117,7 +142,7 @@ impl Run {
             for (side, room) in Side::BOTH.into_iter().flat_map(|side| [0, 31, 32, 33].map(|room| (side, room))) {
                 let input = Lent::fenced(&self.seeds.octets(length), side);
                 let output = Lent::fenced(&self.seeds.octets(room), side);
-                self.watched(input, output);
+                self.watch(Digest { input, output });
             }
         }
     }
@@ -140,20 +165,13 @@ impl Run {
             let threads: Vec<_> = seeds.iter().map(|seed| scope.spawn(|| alone(*seed))).collect();
             threads.into_iter().flat_map(|thread| thread.join().unwrap()).collect()
         });
-        lines.into_iter().for_each(|lines| self.tally.case(lines));
+        lines.into_iter().for_each(|lines| self.count(lines));
     }
 
     /// One case, its ranges at starts of the seed's choice.
     fn case(&mut self, input: &[u8], room: usize) {
-        self.tally.case(drawn(&mut self.seeds, input, room));
-    }
-
-    fn watched(&mut self, input: Lent, output: Lent) {
-        fence::during(about(&input, &output), || self.held_to_paper(input, output));
-    }
-
-    fn held_to_paper(&mut self, input: Lent, output: Lent) {
-        self.tally.case(held_to_paper(input, output));
+        let (input, output) = (self.lent(input), self.room(room));
+        self.hold(Digest { input, output });
     }
 }
 
@@ -162,34 +180,9 @@ fn alone(seed: u64) -> Vec<Vec<String>> {
     let mut seeds = Seeds::new(seed);
     let case = |_| {
         let length = seeds.below(2_000);
-        let input = seeds.octets(length);
-        drawn(&mut seeds, &input, 32)
+        let input = Lent::new(&seeds.octets(length), seeds.below(64));
+        let output = Lent::new(&seeds.octets(32), seeds.below(64));
+        trials::held(Digest { input, output })
     };
     (0..200).map(case).collect()
-}
-
-/// A case with its ranges at starts of the seed's choice: the lines of its difference.
-fn drawn(seeds: &mut Seeds, input: &[u8], room: usize) -> Vec<String> {
-    let input = Lent::new(input, seeds.below(64));
-    let output = seeds.octets(room);
-    held_to_paper(input, Lent::new(&output, seeds.below(64)))
-}
-
-fn held_to_paper(input: Lent, output: Lent) -> Vec<String> {
-    let expected = calls::digest(input.content(), output.length());
-    held(&expected, input, output)
-}
-
-fn held(expected: &Outcome, mut input: Lent, mut output: Lent) -> Vec<String> {
-    let given = border::digest(&mut input, &mut output);
-    let mut lines = differences(expected, given, &[&input], Some(&output));
-    if !lines.is_empty() {
-        lines.splice(0..0, about(&input, &output));
-    }
-    lines
-}
-
-fn about(input: &Lent, output: &Lent) -> Vec<String> {
-    let octets = input.content_before();
-    vec![format!("digest of {} octets into {}", octets.len(), output.length()), format!("input:    {}", hex(octets))]
 }

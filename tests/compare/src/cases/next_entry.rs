@@ -2,78 +2,138 @@
 
 use crate::border;
 use crate::cases::records;
-use crate::fence;
+use crate::cases::specimens;
+use crate::cases::trials::{Call, Trials};
 use crate::guard::{Lent, Side};
-use crate::judge::differences;
-use crate::paper::{calls, Outcome};
+use crate::paper::{calls, Answer, Outcome};
 use crate::report::{hex, Tally};
-use crate::seeds::Seeds;
 
 pub fn compare(seed: u64) -> Tally {
-    let mut run = Run { tally: Tally::new("next_entry", seed), seeds: Seeds::new(seed) };
-    run.empty();
-    run.every_offset();
-    run.careless();
-    run.flipped();
-    run.cut();
-    run.fenced();
-    run.random();
-    run.tally
+    let mut trials = Trials::<NextEntry>::new(seed);
+    trials.specimens();
+    trials.empty();
+    trials.every_offset();
+    trials.careless();
+    trials.lengths();
+    trials.flipped();
+    trials.octets();
+    trials.cut();
+    trials.fenced();
+    trials.random();
+    trials.tally
 }
 
-struct Run {
-    tally: Tally,
-    seeds: Seeds,
+struct NextEntry {
+    run: Lent,
+    offset: u64,
 }
 
-impl Run {
+impl Call for NextEntry {
+    const NAME: &'static str = "next_entry";
+
+    fn expected(&self) -> Outcome {
+        Outcome { answer: calls::next_entry(self.run.content(), self.offset), written: Vec::new() }
+    }
+
+    fn made(&mut self) -> Answer {
+        border::next_entry(&mut self.run, self.offset)
+    }
+
+    fn input(&self) -> &Lent {
+        &self.run
+    }
+
+    fn output(&self) -> Option<&Lent> {
+        None
+    }
+
+    fn about(&self) -> Vec<String> {
+        let lent = self.run.content_before();
+        let first = format!("next_entry of {} octets from {}", lent.len(), self.offset);
+        vec![first, format!("run:      {}", hex(lent))]
+    }
+}
+
+impl Trials<NextEntry> {
+    /// One run of all the specimens, read from entry to entry; with no house, every one of them is refused.
+    fn specimens(&mut self) {
+        for house in [0, 1, 32_767] {
+            let entries = specimens::entries(house);
+            let run = entries.concat();
+            let mut offset = 0;
+            for entry in entries {
+                self.at(&run, offset);
+                offset += entry.len() as u64;
+            }
+            self.at(&run, offset);
+        }
+    }
+
     fn empty(&mut self) {
         for offset in far(0).into_iter().chain([0, 1]) {
-            self.held(&[], offset);
-            self.watched(Lent::absent(), offset);
+            self.at(&[], offset);
+            self.watch(NextEntry { run: Lent::absent(), offset });
         }
     }
 
     /// Runs of no entry to six, from every offset in them and from some past them.
     fn every_offset(&mut self) {
-        for count in 0..=6 {
-            for _ in 0..10 {
-                let run = self.joined(count);
-                let length = run.len() as u64;
-                for offset in (0..=length + 3).chain(far(length)) {
-                    self.held(&run, offset);
-                }
-            }
+        for count in (0..=6).flat_map(|count| [count; 10]) {
+            let run = self.joined(count);
+            let length = run.len() as u64;
+            self.together(|trials| (0..=length + 3).chain(far(length)).for_each(|offset| trials.at(&run, offset)));
         }
     }
 
     /// An entry between two others, one of its fields against its rule.
     fn careless(&mut self) {
-        for _ in 0..10_000 {
+        for _ in 0..3_000 {
             let (first, damaged) = (self.joined(1), records::careless_entry(&mut self.seeds));
             let run = [&first[..], &damaged, &first].concat();
-            for start in [0, first.len(), first.len() + damaged.len()] {
-                self.held(&run, start as u64);
-            }
+            let starts = [0, first.len(), first.len() + damaged.len()];
+            self.together(|trials| starts.iter().for_each(|start| trials.at(&run, *start as u64)));
         }
     }
 
+    /// Numbers and names of every length that fits the bits, in every form.
+    fn lengths(&mut self) {
+        for entry in records::of_every_length(&mut self.seeds) {
+            let run = [entry, self.joined(1)].concat();
+            self.at(&run, 0);
+        }
+    }
+
+    /// Each bit of an entry that another one follows.
     fn flipped(&mut self) {
-        for _ in 0..40 {
-            let sound = records::sound_entry(&mut self.seeds);
-            for bit in 0..8 * sound.len() {
-                let run = [records::flipped(&sound, bit), self.joined(1)].concat();
-                self.held(&run, 0);
-            }
+        for sound in records::some_entries(&mut self.seeds) {
+            let next = self.joined(1);
+            self.together(|trials| {
+                let runs = (0..8 * sound.len()).map(|bit| [&records::flipped(&sound, bit)[..], &next].concat());
+                runs.for_each(|run| trials.at(&run, 0));
+            });
+        }
+    }
+
+    /// Each octet of an entry, with each value.
+    fn octets(&mut self) {
+        for sound in specimens::entries(1) {
+            let next = self.joined(1);
+            (0..sound.len()).for_each(|at| {
+                self.together(|trials| {
+                    let runs = records::with_each_octet(&sound, at);
+                    runs.iter().for_each(|run| trials.at(&[&run[..], &next].concat(), 0));
+                });
+            });
         }
     }
 
     fn cut(&mut self) {
-        for _ in 0..20 {
-            let (run, last) = (self.joined(1), self.joined(1));
-            for length in 0..=last.len() {
-                self.held(&[&run[..], &last[..length]].concat(), run.len() as u64);
-            }
+        for last in records::some_entries(&mut self.seeds) {
+            let first = self.joined(1);
+            self.together(|trials| {
+                let runs = (0..=last.len()).map(|length| [&first[..], &last[..length]].concat());
+                runs.for_each(|run| trials.at(&run, first.len() as u64));
+            });
         }
     }
 
@@ -81,33 +141,30 @@ impl Run {
     fn fenced(&mut self) {
         let whole = self.joined(2);
         for length in 0..=whole.len() {
-            for (side, offset) in (0..=length as u64 + 1).flat_map(|offset| Side::BOTH.map(|side| (side, offset))) {
-                self.watched(Lent::fenced(&whole[..length], side), offset);
-            }
+            self.together(|trials| {
+                for (side, offset) in (0..=length as u64 + 1).flat_map(|offset| Side::BOTH.map(|side| (side, offset))) {
+                    trials.watch(NextEntry { run: Lent::fenced(&whole[..length], side), offset });
+                }
+            });
         }
     }
 
     fn random(&mut self) {
-        for _ in 0..5_000 {
+        for _ in 0..2_000 {
             let length = self.seeds.below(200);
             let octets = self.seeds.octets(length);
             let offset = self.seeds.below(length + 2) as u64;
-            self.held(&octets, offset);
+            self.at(&octets, offset);
         }
-    }
-
-    fn watched(&mut self, run: Lent, offset: u64) {
-        let lines = fence::during(about(&run, offset), || held(run, offset));
-        self.tally.case(lines);
     }
 
     fn joined(&mut self, count: usize) -> Vec<u8> {
         (0..count).flat_map(|_| records::sound_entry(&mut self.seeds)).collect()
     }
 
-    fn held(&mut self, run: &[u8], offset: u64) {
-        let run = Lent::new(run, self.seeds.below(64));
-        self.tally.case(held(run, offset));
+    fn at(&mut self, run: &[u8], offset: u64) {
+        let run = self.lent(run);
+        self.hold(NextEntry { run, offset });
     }
 }
 
@@ -125,19 +182,4 @@ fn far(length: u64) -> Vec<u64> {
         u64::MAX - 1,
         u64::MAX,
     ]
-}
-
-fn held(mut run: Lent, offset: u64) -> Vec<String> {
-    let expected = Outcome { answer: calls::next_entry(run.content(), offset), written: Vec::new() };
-    let given = border::next_entry(&mut run, offset);
-    let mut lines = differences(&expected, given, &[&run], None);
-    if !lines.is_empty() {
-        lines.splice(0..0, about(&run, offset));
-    }
-    lines
-}
-
-fn about(run: &Lent, offset: u64) -> Vec<String> {
-    let lent = run.content_before();
-    vec![format!("next_entry of {} octets from {offset}", lent.len()), format!("run:      {}", hex(lent))]
 }

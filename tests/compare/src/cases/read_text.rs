@@ -3,14 +3,12 @@
 use crate::border;
 use crate::cases::records::{self, ALPHABET, HOUSES};
 use crate::cases::specimens;
-use crate::fence;
+use crate::cases::trials::{Call, Trials};
 use crate::guard::{Lent, Side};
-use crate::judge::differences;
 use crate::paper::field::{Check, FILLER};
 use crate::paper::form::Form;
-use crate::paper::{calls, text};
+use crate::paper::{calls, text, Answer, Outcome};
 use crate::report::{hex, Tally};
-use crate::seeds::Seeds;
 use std::ops::Range;
 
 /// What damage puts into a place: of each kind of character, and the neighbours of each kind that are none.
@@ -19,35 +17,64 @@ const DAMAGE: &[u8; 20] = b"<019AFMPVZ/:;=@[a \0\xff";
 const ROOM: usize = 64;
 
 pub fn compare(seed: u64) -> Tally {
-    let mut run = Run { tally: Tally::new("read_text", seed), seeds: Seeds::new(seed) };
-    run.specimens();
-    run.lengths();
-    run.rooms_and_houses();
-    run.fenced();
-    run.sound();
-    run.one_place();
-    run.two_places();
-    run.codes();
-    run.states();
-    run.sexes();
-    run.dates();
-    run.optional();
-    run.long_numbers();
-    run.random();
-    run.tally
+    let mut trials = Trials::<ReadText>::new(seed);
+    trials.specimens();
+    trials.lengths();
+    trials.rooms_and_houses();
+    trials.orders();
+    trials.fenced();
+    trials.sound();
+    trials.one_place();
+    trials.two_places();
+    trials.codes();
+    trials.states();
+    trials.sexes();
+    trials.dates();
+    trials.optional();
+    trials.long_numbers();
+    trials.random();
+    trials.tally
 }
 
-struct Run {
-    tally: Tally,
-    seeds: Seeds,
+struct ReadText {
+    house: u32,
+    text: Lent,
+    entry: Lent,
 }
 
-impl Run {
+impl Call for ReadText {
+    const NAME: &'static str = "read_text";
+
+    fn expected(&self) -> Outcome {
+        calls::read_text(self.house, self.text.content(), self.entry.length())
+    }
+
+    fn made(&mut self) -> Answer {
+        border::read_text(self.house, &mut self.text, &mut self.entry)
+    }
+
+    fn input(&self) -> &Lent {
+        &self.text
+    }
+
+    fn output(&self) -> Option<&Lent> {
+        Some(&self.entry)
+    }
+
+    fn about(&self) -> Vec<String> {
+        let lent = self.text.content_before();
+        vec![
+            format!("read_text, house {}, of {} octets into {}", self.house, lent.len(), self.entry.length()),
+            format!("text:     {}", hex(lent)),
+            format!("          {}", String::from_utf8_lossy(lent).escape_default()),
+        ]
+    }
+}
+
+impl Trials<ReadText> {
     fn specimens(&mut self) {
         for text in specimens::ALL {
-            for house in HOUSES {
-                self.held(house, text.as_bytes(), ROOM);
-            }
+            HOUSES.iter().for_each(|house| self.with_room(*house, text.as_bytes(), ROOM));
         }
     }
 
@@ -57,24 +84,36 @@ impl Run {
             let text: Vec<u8> = specimens::T3.bytes().cycle().take(length).collect();
             self.case(&text);
         }
-        let entry = Lent::new(&[7; ROOM], 0);
-        self.watched(1, Lent::absent(), entry);
+        let (none, entry) = (Lent::absent(), self.room(ROOM));
+        self.watch(ReadText { house: 1, text: none, entry });
         for house in HOUSES {
-            self.watched(house, Lent::new(specimens::T3.as_bytes(), 0), Lent::absent());
+            let text = self.lent(specimens::T3.as_bytes());
+            self.watch(ReadText { house, text, entry: Lent::absent() });
         }
     }
 
+    /// Every output length up to one past the need, with every house.
     fn rooms_and_houses(&mut self) {
-        for form in Form::ALL {
-            for _ in 0..10 {
-                let record = records::sound_of(&mut self.seeds, form);
-                let text = text::write(&record);
-                let need = (278 + 6 * record.name.len() + 7) / 8;
-                for room in 0..=need + 1 {
-                    self.held(1, &text, room);
-                    let house = self.seeds.pick(&HOUSES);
-                    self.held(house, &text, room);
+        for form in Form::ALL.into_iter().flat_map(|form| [form; 10]) {
+            let record = records::sound_of(&mut self.seeds, form);
+            let text = text::write(&record);
+            let need = (278 + 6 * record.name.len() + 7) / 8;
+            self.together(|trials| {
+                for (room, house) in (0..=need + 1).flat_map(|room| HOUSES.map(|house| (room, house))) {
+                    trials.with_room(house, &text, room);
                 }
+            });
+        }
+    }
+
+    /// The reader's refusals go before the house's, and that before the output's.
+    fn orders(&mut self) {
+        let whole = specimens::T3.as_bytes();
+        let damaged = |place: usize| [&whole[..place], b"/", &whole[place + 1..]].concat();
+        let wrong_digit = [&whole[..87], b"1"].concat();
+        for text in [whole.to_vec(), whole[1..].to_vec(), damaged(0), damaged(87), wrong_digit] {
+            for (house, room) in HOUSES.into_iter().flat_map(|house| [0, 42, 43, ROOM].map(|room| (house, room))) {
+                self.with_room(house, &text, room);
             }
         }
     }
@@ -83,52 +122,58 @@ impl Run {
     fn fenced(&mut self) {
         let texts = [specimens::T3, specimens::LONG_TD1, specimens::LONG_TD2].map(str::as_bytes);
         for text in texts.into_iter().flat_map(|text| (0..=text.len()).map(move |length| &text[..length])) {
-            for (side, room) in Side::BOTH.into_iter().flat_map(|side| [0, 43, ROOM].map(|room| (side, room))) {
-                let text = Lent::fenced(text, side);
-                let entry = Lent::fenced(&self.seeds.octets(room), side);
-                self.watched(1, text, entry);
-            }
+            self.together(|trials| {
+                for (side, room) in Side::BOTH.into_iter().flat_map(|side| [0, 43, ROOM].map(|room| (side, room))) {
+                    let text = Lent::fenced(text, side);
+                    let entry = Lent::fenced(&trials.seeds.octets(room), side);
+                    trials.watch(ReadText { house: 1, text, entry });
+                }
+            });
         }
     }
 
     fn sound(&mut self) {
-        for _ in 0..5_000 {
+        for _ in 0..2_000 {
             let record = records::sound(&mut self.seeds);
             self.case(&text::write(&record));
         }
     }
 
-    /// Each place damaged in each way, with the check digits as they were and with digits that fit the damage.
+    /// A place damaged in each way, with the check digits as they were and with digits that fit the damage.
     fn one_place(&mut self) {
-        for form in Form::ALL {
-            for _ in 0..3 {
-                let record = records::sound_of(&mut self.seeds, form);
-                let further = record.number.len().saturating_sub(9);
-                let sound = text::write(&record);
-                for (place, character) in pairs(sound.len()) {
-                    let mut damaged = sound.clone();
-                    damaged[place] = character;
-                    self.case(&damaged);
-                    text::repair(form, &mut damaged, further);
-                    self.case(&damaged);
-                }
+        for form in Form::ALL.into_iter().flat_map(|form| [form; 3]) {
+            let record = records::sound_of(&mut self.seeds, form);
+            let sound = text::write(&record);
+            for place in 0..sound.len() {
+                self.together(|trials| {
+                    for character in DAMAGE {
+                        let mut damaged = sound.clone();
+                        damaged[place] = *character;
+                        trials.case_and_repaired(form, damaged, record.number.len());
+                    }
+                });
             }
         }
     }
 
     /// Two damaged places: the first refusal in order is the one that is given.
     fn two_places(&mut self) {
-        for _ in 0..10_000 {
+        for _ in 0..3_000 {
             let record = records::sound(&mut self.seeds);
             let mut damaged = text::write(&record);
             for _ in 0..2 {
                 let place = self.seeds.below(damaged.len());
                 damaged[place] = self.seeds.pick(ALPHABET);
             }
-            self.case(&damaged);
-            text::repair(record.form, &mut damaged, record.number.len().saturating_sub(9));
-            self.case(&damaged);
+            self.together(|trials| trials.case_and_repaired(record.form, damaged, record.number.len()));
         }
+    }
+
+    /// A text as it is, and with the check digits that it should have for a number of so many characters.
+    fn case_and_repaired(&mut self, form: Form, mut text: Vec<u8>, number: usize) {
+        self.case(&text);
+        text::repair(form, &mut text, number.saturating_sub(9));
+        self.case(&text);
     }
 
     /// A field of a short text replaced, and the check digits made to fit.
@@ -140,16 +185,16 @@ impl Run {
         };
         text[field].copy_from_slice(characters);
         text::repair(form, &mut text, 0);
-        self.held(1, &text, ROOM);
+        self.with_room(1, &text, ROOM);
     }
 
+    /// Every pair of characters.
     fn codes(&mut self) {
-        for form in Form::ALL {
-            for first in ALPHABET {
-                for second in ALPHABET {
-                    self.replaced(form, form.layout().code.clone(), &[*first, *second]);
-                }
-            }
+        for (form, first) in Form::ALL.into_iter().flat_map(|form| ALPHABET.map(|first| (form, first))) {
+            self.together(|trials| {
+                let field = form.layout().code.clone();
+                ALPHABET.iter().for_each(|second| trials.replaced(form, field.clone(), &[first, *second]));
+            });
         }
     }
 
@@ -180,28 +225,27 @@ impl Run {
             44 => [b'0', b'A'],
             _ => [b'0' + (number / 10) as u8, b'0' + (number % 10) as u8],
         };
-        for year in [b"00", b"95", b"96", b"99", b"<<", b"9<", b"<6"] {
-            for (month, day) in (0..45 * 45).map(|both| (both / 45, both % 45)) {
-                let date = [*year, pair(month), pair(day)].concat();
-                let form = self.seeds.pick(&Form::ALL);
-                self.replaced(form, form.layout().birth.clone(), &date);
-                self.replaced(form, form.layout().expiry.clone(), &date);
-            }
+        let years = [b"00", b"95", b"96", b"99", b"<<", b"9<", b"<6"];
+        for (year, month) in years.into_iter().flat_map(|year| (0..45).map(move |month| (year, month))) {
+            self.together(|trials| {
+                for day in 0..45 {
+                    let date = [*year, pair(month), pair(day)].concat();
+                    let form = trials.seeds.pick(&Form::ALL);
+                    trials.replaced(form, form.layout().birth.clone(), &date);
+                    trials.replaced(form, form.layout().expiry.clone(), &date);
+                }
+            });
         }
     }
 
     /// What stands in an optional field is not read, but for its part in the check digits.
     fn optional(&mut self) {
-        for _ in 0..500 {
-            for form in Form::ALL {
-                let mut text = text::write(&records::sound_of(&mut self.seeds, form));
-                for place in optional_places(form) {
-                    text[place] = self.seeds.pick(ALPHABET);
-                }
-                self.case(&text);
-                text::repair(form, &mut text, 0);
-                self.case(&text);
+        for form in Form::ALL.into_iter().flat_map(|form| [form; 300]) {
+            let mut text = text::write(&records::sound_of(&mut self.seeds, form));
+            for place in optional_places(form) {
+                text[place] = self.seeds.pick(ALPHABET);
             }
+            self.together(|trials| trials.case_and_repaired(form, text, 0));
         }
     }
 
@@ -240,7 +284,7 @@ impl Run {
     }
 
     fn random(&mut self) {
-        for _ in 0..2_000 {
+        for _ in 0..500 {
             let length = self.seeds.pick(&[72, 88, 90]);
             let text: Vec<u8> = (0..length).map(|_| self.seeds.pick(ALPHABET)).collect();
             self.case(&text);
@@ -249,23 +293,16 @@ impl Run {
         }
     }
 
-    fn watched(&mut self, house: u32, text: Lent, entry: Lent) {
-        let lines = fence::during(about(house, &text, &entry), || held(house, text, entry));
-        self.tally.case(lines);
-    }
-
     /// House and room of the seed's choice.
     fn case(&mut self, text: &[u8]) {
         let house = records::house(&mut self.seeds);
         let room = self.seeds.pick(&[ROOM, ROOM, ROOM, 100, 50, 0]);
-        self.held(house, text, room);
+        self.with_room(house, text, room);
     }
 
-    fn held(&mut self, house: u32, text: &[u8], room: usize) {
-        let text = Lent::new(text, self.seeds.below(64));
-        let entry = self.seeds.octets(room);
-        let entry = Lent::new(&entry, self.seeds.below(64));
-        self.tally.case(held(house, text, entry));
+    fn with_room(&mut self, house: u32, text: &[u8], room: usize) {
+        let (text, entry) = (self.lent(text), self.room(room));
+        self.hold(ReadText { house, text, entry });
     }
 }
 
@@ -275,28 +312,4 @@ fn optional_places(form: Form) -> Vec<usize> {
         Form::Td2 => (64..71).collect(),
         Form::Td3 => (72..86).collect(),
     }
-}
-
-/// Each place with each way to damage it.
-fn pairs(length: usize) -> impl Iterator<Item = (usize, u8)> {
-    (0..length).flat_map(|place| DAMAGE.iter().map(move |character| (place, *character)))
-}
-
-fn held(house: u32, mut text: Lent, mut entry: Lent) -> Vec<String> {
-    let expected = calls::read_text(house, text.content(), entry.length());
-    let given = border::read_text(house, &mut text, &mut entry);
-    let mut lines = differences(&expected, given, &[&text], Some(&entry));
-    if !lines.is_empty() {
-        lines.splice(0..0, about(house, &text, &entry));
-    }
-    lines
-}
-
-fn about(house: u32, text: &Lent, entry: &Lent) -> Vec<String> {
-    let lent = text.content_before();
-    vec![
-        format!("read_text, house {house}, of {} octets into {}", lent.len(), entry.length()),
-        format!("text:     {}", hex(lent)),
-        format!("          {}", String::from_utf8_lossy(lent).escape_default()),
-    ]
 }

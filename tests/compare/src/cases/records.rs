@@ -1,5 +1,6 @@
 //! Records and damage made from a seed.
 
+use crate::cases::specimens;
 use crate::paper::entry;
 use crate::paper::field::{is_birth, is_code, is_expiry, FILLER};
 use crate::paper::form::Form;
@@ -126,4 +127,33 @@ pub fn flipped(octets: &[u8], bit: usize) -> Vec<u8> {
     let mut flipped = octets.to_vec();
     flipped[bit / 8] ^= 0x80 >> (bit % 8);
     flipped
+}
+
+/// The octets with one of them given each value.
+pub fn with_each_octet(octets: &[u8], at: usize) -> Vec<Vec<u8>> {
+    let changed = |value: u8| [&octets[..at], &[value], &octets[at + 1..]].concat();
+    (0..=u8::MAX).map(changed).collect()
+}
+
+/// Sound entries of every form: those of the specimens, and as many again as make forty.
+pub fn some_entries(seeds: &mut Seeds) -> Vec<Vec<u8>> {
+    let mut entries = specimens::entries(1);
+    entries.resize_with(40, || sound_entry(seeds));
+    entries
+}
+
+/// Entries with a number, or a name, of every length that fits the bits, also of those that a form does not allow.
+pub fn of_every_length(seeds: &mut Seeds) -> Vec<Vec<u8>> {
+    let mut entries = Vec::new();
+    for form in Form::ALL {
+        let sound = sound_of(seeds, form);
+        let names = (0..=63).map(|length| Record { name: vec![b'N'; length], ..sound.clone() });
+        let numbers = (0..=22).map(|length| Record { number: vec![b'K'; length], ..sound.clone() });
+        let filled = (0..22).map(|place| {
+            let number: Vec<u8> = (0..22).map(|at| if at == place { FILLER } else { b'K' }).collect();
+            Record { number, ..sound.clone() }
+        });
+        entries.extend(names.chain(numbers).chain(filled).map(|record| entry::write(1, &record)));
+    }
+    entries
 }

@@ -3,43 +3,67 @@
 use crate::border;
 use crate::cases::records;
 use crate::cases::specimens;
-use crate::fence;
+use crate::cases::trials::{Call, Trials};
 use crate::guard::{Lent, Side};
-use crate::judge::differences;
 use crate::paper::form::Form;
-use crate::paper::{calls, entry, text};
+use crate::paper::{calls, entry, Answer, Outcome};
 use crate::report::{hex, Tally};
-use crate::seeds::Seeds;
 
 /// As long as the longest text.
 const ROOM: usize = 90;
 
 pub fn compare(seed: u64) -> Tally {
-    let mut run = Run { tally: Tally::new("write_text", seed), seeds: Seeds::new(seed) };
-    run.specimens();
-    run.rooms();
-    run.sound();
-    run.careless();
-    run.flipped();
-    run.cut();
-    run.more();
-    run.fenced();
-    run.random();
-    run.tally
+    let mut trials = Trials::<WriteText>::new(seed);
+    trials.specimens();
+    trials.rooms();
+    trials.sound();
+    trials.careless();
+    trials.lengths();
+    trials.flipped();
+    trials.octets();
+    trials.cut();
+    trials.more();
+    trials.fenced();
+    trials.random();
+    trials.tally
 }
 
-struct Run {
-    tally: Tally,
-    seeds: Seeds,
+struct WriteText {
+    entry: Lent,
+    text: Lent,
 }
 
-impl Run {
+impl Call for WriteText {
+    const NAME: &'static str = "write_text";
+
+    fn expected(&self) -> Outcome {
+        calls::write_text(self.entry.content(), self.text.length())
+    }
+
+    fn made(&mut self) -> Answer {
+        border::write_text(&mut self.entry, &mut self.text)
+    }
+
+    fn input(&self) -> &Lent {
+        &self.entry
+    }
+
+    fn output(&self) -> Option<&Lent> {
+        Some(&self.text)
+    }
+
+    fn about(&self) -> Vec<String> {
+        let lent = self.entry.content_before();
+        let first = format!("write_text of {} octets into {}", lent.len(), self.text.length());
+        vec![first, format!("entry:    {}", hex(lent))]
+    }
+}
+
+impl Trials<WriteText> {
+    /// The bits hold houses up to 32,767, and 0, which is none.
     fn specimens(&mut self) {
-        for text in specimens::ALL {
-            let record = text::read(text.as_bytes()).unwrap();
-            for house in [0, 1, 32_767] {
-                self.held(&entry::write(house, &record), ROOM);
-            }
+        for house in [0, 1, 32_767] {
+            specimens::entries(house).iter().for_each(|entry| self.with_room(entry, ROOM));
         }
     }
 
@@ -48,42 +72,58 @@ impl Run {
         for form in Form::ALL {
             let sound = entry::write(1, &records::sound_of(&mut self.seeds, form));
             for room in 0..=form.layout().length + 1 {
-                self.held(&sound, room);
-                self.held(&sound[1..], room);
+                self.with_room(&sound, room);
+                self.with_room(&sound[1..], room);
             }
         }
-        self.watched(Lent::absent(), Lent::new(&[7; ROOM], 0));
+        let (none, text) = (Lent::absent(), self.room(ROOM));
+        self.watch(WriteText { entry: none, text });
         let sound = records::sound_entry(&mut self.seeds);
-        self.watched(Lent::new(&sound, 0), Lent::absent());
+        self.watch(WriteText { entry: Lent::new(&sound, 0), text: Lent::absent() });
     }
 
     fn sound(&mut self) {
-        for _ in 0..10_000 {
+        for _ in 0..2_000 {
             let entry = records::sound_entry(&mut self.seeds);
             self.case(&entry);
         }
     }
 
     fn careless(&mut self) {
-        for _ in 0..20_000 {
+        for _ in 0..4_000 {
             let entry = records::careless_entry(&mut self.seeds);
             self.case(&entry);
         }
     }
 
+    /// Numbers and names of every length that fits the bits, in every form.
+    fn lengths(&mut self) {
+        records::of_every_length(&mut self.seeds).iter().for_each(|entry| self.with_room(entry, ROOM));
+    }
+
+    /// Each bit of an entry.
     fn flipped(&mut self) {
-        for _ in 0..40 {
-            let sound = records::sound_entry(&mut self.seeds);
-            for bit in 0..8 * sound.len() {
-                self.held(&records::flipped(&sound, bit), ROOM);
-            }
+        for sound in records::some_entries(&mut self.seeds) {
+            self.together(|trials| {
+                (0..8 * sound.len()).for_each(|bit| trials.with_room(&records::flipped(&sound, bit), ROOM));
+            });
+        }
+    }
+
+    /// Each octet of an entry, with each value.
+    fn octets(&mut self) {
+        for sound in specimens::entries(1) {
+            (0..sound.len()).for_each(|at| {
+                self.together(|trials| {
+                    records::with_each_octet(&sound, at).iter().for_each(|entry| trials.with_room(entry, ROOM));
+                });
+            });
         }
     }
 
     fn cut(&mut self) {
-        for _ in 0..40 {
-            let sound = records::sound_entry(&mut self.seeds);
-            (0..sound.len()).for_each(|length| self.case(&sound[..length]));
+        for sound in records::some_entries(&mut self.seeds) {
+            self.together(|trials| (0..sound.len()).for_each(|length| trials.case(&sound[..length])));
         }
     }
 
@@ -102,11 +142,10 @@ impl Run {
     fn fenced(&mut self) {
         for _ in 0..4 {
             let sound = records::sound_entry(&mut self.seeds);
-            let cuts = (0..=sound.len()).flat_map(|length| Side::BOTH.map(|side| (length, side)));
-            for (length, side) in cuts {
+            for (length, side) in (0..=sound.len()).flat_map(|length| Side::BOTH.map(|side| (length, side))) {
                 let entry = Lent::fenced(&sound[..length], side);
                 let text = Lent::fenced(&self.seeds.octets(ROOM), side);
-                self.watched(entry, text);
+                self.watch(WriteText { entry, text });
             }
         }
     }
@@ -119,35 +158,14 @@ impl Run {
         }
     }
 
-    fn watched(&mut self, entry: Lent, text: Lent) {
-        let lines = fence::during(about(&entry, &text), || held(entry, text));
-        self.tally.case(lines);
-    }
-
+    /// A room of the seed's choice.
     fn case(&mut self, entry: &[u8]) {
         let room = self.seeds.pick(&[ROOM, ROOM, ROOM, 200, 89, 88, 87, 72, 71, 0]);
-        self.held(entry, room);
+        self.with_room(entry, room);
     }
 
-    fn held(&mut self, entry: &[u8], room: usize) {
-        let entry = Lent::new(entry, self.seeds.below(64));
-        let text = self.seeds.octets(room);
-        let text = Lent::new(&text, self.seeds.below(64));
-        self.tally.case(held(entry, text));
+    fn with_room(&mut self, entry: &[u8], room: usize) {
+        let (entry, text) = (self.lent(entry), self.room(room));
+        self.hold(WriteText { entry, text });
     }
-}
-
-fn held(mut entry: Lent, mut text: Lent) -> Vec<String> {
-    let expected = calls::write_text(entry.content(), text.length());
-    let given = border::write_text(&mut entry, &mut text);
-    let mut lines = differences(&expected, given, &[&entry], Some(&text));
-    if !lines.is_empty() {
-        lines.splice(0..0, about(&entry, &text));
-    }
-    lines
-}
-
-fn about(entry: &Lent, text: &Lent) -> Vec<String> {
-    let lent = entry.content_before();
-    vec![format!("write_text of {} octets into {}", lent.len(), text.length()), format!("entry:    {}", hex(lent))]
 }

@@ -1,0 +1,66 @@
+#include "octets.h"
+
+#include <errno.h>
+#include <stdio.h>
+#include <stdlib.h>
+#include <string.h>
+
+int octets_add(struct octets *octets, const void *more, size_t len)
+{
+    if (len > octets->room - octets->len) {
+        size_t room = 2 * (octets->len + len);
+        uint8_t *at = realloc(octets->at, room);
+
+        if (at == NULL) {
+            fputs("desk: no memory is left\n", stderr);
+            return 0;
+        }
+        octets->at = at;
+        octets->room = room;
+    }
+    if (len > 0) {
+        memcpy(octets->at + octets->len, more, len);
+    }
+    octets->len += len;
+    return 1;
+}
+
+static int read_on(struct octets *octets, FILE *stream)
+{
+    uint8_t part[4096];
+    size_t len;
+
+    while ((len = fread(part, 1, sizeof part, stream)) > 0) {
+        if (!octets_add(octets, part, len)) {
+            return 0;
+        }
+    }
+    if (ferror(stream)) {
+        fprintf(stderr, "desk: the input cannot be read: %s\n", strerror(errno));
+        return 0;
+    }
+    return 1;
+}
+
+int octets_read(struct octets *octets, const char *file)
+{
+    FILE *stream;
+    int whole;
+
+    if (file == NULL) {
+        return read_on(octets, stdin);
+    }
+    stream = fopen(file, "rb");
+    if (stream == NULL) {
+        fprintf(stderr, "desk: %s: %s\n", file, strerror(errno));
+        return 0;
+    }
+    whole = read_on(octets, stream);
+    fclose(stream);
+    return whole;
+}
+
+void octets_free(struct octets *octets)
+{
+    free(octets->at);
+}

@@ -1,0 +1,23 @@
+/* Octets that the desk holds, and how they come in. */
+#ifndef DESK_OCTETS_H
+#define DESK_OCTETS_H
+
+#include <stddef.h>
+#include <stdint.h>
+
+/* Begins as { NULL, 0, 0 }. */
+struct octets {
+    uint8_t *at;
+    size_t len;
+    size_t room;
+};
+
+/* Puts octets behind those that are there. 0 where memory ran out, which is told on standard error. */
+int octets_add(struct octets *octets, const void *more, size_t len);
+
+/* All of a file, or of standard input where no file is named. 0 where it could not be read, which is told. */
+int octets_read(struct octets *octets, const char *file);
+
+void octets_free(struct octets *octets);
+
+#endif

@@ -1,0 +1,149 @@
+#include "show.h"
+
+#include <inttypes.h>
+#include <stdio.h>
+
+/* How much of a line, and how many lines, are shown of a text that is of no form. No form's line is longer. */
+#define WIDEST 60
+#define MOST_LINES 4
+/* Octets in a line of a run. */
+#define OCTETS 16
+
+/* 0 for a length that no form has. */
+static size_t line_width(size_t len)
+{
+    switch (len) {
+    case 90: return 30;
+    case 72: return 36;
+    case 88: return 44;
+    default: return 0;
+    }
+}
+
+/* One character for each octet, so that a caret below stands where it should, and nothing that would steer a terminal. */
+static void put_characters(const uint8_t *text, size_t len)
+{
+    size_t at;
+
+    for (at = 0; at < len; at++) {
+        putchar(text[at] >= ' ' && text[at] <= '~' ? text[at] : '?');
+    }
+}
+
+static void put_caret(uint64_t column)
+{
+    printf("    %*s^\n", (int)column, "");
+}
+
+static void show_line(const struct zone *zone, size_t start, size_t end, uint64_t place)
+{
+    size_t shown = end - start < WIDEST ? end - start : WIDEST;
+
+    fputs("    ", stdout);
+    put_characters(zone->text.at + start, shown);
+    fputs(start + shown < end ? " ..\n" : "\n", stdout);
+    if (place >= start && place < start + shown) {
+        put_caret(place - start);
+    }
+}
+
+void show_zone(const struct zone *zone, uint64_t place)
+{
+    size_t width = line_width(zone->text.len);
+    size_t lines = 0;
+    size_t start;
+    size_t end;
+
+    for (start = 0; start < zone->text.len && lines < MOST_LINES; start = end, lines++) {
+        end = start + 1;
+        while (end < zone->text.len && (width > 0 ? end % width != 0 : !zone->begins.at[end])) {
+            end++;
+        }
+        show_line(zone, start, end, place);
+    }
+    if (start < zone->text.len) {
+        puts("    ..");
+    }
+}
+
+void show_text(const char *label, const uint8_t *text, size_t len)
+{
+    size_t width = line_width(len);
+    size_t start;
+
+    for (start = 0; start < len && width > 0; start += width) {
+        printf("  %-13s", start == 0 ? label : "");
+        put_characters(text + start, width);
+        putchar('\n');
+    }
+}
+
+void show_record(const struct record *record)
+{
+    printf("  house        %u\n", record->house);
+    printf("  form         %s\n", record->form);
+    printf("  code         %s\n", record->code);
+    printf("  state        %s\n", record->state);
+    printf("  number       %s\n", record->number);
+    printf("  nationality  %s\n", record->nationality);
+    printf("  birth        %s\n", record->birth);
+    printf("  sex          %s\n", record->sex);
+    printf("  expiry       %s\n", record->expiry);
+    printf("  name         %s\n", record->name);
+}
+
+#define COLUMNS "  %6s  %5s  %-4s  %-4s  %-5s  %-22s  %-6s  %-6s  %-3s  %-6s  %s\n"
+
+void show_heading(void)
+{
+    printf(COLUMNS, "offset", "house", "form", "code", "state", "number", "nation", "birth", "sex", "expiry", "name");
+}
+
+void show_row(uint64_t offset, const struct record *record)
+{
+    char place[21];
+    char house[6];
+
+    snprintf(place, sizeof place, "%" PRIu64, offset);
+    snprintf(house, sizeof house, "%u", record->house & 0x7fffu);
+    printf(COLUMNS, place, house, record->form, record->code, record->state, record->number, record->nationality,
+           record->birth, record->sex, record->expiry, record->name);
+}
+
+void show_hex(const char *label, const uint8_t *octets, size_t len)
+{
+    size_t at;
+
+    printf("  %-13s", label);
+    for (at = 0; at < len; at++) {
+        printf("%02x", (unsigned)octets[at]);
+    }
+    putchar('\n');
+}
+
+void show_octets(const uint8_t *run, size_t len, uint64_t place)
+{
+    uint64_t start = place - place % OCTETS;
+    uint64_t at;
+
+    if (place >= len) {
+        return;
+    }
+    printf("    octets from %" PRIu64 "\n   ", start);
+    for (at = start; at < len && at < start + OCTETS; at++) {
+        printf(" %02x", (unsigned)run[at]);
+    }
+    putchar('\n');
+    put_caret(3 * (place - start));
+}
+
+void show_remark(const char *line, size_t len)
+{
+    put_characters((const uint8_t *)line, len > 0 && line[len - 1] == '\r' ? len - 1 : len);
+    putchar('\n');
+}
+
+void show_refusal(lamphudet_answer answer)
+{
+    printf("  refused, %" PRIu32 " at place %" PRIu64 ": %s\n", answer.number, answer.value, lamphudet_words(answer.number));
+}

@@ -1,0 +1,21 @@
+/* A machine readable zone as people hand it over: in lines. The library is lent its text, which is the lines joined. */
+#ifndef DESK_ZONE_H
+#define DESK_ZONE_H
+
+#include "octets.h"
+
+struct zone {
+    struct octets text;
+    struct octets begins; /* for each place of the text 1 where a line of what was given begins, else 0 */
+};
+
+/*
+ * Joins the lines of what was given, blanks at either end of a line left out. In a text that is given in one line, blanks
+ * behind 30, 36 or 44 characters, the widths of the forms' lines, end a line too. Every other blank stays, and is for the
+ * library to refuse. 0 where memory ran out.
+ */
+int zone_join(struct zone *zone, const char *given, size_t len);
+
+void zone_free(struct zone *zone);
+
+#endif

@@ -1,0 +1,74 @@
+/*
+ * A host of the installed library: T3 of document 01 is read to an entry of 43 octets that begins as the paper says, is
+ * found again as the only entry of a run, and is written back; and every refusal has words of its own. Exit status 0 where
+ * all of that is so.
+ */
+#include <lamphudet.h>
+#include <stdio.h>
+#include <string.h>
+
+static const char t3[] = "P<UTONORD<<ELIN<<<<<<<<<<<<<<<<<<<<<<<<<<<<<"
+                         "K7<<<<<<<1UTO9001158F3006302<<<<<<<<<<<<<<00";
+
+static int is(lamphudet_answer answer, uint32_t number, uint64_t value)
+{
+    return answer.number == number && answer.value == value;
+}
+
+static int accepted(void)
+{
+    static const uint8_t begins[6] = { 0x00, 0x02, 0x9f, 0x79, 0x95, 0x48 };
+    uint8_t given[sizeof t3 - 1];
+    uint8_t entry[LAMPHUDET_ENTRY_MAX];
+    uint8_t text[LAMPHUDET_TEXT_MAX];
+
+    memcpy(given, t3, sizeof given);
+    return is(lamphudet_read_text(1, given, sizeof given, entry, sizeof entry), 0, 43)
+        && memcmp(entry, begins, sizeof begins) == 0
+        && is(lamphudet_next_entry(entry, 43, 0), 0, 43)
+        && is(lamphudet_next_entry(entry, 43, 43), 0, 0)
+        && is(lamphudet_write_text(entry, 43, text, sizeof text), 0, 88)
+        && memcmp(text, given, sizeof given) == 0;
+}
+
+static int refused(void)
+{
+    uint8_t given[sizeof t3 - 1];
+    uint8_t entry[LAMPHUDET_ENTRY_MAX] = { 0 };
+    uint8_t text[LAMPHUDET_TEXT_MAX];
+
+    memcpy(given, t3, sizeof given);
+    return is(lamphudet_read_text(0, given, sizeof given, entry, sizeof entry), LAMPHUDET_REFUSED_UNSOUND, 0)
+        && is(lamphudet_read_text(1, given, sizeof given, entry, 42), LAMPHUDET_REFUSED_OUTPUT, 0)
+        && is(lamphudet_read_text(1, NULL, 0, NULL, 0), LAMPHUDET_REFUSED_LENGTH, 0)
+        && is(lamphudet_write_text(NULL, 0, text, sizeof text), LAMPHUDET_REFUSED_ENTRY, 0)
+        && is(lamphudet_next_entry(entry, sizeof entry, 65), LAMPHUDET_REFUSED_ENTRY, 65)
+        && entry[0] == 0;
+}
+
+/* The words of 1 to 18 are apart from each other, from those of an acceptance and from those of a number that is none. */
+static int in_words(void)
+{
+    uint32_t one;
+    uint32_t other;
+
+    for (one = 0; one <= 19; one++) {
+        for (other = one + 1; other <= 19; other++) {
+            if (strcmp(lamphudet_words(one), lamphudet_words(other)) == 0) {
+                return 0;
+            }
+        }
+    }
+    return strcmp(lamphudet_words(9), "check digit") == 0 && lamphudet_words(19) == lamphudet_words(UINT32_MAX);
+}
+
+int main(void)
+{
+    int kept = accepted();
+    int kept_out = refused();
+    int told = in_words();
+
+    printf("T3 %s, refusals %s, words %s\n", kept ? "kept" : "NOT kept", kept_out ? "right" : "WRONG",
+           told ? "right" : "WRONG");
+    return !(kept && kept_out && told);
+}
