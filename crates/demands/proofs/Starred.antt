@@ -6,9 +6,21 @@ use Rattle.zone.specs.Part.{rank, same}
 use Rattle.zone.specs.Form.{layout, start, startIn, width, widthIn, field, line, covers, stretchOf, stretches, cut, joinedCuts, covered}
 use Rattle.digit.specs.Check.{value, weight, sumFrom, checkOf}
 use Rattle.field.specs.Date.{pairOf, yearOf, monthOf, dayOf, isLeap, isShort, daysIn, yearRule, monthRule, dayRule, birthRule}
-use Rattle.demands.specs.Examples.{octets, isDigitAt, isRight, T3, examples, allRight}
+use Rattle.zone.specs.Form.{longest}
+use Rattle.zone.specs.Record.{trimmed, trimmedLength, padded}
+use Rattle.text.specs.Number.{isLong, spanOf, numberBy}
+use Rattle.text.specs.Read.{recordBy}
+use Rattle.entry.specs.Bits.{put, gathered}
+use Rattle.entry.specs.Bits as bits
+use Rattle.entry.specs.Codes.{codeOf, formCode, sexCode}
+use Rattle.entry.specs.Entry.{puts, putKey, putRest, entryOf}
+use Rattle.tlv.specs.Element.{element, tagAt, tagWidth, sizeAt, sizeOf, sized, endsWithin}
+use Rattle.chip.specs.Cut.{alike}
+use Rattle.demands.specs.Examples.{octets, told, isRead, isRefused, isDigitAt, isRight, T3, examples, allRight}
 
 pub starred : allRight examples ≡ true
 unfolding allRight examples isRight isDigitAt T3 octets checkOf sumFrom value weight isDigit isLetter isFiller birthRule pairOf yearOf monthOf dayOf isLeap isShort daysIn yearRule monthRule dayRule
     layout start startIn width widthIn field line covers stretchOf stretches cut joinedCuts covered rank same
+    recordBy spanOf isLong longest numberBy trimmed trimmedLength padded entryOf bits.octets gathered put puts putKey putRest codeOf formCode sexCode alike
+    told isRead isRefused element tagAt tagWidth sizeAt sizeOf sized endsWithin
 starred = refl

@@ -18,6 +18,13 @@ use Rattle.sha256.specs.Answer.{Digests}
 use Rattle.zone.specs.declared.record.Record.{Record}
 use Rattle.text.specs.declared.read.Reading.{Reading}
 use Rattle.text.specs.Read.{Answer, answerOf, readText}
+use Rattle.writing.specs.Answer as text
+use Rattle.entry.specs.Entry.{Writes}
+use Rattle.entry.specs.Kept.{WritesKept}
+use Rattle.entry.specs.Run as run
+use Rattle.entry.specs.declared.run.Step.{Step}
+use Rattle.entry.specs.declared.run.Step.the-variants.{Next, End, Refused as Stopped}
+use Rattle.entry.specs.declared.run.Found.{Found}
 
 -- the cause of a number
 causes : List Cause
@@ -86,3 +93,56 @@ only-digest input out a b r s p q = (length-tells r s (p .answer ∙ sym (q .ans
 
 pub only-reading : (t : List ℕ) (r s : Reading) → answerOf r ≡ readText t → answerOf s ≡ readText t → r ≡ s
 only-reading t r s p q = answer-tells r s (p ∙ sym q)
+
+-- ---- what writes a text or an entry, of any record or of one known to be sound
+
+pub only-text : (r : Record) (out a b : List ℕ) (v w : Written) → text.Writes r out a v → text.Writes r out b w → (v ≡ w) × (a ≡ b)
+only-text r out a b v w p q = (length-tells v w (p .answer ∙ sym (q .answer)), p .output ∙ sym (q .output))
+
+pub only-kept-text : (r : Record) (out a b : List ℕ) (v w : Written) → text.WritesKept r out a v → text.WritesKept r out b w → (v ≡ w) × (a ≡ b)
+only-kept-text r out a b v w p q = (length-tells v w (p .answer ∙ sym (q .answer)), p .output ∙ sym (q .output))
+
+pub only-entry : (house : ℕ) (r : Record) (out a b : List ℕ) (v w : Written) → Writes house r out a v → Writes house r out b w → (v ≡ w) × (a ≡ b)
+only-entry house r out a b v w p q = (length-tells v w (p .answer ∙ sym (q .answer)), p .output ∙ sym (q .output))
+
+pub only-kept-entry : (house : ℕ) (r : Record) (out a b : List ℕ) (v w : Written) → WritesKept house r out a v → WritesKept house r out b w → (v ≡ w) × (a ≡ b)
+only-kept-entry house r out a b v w p q = (length-tells v w (p .answer ∙ sym (q .answer)), p .output ∙ sym (q .output))
+
+-- ---- the run reader
+
+-- where a run goes on, told apart: at an offset, at its end, or as a refusal
+offsetIn : run.Onward → ℕ
+offsetIn (run.next n) = n
+offsetIn run.none = 0
+offsetIn (run.refused n p) = 0
+
+refusalIn : run.Onward → Outcome
+refusalIn (run.next n) = passed
+refusalIn run.none = passed
+refusalIn (run.refused n p) = refused n p
+
+kindOf : run.Onward → ℕ
+kindOf (run.next n) = 0
+kindOf run.none = 1
+kindOf (run.refused n p) = 2
+
+pub step-tells : (s t : Step) → run.onwardOf s ≡ run.onwardOf t → s ≡ t
+unfolding offsetIn refusalIn kindOf
+step-tells (Next n) (Next m) e = ap Next (ap offsetIn e)
+step-tells End End e = refl
+step-tells (Stopped r) (Stopped s) e = ap Stopped (refused-tells r s (ap refusalIn e))
+step-tells (Next n) End e = absurd (let z : _≡_ {A = ℕ} 0 1 = ap kindOf e in omega arith)
+step-tells (Next n) (Stopped s) e = absurd (let z : _≡_ {A = ℕ} 0 2 = ap kindOf e in omega arith)
+step-tells End (Next m) e = absurd (let z : _≡_ {A = ℕ} 1 0 = ap kindOf e in omega arith)
+step-tells End (Stopped s) e = absurd (let z : _≡_ {A = ℕ} 1 2 = ap kindOf e in omega arith)
+step-tells (Stopped r) (Next m) e = absurd (let z : _≡_ {A = ℕ} 2 0 = ap kindOf e in omega arith)
+step-tells (Stopped r) End e = absurd (let z : _≡_ {A = ℕ} 2 1 = ap kindOf e in omega arith)
+
+pub only-next : (w : List ℕ) (at : ℕ) (r s : Found) → run.answerOf r ≡ run.readEntry w at → run.answerOf s ≡ run.readEntry w at → r ≡ s
+unfolding run.answerOf
+only-next w at r s p q =
+    let e = p ∙ sym q in
+    let a : r .step ≡ s .step = step-tells (r .step) (s .step) (ap (λ (x : run.Answer). x .onward) e) in
+    let b : r .house ≡ s .house = ap (λ (x : run.Answer). x .house) e in
+    let c : r .kept ≡ s .kept = ap (λ (x : run.Answer). x .kept) e in
+    λ i. record { step = a i; house = b i; kept = c i }

@@ -4,14 +4,21 @@ use Prim.Native.Char.{code}
 use Prim.Native.String as text
 use Prim.Native.String.{String}
 use mathlib.Core.Bool.{Bool, true, false, cond, not, _&&_}
-use mathlib.Core.List.{List, [], _∷_}
+use mathlib.Core.List.{List, [], _∷_, _++_}
 use lib.Dec.{eqb}
-use lib.ListN.{getD}
+use lib.ListN.{length, take, getD, replicate}
 use Rattle.zone.specs.declared.form.Form.the-variants.{Td3}
 use Rattle.zone.specs.Part.{Part, number, numberCheck, birth, birthCheck, expiry, expiryCheck, composite}
 use Rattle.zone.specs.Form.{start, field, covered}
 use Rattle.digit.specs.Check.{checkOf}
 use Rattle.field.specs.Date.{birthRule}
+use Rattle.text.specs.Number.{spanOf}
+use Rattle.text.specs.Read.{recordBy}
+use Rattle.entry.specs.Entry.{entryOf}
+use Rattle.tlv.specs.declared.Stretch.{Stretch}
+use Rattle.tlv.specs.Read.{Read, value, refusal}
+use Rattle.tlv.specs.Element.{element}
+use Rattle.chip.specs.Cut.{alike}
 
 -- the octets of a text
 unfoldable pub octets : String → List ℕ
@@ -23,12 +30,29 @@ pub data Example : Type 0 where
   check : String → ℕ → Example
   -- a birth is kept, or refused
   birthKept birthRefused : String → Example
+  -- an element whose length is told so, before so many octets, is read, or is refused with 10
+  lengthRead lengthRefused : List ℕ → ℕ → Example
+  -- with this house the entry of a TD3 text has so many bytes, and begins with these
+  entry : String → (house n : ℕ) → List ℕ → Example
   -- the four check digits of a TD3 text besides the personal one: number, birth, expiry, composite
   digits : String → (n b e c : ℕ) → Example
 
 -- a digit of a TD3 text is the one worked out, and stands in its place
 unfoldable pub isDigitAt : List ℕ → Part → List ℕ → ℕ → Bool
 isDigitAt t x covers n = eqb (checkOf covers) n && eqb (getD t (start Td3 x) 0) (48 + n)
+
+-- whether an element is read, or refused with a number
+unfoldable pub isRead : Read Stretch → Bool
+isRead (value v) = true
+isRead (refusal n p) = false
+
+unfoldable pub isRefused : ℕ → Read Stretch → Bool
+isRefused by (value v) = false
+isRefused by (refusal n p) = eqb n by
+
+-- an octet string with this length, and so many octets
+unfoldable pub told : List ℕ → ℕ → Read Stretch
+told l n = element (4 ∷ (l ++ replicate n 0)) 0 4
 
 unfoldable pub isRight : Example → Bool
 isRight (check s n) = eqb (checkOf (octets s)) n
@@ -38,6 +62,11 @@ isRight (digits s n b e c) =
     isDigitAt (octets s) numberCheck (field Td3 number (octets s)) n
     && (isDigitAt (octets s) birthCheck (field Td3 birth (octets s)) b
     && (isDigitAt (octets s) expiryCheck (field Td3 expiry (octets s)) e && isDigitAt (octets s) composite (covered Td3 (octets s)) c))
+isRight (lengthRead l n) = isRead (told l n)
+isRight (lengthRefused l n) = isRefused 10 (told l n)
+isRight (entry s house n front) =
+    eqb (length (entryOf house (recordBy Td3 (octets s) (spanOf Td3 (octets s))))) n
+    && alike (take (length front) (entryOf house (recordBy Td3 (octets s) (spanOf Td3 (octets s))))) front
 
 -- `P<UTONORD<<ELIN`, fillers to 44, then the second line
 unfoldable pub T3 : String
@@ -54,6 +83,10 @@ examples =
     ∷ birthKept "95<<31"
     ∷ birthRefused "950229"
     ∷ digits T3 1 8 2 0
+    ∷ entry T3 1 43 (0 ∷ 2 ∷ 159 ∷ 121 ∷ 149 ∷ 72 ∷ [])
+    ∷ lengthRead (127 ∷ []) 127
+    ∷ lengthRefused (129 ∷ 127 ∷ []) 127
+    ∷ lengthRead (129 ∷ 128 ∷ []) 128
     ∷ []
 
 unfoldable pub allRight : List Example → Bool

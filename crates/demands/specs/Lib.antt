@@ -4,3 +4,5 @@ pub mod Held
 pub mod Examples
 pub mod Runs
 pub mod Keys
+pub mod Presented
+pub mod Answered

@@ -1,5 +1,5 @@
 -- What the calls of a C host answer and leave: document 01, "What the server lends and gets". There a record passes as its entry.
-use Prim.Native.Nat.{ℕ}
+use Prim.Native.Nat.{ℕ, _-_}
 use mathlib.Core.Bool.{Bool, false, cond}
 use mathlib.Core.List.{List}
 use lib.Dec.{eqb}
@@ -11,7 +11,9 @@ use Rattle.text.specs.Read as reading
 use Rattle.writing.specs.Answer.{textAnswer, textOut}
 use Rattle.entry.specs.Entry.{entryAnswer, entryOut}
 use Rattle.entry.specs.Run as run
+use Rattle.tlv.specs.declared.Stretch as tlv
 use Rattle.lamphudet.specs.declared.Answer.{Answer}
+use Rattle.lamphudet.specs.declared.Stretch.{Stretch}
 
 -- a call that reads is given a house too and tests 17, then 16, after all the reader's refusals
 unfoldable pub enteredAnswer : outcome.Outcome → ℕ → Record → List ℕ → Length
@@ -47,3 +49,7 @@ unfoldable pub nextInC : run.Onward → Answer
 nextInC (run.next offset) = record { number = 0; value = offset }
 nextInC run.none = record { number = 0; value = 0 }
 nextInC (run.refused number place) = record { number = number; value = place }
+
+-- in C the file of a group is a start and a length
+unfoldable pub stretchInC : tlv.Stretch → Stretch
+stretchInC v = record { start = v .from; length = v .to - v .from }

@@ -4,8 +4,9 @@ ghost use Rattle.refusal.specs.Length.{lengthOf, refused};
 ghost use Rattle.refusal.specs.Numbers.{numberOf};
 ghost use Rattle.entry.specs.Run.{onwardOf};
 ghost use Rattle.lamphudet.specs.Answer.{inC};
-ghost use Rattle.lamphudet.specs.Calls.{nextInC};
+ghost use Rattle.lamphudet.specs.Calls.{nextInC, stretchInC};
 use crate::Answer;
+use crate::Stretch;
 use entry::run::Step;
 use refusal::Refusal;
 use refusal::Written;
@@ -45,5 +46,16 @@ pub fn next_in_c(step: Step) -> Answer
             value: 0,
         },
         Step::Refused(refusal) => denied(refusal),
+    }
+}
+
+// A stretch ends where it starts, or behind it.
+pub fn stretch_in_c(v: tlv::Stretch) -> Stretch
+    ensures { λ r. ⌜ r ≡ stretchInC v ⌝ }
+{
+    let length = if v.from <= v.to { v.to - v.from } else { 0 };
+    Stretch {
+        start: v.from as u64,
+        length: length as u64,
     }
 }

@@ -1,12 +1,14 @@
 // The calls that a C host makes. A call here decides nothing: it hands the lent ranges on and tells the answer in numbers.
 ghost use mathlib.Core.Path.{_≡_};
 ghost use Rattle.text.specs.Read.{readText};
+ghost use Rattle.chip.specs.Presentation.{readPresentation, groupStretch};
 ghost use Rattle.sha256.specs.Answer.{digestAnswer, digestOut};
 ghost use Rattle.entry.specs.Run.{readEntry};
 ghost use Rattle.lamphudet.specs.Answer.{inC};
-ghost use Rattle.lamphudet.specs.Calls.{readAnswer, readOut, writtenAnswer, writtenOut, nextInC};
+ghost use Rattle.lamphudet.specs.Calls.{readAnswer, readOut, writtenAnswer, writtenOut, nextInC, stretchInC};
 use crate::border::in_c;
 use crate::border::next_in_c;
+use crate::border::stretch_in_c;
 
 mod border;
 mod kept;
@@ -18,6 +20,13 @@ pub struct Answer {
     pub value: u64,
 }
 
+// A part of what was lent: empty where both are 0.
+#[repr(C)]
+pub struct Stretch {
+    pub start: u64,
+    pub length: u64,
+}
+
 // A text is read, and its record entered under a house.
 #[no_mangle]
 pub extern "C" fn lamphudet_read_text(house: u32, text: &[u8], entry: &mut [u8]) -> Answer
@@ -25,6 +34,22 @@ pub extern "C" fn lamphudet_read_text(house: u32, text: &[u8], entry: &mut [u8])
     ensures { λ _. ⌜ now (entry .exit) ≡ readOut house (readText (now (text .entry))) (now (entry .entry)) ⌝ }
 {
     let reading = text::read::read(text);
+    let verdict = reading.verdict;
+    let record = reading.kept;
+    in_c(kept::enter(verdict, record, house, entry))
+}
+
+// A presentation is read, and its record entered under a house.
+#[no_mangle]
+pub extern "C" fn lamphudet_read_presentation(
+    house: u32,
+    presentation: &[u8],
+    entry: &mut [u8],
+) -> Answer
+    ensures { λ r. ⌜ r ≡ inC (readAnswer house (readPresentation (now (presentation .entry))) (now (entry .entry))) ⌝ }
+    ensures { λ _. ⌜ now (entry .exit) ≡ readOut house (readPresentation (now (presentation .entry))) (now (entry .entry)) ⌝ }
+{
+    let reading = chip::presentation::read(presentation);
     let verdict = reading.verdict;
     let record = reading.kept;
     in_c(kept::enter(verdict, record, house, entry))
@@ -56,4 +81,12 @@ pub extern "C" fn lamphudet_digest(input: &[u8], digest: &mut [u8]) -> Answer
     ensures { λ _. ⌜ now (digest .exit) ≡ digestOut (now (input .entry)) (now (digest .entry)) ⌝ }
 {
     in_c(sha256::digest(input, digest))
+}
+
+// Where the file of a group stands in a presentation.
+#[no_mangle]
+pub extern "C" fn lamphudet_group_file(presentation: &[u8], group: u32) -> Stretch
+    ensures { λ r. ⌜ r ≡ stretchInC (groupStretch (now (presentation .entry)) group) ⌝ }
+{
+    stretch_in_c(chip::group::group_stretch(presentation, group))
 }

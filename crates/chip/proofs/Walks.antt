@@ -1,0 +1,90 @@
+-- A walk over files goes on from the end of each, whatever number of steps is allowed, as long as it is enough.
+use Prim.Native.Nat.{ℕ, zero, suc, _+_, _-_, _≤_, _<_}
+use mathlib.Core.Path.{_≡_, refl, ap, sym, _∙_}
+use mathlib.Core.Bool.{Bool, true, false, cond}
+use mathlib.Core.List.{List, [], _∷_}
+use native.Mathlib.Omega.{arith}
+use borrow.Author.Tests.{le-leb, lt-leb, ltb-true, ltb-false}
+use lib.Dec.{eqb, leb, ltb}
+use lib.ListN.{length, getD}
+use Rattle.refusal.specs.Outcome.{Outcome, passed, refused}
+use Rattle.tlv.specs.declared.Stretch.{Stretch}
+use Rattle.tlv.specs.Read.{Read, value, refusal, andThen, toldOf}
+use Rattle.tlv.specs.Element.{element}
+use Rattle.tlv.proofs.Past.{ends-behind, refusal-not-value}
+use Rattle.chip.specs.Groups.{isGroup}
+use Rattle.chip.specs.Outer.{File, fileAt, filesFrom, files}
+
+pub told-then : {A B : Type 0} (m : Read A) (go : A → B) → toldOf (andThen m (λ a. value (go a))) ≡ toldOf m
+unfolding toldOf andThen
+told-then (value a) go = refl
+told-then (refusal n p) go = refl
+
+-- a file ends behind its start
+pub file-behind : (w : List ℕ) (at : ℕ) (v : Stretch) → fileAt w at ≡ value v → (at < v .to) × (v .to ≤ length w)
+unfolding fileAt
+file-behind w at v e = go (isGroup (getD w at 0)) e
+  where
+    go : (b : Bool) → cond b (element w at (getD w at 0)) (refusal 10 at) ≡ value v → (at < v .to) × (v .to ≤ length w)
+    go true h = ends-behind w at (getD w at 0) v h
+    go false h = absurd (refusal-not-value 10 at v h)
+
+-- a file before those that follow it
+unfoldable pub before : ℕ → Stretch → Read (List File) → Read (List File)
+before at v rest = andThen rest (λ fs. value (record { start = at; held = v } ∷ fs))
+
+-- what comes at a place, by what stands there
+module _ (w : List ℕ) (at : ℕ) (here : at < length w) where
+  some-left : leb (length w) at ≡ false
+  some-left = lt-leb (length w) at here
+
+  files-more : (k : ℕ) (v : Stretch) → fileAt w at ≡ value v → filesFrom (suc k) w at ≡ before at v (filesFrom k w (v .to))
+  unfolding filesFrom andThen before
+  files-more k v e = rw (some-left, e)
+
+  files-stop : (k n p : ℕ) → fileAt w at ≡ refusal n p → filesFrom (suc k) w at ≡ refusal n p
+  unfolding filesFrom andThen
+  files-stop k n p e = rw (some-left, e)
+
+files-end : (k : ℕ) (w : List ℕ) (at : ℕ) → length w ≤ at → filesFrom k w at ≡ value []
+unfolding filesFrom
+files-end zero w at h = refl
+files-end (suc k) w at h = rw (le-leb (length w) at h)
+
+-- any number of steps that is enough gives the same
+files-enough : (k m : ℕ) (w : List ℕ) (at : ℕ) → length w ≤ at + k → length w ≤ at + m → filesFrom k w at ≡ filesFrom m w at
+files-enough zero m w at a b = files-end zero w at (omega arith) ∙ sym (files-end m w at (omega arith))
+files-enough (suc k) zero w at a b = files-end (suc k) w at (omega arith) ∙ sym (files-end zero w at (omega arith))
+files-enough (suc k) (suc m) w at a b =
+    step (ltb at (length w)) refl (fileAt w at) refl (λ v h. files-enough k m w (v .to) (omega arith) (omega arith))
+  where
+    here : (x : Read Stretch) → fileAt w at ≡ x → at < length w → ((v : Stretch) → at < v .to → filesFrom k w (v .to) ≡ filesFrom m w (v .to))
+        → filesFrom (suc k) w at ≡ filesFrom (suc m) w at
+    here (value v) e h ih = files-more w at h k v e ∙ (ap (before at v) (ih v (file-behind w at v e .0)) ∙ sym (files-more w at h m v e))
+    here (refusal n p) e h ih = files-stop w at h k n p e ∙ sym (files-stop w at h m n p e)
+
+    step : (y : Bool) → ltb at (length w) ≡ y → (x : Read Stretch) → fileAt w at ≡ x
+        → ((v : Stretch) → at < v .to → filesFrom k w (v .to) ≡ filesFrom m w (v .to))
+        → filesFrom (suc k) w at ≡ filesFrom (suc m) w at
+    step true q x e ih = here x e (ltb-true at (length w) q) ih
+    step false q x e ih =
+        let h = ltb-false at (length w) q in
+        files-end (suc k) w at h ∙ sym (files-end (suc m) w at h)
+
+-- ---- what a loop goes by
+
+pub files-next : (w : List ℕ) (at : ℕ) (v : Stretch) → at < length w → fileAt w at ≡ value v → files w at ≡ before at v (files w (v .to))
+unfolding files
+files-next w at v h e = files-enough (length w) (suc (length w)) w at (omega arith) (omega arith) ∙ files-more w at h (length w) v e
+
+pub files-refused : (w : List ℕ) (at n p : ℕ) → at < length w → fileAt w at ≡ refusal n p → files w at ≡ refusal n p
+unfolding files
+files-refused w at n p h e = files-enough (length w) (suc (length w)) w at (omega arith) (omega arith) ∙ files-stop w at h (length w) n p e
+
+pub files-done : (w : List ℕ) (at : ℕ) → length w ≤ at → files w at ≡ value []
+unfolding files
+files-done w at h = files-end (length w) w at h
+
+pub told-next : (w : List ℕ) (at : ℕ) (v : Stretch) → at < length w → fileAt w at ≡ value v → toldOf (files w (v .to)) ≡ toldOf (files w at)
+unfolding before
+told-next w at v h e = sym (ap toldOf (files-next w at v h e) ∙ told-then (files w (v .to)) (λ fs. record { start = at; held = v } ∷ fs))

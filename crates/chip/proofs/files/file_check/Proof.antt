@@ -1,0 +1,57 @@
+-- The tests of the definition, in its order.
+use borrow.Author.Needs.{needs}
+use borrow.Author.Tests.{le-ltb, lt-ltb}
+use mathlib.Core.Path.{_∙_}
+use Rattle.chip.specs.Files.{fileOctets}
+use Rattle.chip.specs.Lent.{fileBy}
+use Rattle.chip.proofs.files.file_check.Statement.{statement}
+use Rattle.chip.proofs.files.file_check.Tie as tie
+
+stands-requires : tie.Need-stands-requires
+stands-requires c κs = search needs
+
+cut-requires : tie.Need-cut-requires
+cut-requires c κs = search needs
+
+part-requires : tie.Need-part-requires
+part-requires c κs = search needs
+
+is-digested-requires : tie.Need-is-digested-requires
+is-digested-requires c κs = search needs
+
+judged-requires : tie.Need-judged-requires
+judged-requires c κs = search needs
+
+returns : tie.Need-returns
+unfolding fileBy fileOctets
+returns c =
+    rw (
+      ← c .before .before .before .before .before .before .stands .ensures,
+      c .before .before .before .before .before .if1 .taken,
+      lt-ltb _ _ (c .before .before .before .before .if2 .taken),
+      ← c .before .before .before .cut .ensures,
+      ← c .before .before .part .ensures,
+      ← c .before .is-digested .ensures,
+    )
+    (c .judged .ensures)
+
+returns-2 : tie.Need-returns-2
+unfolding fileBy fileOctets
+returns-2 c = rw (← c .before .before .stands .ensures, c .before .if1 .taken, le-ltb _ _ (c .if2 .left))
+
+returns-3 : tie.Need-returns-3
+unfolding fileBy fileOctets
+returns-3 c = rw (← c .before .stands .ensures, c .if1 .left)
+
+pub file-check-spec : {M : Type 1} → statement M
+file-check-spec =
+    tie.close
+    (tie.spec
+    stands-requires
+    cut-requires
+    part-requires
+    is-digested-requires
+    judged-requires
+    returns
+    returns-2
+    returns-3)

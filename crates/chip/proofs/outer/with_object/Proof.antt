@@ -1,0 +1,29 @@
+-- The files have been walked to the end, or the first that fails is told.
+use borrow.Author.Needs.{needs}
+use mathlib.Core.Path.{sym, ap, _∙_}
+use denote.Ref.{now}
+use Rattle.refusal.specs.Outcome.{outcomeOf}
+use Rattle.tlv.specs.Read.{andThen}
+use Rattle.tlv.specs.Element.{takenOf}
+use Rattle.tlv.proofs.Told.{passed-then, refused-then}
+use Rattle.chip.proofs.outer.with_object.Statement.{statement}
+use Rattle.chip.proofs.outer.with_object.Tie as tie
+
+files-requires : tie.Need-files-requires
+files-requires c κs = search needs
+
+enum-told : tie.Need-enum-told
+enum-told c = search needs
+
+enum-known-refusal : tie.Need-enum-known-refusal
+enum-known-refusal c = search needs
+
+returns : tie.Need-returns
+returns c = sym (passed-then _ _ (sym (c .before .before .files .ensures) ∙ ap outcomeOf (c .enum-told .given .1)))
+
+returns-2 : tie.Need-returns-2
+returns-2 c = sym (refused-then _ _ _ _ (sym (c .before .before .before .files .ensures) ∙ ap outcomeOf (c .before .refusal .given .1)))
+
+pub with-object-spec : {M : Type 1} → statement M
+with-object-spec =
+    tie.close (tie.spec files-requires enum-told enum-known-refusal returns returns-2)

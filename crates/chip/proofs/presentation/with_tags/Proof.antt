@@ -1,0 +1,57 @@
+-- The table that the code hands on decides as the entries do.
+use borrow.Author.Needs.{needs}
+use mathlib.Core.Path.{_≡_, ap, sym, _∙_}
+use denote.Ref.{now}
+use Rattle.refusal.specs.Outcome.{outcomeOf}
+use Rattle.tlv.specs.Read.{toldOf}
+use Rattle.tlv.proofs.Told.{refused-then}
+use Rattle.chip.specs.Cut.{cut}
+use Rattle.chip.specs.Object.{object}
+use Rattle.chip.specs.Presentation.{answerBy}
+use Rattle.chip.proofs.Decision.{onward, by-entries}
+use Rattle.chip.proofs.presentation.with_tags.Statement.{statement}
+use Rattle.chip.proofs.presentation.with_tags.Tie as tie
+
+object-requires : tie.Need-object-requires
+object-requires c κs = search needs
+
+enum-told : tie.Need-enum-told
+enum-told c = search needs
+
+with-digests-requires : tie.Need-with-digests-requires
+with-digests-requires c κs = search needs
+
+enum-known-verdict : tie.Need-enum-known-verdict
+enum-known-verdict c = search needs
+
+refuse-requires : tie.Need-refuse-requires
+refuse-requires c κs = search needs
+
+returns : tie.Need-returns
+unfolding onward
+returns c =
+    let a = c .before .before .before .before .before .before .args in
+    let w = now (a .w) in
+    let found = c .before .before .before .before .object .ensures in
+    let told = sym (found .0) ∙ ap outcomeOf (c .before .enum-told .given .1) in
+    c .with-digests .ensures ∙ ap answerBy (by-entries w (cut w (a .tags)) (a .object .to) (object w (a .object)) _ told (found .1) (c .before .before .before .before .before .before .pre))
+
+returns-2 : tie.Need-returns-2
+unfolding onward
+returns-2 c =
+    let a = c .before .before .before .before .before .before .before .args in
+    let w = now (a .w) in
+    let told = sym (c .before .before .before .before .before .object .ensures .0) ∙ ap outcomeOf (c .before .before .verdict .given .1) in
+    c .refuse .ensures ∙ ap answerBy (sym (refused-then (object w (a .object)) (onward w (cut w (a .tags)) (a .object .to)) _ _ told))
+
+pub with-tags-spec : {M : Type 1} → statement M
+with-tags-spec =
+    tie.close
+    (tie.spec
+    object-requires
+    enum-told
+    with-digests-requires
+    enum-known-verdict
+    refuse-requires
+    returns
+    returns-2)

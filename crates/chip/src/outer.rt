@@ -1,0 +1,88 @@
+// Stages 1 and 2: size, and the outer walk.
+ghost use mathlib.Core.Path.{_≡_};
+ghost use Rattle.refusal.specs.Outcome.{outcomeOf};
+ghost use Rattle.tlv.specs.Read.{value, andThen, toldOf};
+ghost use Rattle.tlv.specs.Element.{element, takenOf};
+ghost use Rattle.chip.specs.Outer as O;
+use crate::groups::is_group;
+use refusal::Cause;
+use refusal::Refusal;
+use refusal::Verdict;
+use tlv::Stretch;
+use tlv::Taken;
+
+// Where the contents of EF.COM and of the security object stand. The group files follow the object.
+pub struct Outer {
+    pub efcom: Stretch,
+    pub object: Stretch,
+}
+
+// The parts of a presentation, or why it has none.
+pub enum Walked {
+    Parts(Outer),
+    Refused(Refusal),
+}
+
+// The file that stands at a place.
+pub fn file_at(w: &[u8], at: usize) -> Taken
+    ensures { λ r. ⌜ takenOf r ≡ O.fileAt (now (w .entry)) at ⌝ }
+{
+    let tag = lent::octet(w, at);
+    if is_group(tag) {
+        tlv::element(w, at, tag as u16)
+    } else {
+        tlv::refuse(at)
+    }
+}
+
+// Group tags only, every file ending within the bytes.
+fn files(w: &[u8], start: usize) -> Verdict
+    ensures { λ r. ⌜ outcomeOf r ≡ toldOf (O.files (now (w .entry)) start) ⌝ }
+{
+    let mut at = start;
+    while at < w.len() {
+        match file_at(w, at) {
+            Taken::Value(held) => {
+                at = held.to;
+            }
+            Taken::Refused(refusal) => {
+                return Verdict::Refused(refusal);
+            }
+        }
+    }
+    Verdict::Passed
+}
+
+fn with_object(w: &[u8], efcom: Stretch, object: Stretch) -> Walked
+    ensures { λ r. ⌜ O.walkedOf r ≡ andThen (O.files (now (w .entry)) (object .to)) (λ all. value (record { efcom = efcom; object = object })) ⌝ }
+{
+    match files(w, object.to) {
+        Verdict::Passed => Walked::Parts(Outer { efcom, object }),
+        Verdict::Refused(refusal) => Walked::Refused(refusal),
+    }
+}
+
+fn with_efcom(w: &[u8], efcom: Stretch) -> Walked
+    ensures { λ r. ⌜ O.walkedOf r ≡ andThen (element (now (w .entry)) (efcom .to) 48) (λ object. andThen (O.files (now (w .entry)) (object .to)) (λ all. value (record { efcom = efcom; object = object }))) ⌝ }
+{
+    match tlv::element(w, efcom.to, 48) {
+        Taken::Value(object) => with_object(w, efcom, object),
+        Taken::Refused(refusal) => Walked::Refused(refusal),
+    }
+}
+
+// Size, then EF.COM, the security object and the files, each from where the one before it ends.
+pub fn walk(w: &[u8]) -> Walked
+    ensures { λ r. ⌜ O.walkedOf r ≡ O.walked (now (w .entry)) ⌝ }
+{
+    if 65535 < w.len() {
+        return Walked::Refused(Refusal {
+            cause: Cause::Length,
+            place: 0,
+        });
+    }
+    match tlv::element(w, 0, 96) {
+        Taken::Value(efcom) => with_efcom(w, efcom),
+        Taken::Refused(refusal) => Walked::Refused(refusal),
+    }
+}

@@ -1,0 +1,11 @@
+-- An accepted answer, whether of a text or of a presentation: what demand 3 says of keys it says of both alike.
+use Prim.Native.Nat.{ℕ}
+use mathlib.Core.Path.{_≡_}
+use mathlib.Core.List.{List}
+use Rattle.refusal.specs.Outcome.{passed}
+use Rattle.text.specs.Read.{Answer, readText}
+use Rattle.chip.specs.Presentation.{readPresentation}
+
+pub data Accepted (a : Answer) : Type 0 where
+  of-text : (t : List ℕ) → readText t ≡ a → a .outcome ≡ passed → Accepted a
+  of-presentation : (w : List ℕ) → readPresentation w ≡ a → a .outcome ≡ passed → Accepted a
