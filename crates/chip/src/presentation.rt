@@ -45,7 +45,7 @@ fn with_tags(w: &[u8], object: Stretch, tags: Stretch) -> Reading
     let digests = found.digests;
     match verdict {
         Verdict::Passed => with_digests(w, object.to, tags, digests),
-        Verdict::Refused(why) => refuse(why),
+        Verdict::Refused(of_object) => refuse(of_object),
     }
 }
 

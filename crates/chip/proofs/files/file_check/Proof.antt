@@ -1,7 +1,8 @@
 -- The tests of the definition, in its order.
 use borrow.Author.Needs.{needs}
 use borrow.Author.Tests.{le-ltb, lt-ltb}
-use mathlib.Core.Path.{_∙_}
+use mathlib.Core.Path.{ap, _∙_}
+use Rattle.refusal.specs.Outcome.{unless}
 use Rattle.chip.specs.Files.{fileOctets}
 use Rattle.chip.specs.Lent.{fileBy}
 use Rattle.chip.proofs.files.file_check.Statement.{statement}
@@ -25,15 +26,8 @@ judged-requires c κs = search needs
 returns : tie.Need-returns
 unfolding fileBy fileOctets
 returns c =
-    rw (
-      ← c .before .before .before .before .before .before .stands .ensures,
-      c .before .before .before .before .before .if1 .taken,
-      lt-ltb _ _ (c .before .before .before .before .if2 .taken),
-      ← c .before .before .before .cut .ensures,
-      ← c .before .before .part .ensures,
-      ← c .before .is-digested .ensures,
-    )
-    (c .judged .ensures)
+    let same = rw (c .before .before .part .ensures, c .before .before .before .cut .ensures) at (c .before .is-digested .ensures) in
+    rw (← c .before .before .before .before .before .before .stands .ensures, c .before .before .before .before .before .if1 .taken, lt-ltb _ _ (c .before .before .before .before .if2 .taken)) (c .judged .ensures ∙ ap (λ b. unless b 15 (c .before .before .before .before .before .before .before .before .before .args .at)) same)
 
 returns-2 : tie.Need-returns-2
 unfolding fileBy fileOctets
