@@ -33,6 +33,14 @@ typedef struct lamphudet_answer {
 } lamphudet_answer;
 
 /*
+ * A stretch of a lent range: the octet at which it starts, counted from 0, and how many octets it has. Where there is none,
+ * both are 0.
+ */
+typedef struct lamphudet_stretch {
+    uint64_t start, length;
+} lamphudet_stretch;
+
+/*
  * The refusals. These numbers stay what they are.
  *
  *   No.  Cause                                                            Place
@@ -119,6 +127,9 @@ static inline const char *lamphudet_words(uint32_t number)
 #define LAMPHUDET_KEY 30       /* octets of an entry's key */
 #define LAMPHUDET_TEXT_MAX 90  /* characters of the longest text */
 
+/* A presentation is what was read from a chip: EF.COM, the content of the security object, then group files, joined. */
+#define LAMPHUDET_PRESENTATION_MAX 65535 /* octets of the longest presentation */
+
 /*
  * Reads the text of a machine readable zone, its lines joined without line ends, and writes the entry of the house and the
  * text's record to the first octets of entry. Answers 0 and how many these are: 36 to LAMPHUDET_ENTRY_MAX.
@@ -139,6 +150,60 @@ static inline const char *lamphudet_words(uint32_t number)
  *   16  at 0: entry has fewer octets than this entry needs
  */
 lamphudet_answer lamphudet_read_text(uint32_t house, const uint8_t *text, size_t text_len, uint8_t *entry, size_t entry_len);
+
+/*
+ * Reads a presentation, and writes the entry of the house and the record of group 1's text to the first octets of entry.
+ * Answers 0 and how many these are: 36 to LAMPHUDET_ENTRY_MAX. A text and a presentation with one record give one entry.
+ *
+ * What is accepted: every lent group is listed in EF.COM, is lent once, and has an entry in the security object with the
+ * SHA-256 digest of its whole file; group 1 is lent, and holds exactly a text that lamphudet_read_text accepts. Signatures
+ * over the security object and the inside of other groups are not looked at.
+ *
+ * Refuses, in the order of the stages, and in a stage from left to right: an element's encoding, then its content, then what
+ * follows it. Encoding is the tag named, the length in its one shortest form (00 to 7F, 81 80 to FF, 82 01 00 to FF FF), and
+ * an end within the element that holds it; 10 stands at the tag of the element that fails or should stand there, or at the
+ * first octet left over.
+ *   Stage 1, size:
+ *   1   at 0: the presentation is longer than LAMPHUDET_PRESENTATION_MAX
+ *   Stage 2, the outer walk:
+ *   10  EF.COM (60), the security object (30) and group files, seen from outside
+ *   Stage 3, EF.COM:
+ *   10  the version (5F01), the Unicode version (5F36), the tag list (5C), and nothing more
+ *   11  at the version unless it is 0107, at the Unicode version unless it is six digits
+ *   11  in the list: at the first tag that is no group's; then at the first that repeats an earlier one; then at 5C where
+ *       there are more than fifteen
+ *   Stage 4, the security object:
+ *   10  the version (02), the AlgorithmIdentifier (30), the list of entries (30), each of them (30) a number (02) and a digest
+ *       (04), and nothing more
+ *   12  at the version unless it is 0
+ *   13  at the AlgorithmIdentifier unless it is one of SHA-256's two spellings
+ *   12  at an entry's number unless it is one octet, 1 to 16; at its digest unless it is 32 octets
+ *   12  when all entries were read: at the first number that repeats an earlier one; then at the list where there are fewer
+ *       than two, or more than sixteen; what is left over behind the list comes after that
+ *   Stage 5, group files, one after another as they are lent:
+ *   14  at the file's start: its group is not listed, was lent before, or has no entry
+ *   15  at the file's start: its digest is not the one in its entry
+ *   Stage 6, group 1:
+ *   14  at presentation_len: there is none
+ *   10  the text (5F1F), and nothing more
+ *   1 to 9, as lamphudet_read_text does, each at its place in the text, counted from the presentation's start
+ *   Then:
+ *   17  at 0: the house is not 1 to 32,767
+ *   16  at 0: entry has fewer octets than this entry needs
+ */
+lamphudet_answer lamphudet_read_presentation(uint32_t house, const uint8_t *presentation, size_t presentation_len,
+                                             uint8_t *entry, size_t entry_len);
+
+/*
+ * Finds the file of a group, 1 to 16, in a presentation: the stretch of the lent octets that is the first file with that
+ * group's tag, its tag and length included. Writes nothing.
+ *
+ * Of the stages only 1 and 2 count: what a later stage refuses still has its files, and it is for the host to lend the
+ * presentation to lamphudet_read_presentation before it trusts one. There is no stretch, 0 and 0, where stage 1 or 2 refuses
+ * the presentation, where no such file is lent, and where the number is no group's; 6 is none's. A stretch that is there has
+ * at least two octets.
+ */
+lamphudet_stretch lamphudet_group_file(const uint8_t *presentation, size_t presentation_len, uint32_t group);
 
 /*
  * Writes the text of an entry's record to the first octets of text, lines joined, and answers 0 and how many these are:

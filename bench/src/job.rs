@@ -12,12 +12,19 @@ pub enum Job {
     NextEntry,
     /// One entry read, and its text written.
     WriteText,
+    /// One presentation of so many octets read, and its entry written.
+    ReadPresentation(usize),
+    /// The digests of that presentation's group files, and nothing else.
+    DigestFiles(usize),
 }
 
 impl Job {
     /// One block, two sizes between, and the longest input.
     pub const DIGESTS: [Job; 4] = [Job::Digest(64), Job::Digest(1_024), Job::Digest(16_384), Job::Digest(65_535)];
     pub const RECORDS: [Job; 3] = [Job::ReadText, Job::NextEntry, Job::WriteText];
+    /// 2, 16 and 60 KB.
+    pub const PRESENTATIONS: [Job; 3] =
+        [Job::ReadPresentation(2_048), Job::ReadPresentation(16_384), Job::ReadPresentation(61_440)];
 
     pub fn kind(self) -> &'static str {
         match self {
@@ -25,13 +32,15 @@ impl Job {
             Job::ReadText => "read_text",
             Job::NextEntry => "next_entry",
             Job::WriteText => "write_text",
+            Job::ReadPresentation(_) => "read_presentation",
+            Job::DigestFiles(_) => "digest_files",
         }
     }
 
     /// What its row in a table begins with.
     pub fn title(self) -> String {
         match self {
-            Job::Digest(size) => grouped(size as u64),
+            Job::Digest(size) | Job::ReadPresentation(size) | Job::DigestFiles(size) => grouped(size as u64),
             Job::ReadText => "texts read, entries written".into(),
             Job::NextEntry => "entries read".into(),
             Job::WriteText => "texts written from entries".into(),
@@ -41,14 +50,15 @@ impl Job {
     /// 0 for a job that has no size.
     pub fn size(self) -> usize {
         match self {
-            Job::Digest(size) => size,
+            Job::Digest(size) | Job::ReadPresentation(size) | Job::DigestFiles(size) => size,
             Job::ReadText | Job::NextEntry | Job::WriteText => 0,
         }
     }
 
     pub fn named(kind: &str, size: &str) -> Job {
         let size = size.parse().expect("a size");
-        let mut jobs = Job::DIGESTS.into_iter().chain(Job::RECORDS);
+        let digested = Job::PRESENTATIONS.map(|job| Job::DigestFiles(job.size()));
+        let mut jobs = Job::DIGESTS.into_iter().chain(Job::RECORDS).chain(Job::PRESENTATIONS).chain(digested);
         let found = jobs.find(|job| job.kind() == kind && job.size() == size);
         found.expect("the name of a job")
     }

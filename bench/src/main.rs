@@ -8,8 +8,10 @@ mod contender;
 mod counts;
 mod job;
 mod libcrypto;
+mod presentations;
 mod records;
 mod rounds;
+mod share;
 mod table;
 mod work;
 mod worker;
@@ -37,6 +39,8 @@ fn once(contender: Contender, job: Job, times: &str) {
 fn tables() {
     one_table("One digest, by octets", Unit::Nanoseconds, &Contender::ALL, &Job::DIGESTS);
     one_table("Records", Unit::ASecond, &[Contender::Library, Contender::Rust], &Job::RECORDS);
+    one_table("Presentations, by octets", Unit::ASecond, &[Contender::Library, Contender::Rust], &Job::PRESENTATIONS);
+    share::table();
 }
 
 fn one_table(title: &str, unit: Unit, contenders: &[Contender], jobs: &[Job]) {

@@ -26,7 +26,7 @@ pub fn of(contender: Contender, job: Job) -> Option<Work> {
             outcome.answer
         })),
         (Contender::Rust, Job::NextEntry) => Some(along(calls::next_entry)),
-        (Contender::Openssl | Contender::OpensslPlain, _) | (_, Job::Digest(_)) => None,
+        _ => None,
     }
 }
 

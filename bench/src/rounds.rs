@@ -5,7 +5,7 @@ use crate::contender::Contender;
 use crate::job::Job;
 use crate::worker::Worker;
 
-const ROUNDS: usize = 101;
+pub const ROUNDS: usize = 101;
 /// How long one contender's part of a round takes.
 const NANOSECONDS: u64 = 1_000_000;
 
@@ -40,7 +40,7 @@ fn row(workers: &mut [Worker], job: Job) -> Vec<Median> {
 }
 
 /// So many times that they take about as long as a part of a round should.
-fn enough(worker: &mut Worker, job: Job) -> usize {
+pub fn enough(worker: &mut Worker, job: Job) -> usize {
     let mut times = 1;
     loop {
         let taken = worker.nanoseconds(job, times).max(1);
@@ -51,7 +51,7 @@ fn enough(worker: &mut Worker, job: Job) -> usize {
     }
 }
 
-fn median(mut values: Vec<f64>) -> f64 {
+pub fn median(mut values: Vec<f64>) -> f64 {
     values.sort_by(f64::total_cmp);
     values[values.len() / 2]
 }

@@ -3,6 +3,7 @@
 use crate::contender::Contender;
 use crate::job::Job;
 use crate::libcrypto::Libcrypto;
+use crate::presentations;
 use crate::records;
 use compare::border;
 use compare::paper::sha256::sha256;
@@ -14,6 +15,7 @@ pub fn of(contender: Contender, job: Job) -> Option<Work> {
     match job {
         Job::Digest(size) => digest(contender, size),
         Job::ReadText | Job::NextEntry | Job::WriteText => records::of(contender, job),
+        Job::ReadPresentation(_) | Job::DigestFiles(_) => presentations::of(contender, job),
     }
 }
 

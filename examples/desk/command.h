@@ -7,15 +7,20 @@
 /* The exit status. Of several inputs the worst one counts, which is the greatest. */
 enum status { ALL_ACCEPTED = 0, SOME_REFUSED = 1, NOT_DONE = 2 };
 
-/* The command line behind the command's name. Operands and a file are never given both. */
+/* The command line behind the command's name. Of a file, a file of hex and operands at most one is given. */
 struct order {
     uint32_t house;
-    const char *file; /* NULL where none is named */
+    uint32_t group;
+    const char *file; /* each of the three is NULL where none is named */
+    const char *hex;
+    const char *out;
     char **operands;
     int operand_count;
 };
 
 enum status command_text(const struct order *order);
+enum status command_presentation(const struct order *order);
+enum status command_group(const struct order *order);
 enum status command_run(const struct order *order);
 
 #endif

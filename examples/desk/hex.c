@@ -26,7 +26,7 @@ int hex_read(struct octets *octets, const char *hex, size_t len)
         int found = digit(hex[at]);
 
         if (found < 0 && !is_between(hex[at])) {
-            fprintf(stderr, "desk: a run has only hex digits, and character %lu is none\n", (unsigned long)(at + 1));
+            fprintf(stderr, "desk: character %lu of the hex is no hex digit\n", (unsigned long)(at + 1));
             return 0;
         }
         if (found >= 0 && first >= 0) {

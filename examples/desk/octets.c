@@ -60,6 +60,20 @@ int octets_read(struct octets *octets, const char *file)
     return whole;
 }
 
+int octets_write(const char *file, const uint8_t *octets, size_t len)
+{
+    FILE *stream = file == NULL ? stdout : fopen(file, "wb");
+    int written = stream != NULL && fwrite(octets, 1, len, stream) == len && fflush(stream) == 0;
+
+    if (file != NULL && stream != NULL && fclose(stream) != 0) {
+        written = 0;
+    }
+    if (!written) {
+        fprintf(stderr, "desk: %s: %s\n", file == NULL ? "standard output" : file, strerror(errno));
+    }
+    return written;
+}
+
 void octets_free(struct octets *octets)
 {
     free(octets->at);

@@ -6,8 +6,9 @@
 /* How much of a line, and how many lines, are shown of a text that is of no form. No form's line is longer. */
 #define WIDEST 60
 #define MOST_LINES 4
-/* Octets in a line of a run. */
-#define OCTETS 16
+/* How many octets are shown before a place, and from it on. */
+#define BEFORE 8
+#define FROM 8
 
 /* 0 for a length that no form has. */
 static size_t line_width(size_t len)
@@ -121,20 +122,25 @@ void show_hex(const char *label, const uint8_t *octets, size_t len)
     putchar('\n');
 }
 
-void show_octets(const uint8_t *run, size_t len, uint64_t place)
+void show_octets(const uint8_t *octets, size_t len, uint64_t place)
 {
-    uint64_t start = place - place % OCTETS;
+    uint64_t start = place < BEFORE ? 0 : place - BEFORE;
     uint64_t at;
 
-    if (place >= len) {
+    if (place > len || len == 0) {
         return;
     }
     printf("    octets from %" PRIu64 "\n   ", start);
-    for (at = start; at < len && at < start + OCTETS; at++) {
-        printf(" %02x", (unsigned)run[at]);
+    for (at = start; at < len && at < place + FROM; at++) {
+        printf(" %02x", (unsigned)octets[at]);
     }
     putchar('\n');
     put_caret(3 * (place - start));
+}
+
+void show_file(uint32_t group, lamphudet_stretch file)
+{
+    printf("  group %-6" PRIu32 " %" PRIu64 " octets from %" PRIu64 "\n", group, file.length, file.start);
 }
 
 void show_remark(const char *line, size_t len)

@@ -27,8 +27,11 @@ void show_row(uint64_t offset, const struct record *record);
 
 void show_hex(const char *label, const uint8_t *octets, size_t len);
 
-/* Some octets of a run around a place, and a caret below it. */
-void show_octets(const uint8_t *run, size_t len, uint64_t place);
+/* The octets around a place, and a caret below it; behind the last octet where the place is their end. */
+void show_octets(const uint8_t *octets, size_t len, uint64_t place);
+
+/* Where a group's file stands in its presentation. */
+void show_file(uint32_t group, lamphudet_stretch file);
 
 /* A line of a file that the desk does not read. */
 void show_remark(const char *line, size_t len);

@@ -1,27 +1,11 @@
 /* desk text: reads texts, and shows each one's record and entry, or its refusal. */
 #include "command.h"
+#include "kept.h"
 #include "lines.h"
 #include "show.h"
 
 #include <stdio.h>
 #include <string.h>
-
-static void show_accepted(const struct zone *zone, const uint8_t *entry, size_t entry_len)
-{
-    uint8_t text[LAMPHUDET_TEXT_MAX];
-    struct record record;
-    lamphudet_answer written = lamphudet_write_text(entry, entry_len, text, sizeof text);
-
-    show_zone(zone, NOWHERE);
-    record_of_entry(&record, entry, entry_len);
-    show_record(&record);
-    show_hex("entry", entry, entry_len);
-    if (written.number == 0) {
-        show_text("written back", text, (size_t)written.value);
-    } else {
-        show_refusal(written);
-    }
-}
 
 static void show_refused(const struct zone *zone, uint32_t house, lamphudet_answer answer)
 {
@@ -44,7 +28,8 @@ static enum status read_zone(const struct zone *zone, uint32_t house)
     lamphudet_answer answer = lamphudet_read_text(house, zone->text.at, zone->text.len, entry, sizeof entry);
 
     if (answer.number == 0) {
-        show_accepted(zone, entry, (size_t)answer.value);
+        show_zone(zone, NOWHERE);
+        show_kept(entry, (size_t)answer.value);
     } else {
         show_refused(zone, house, answer);
     }

@@ -61,14 +61,20 @@ static int add_line(struct zone *zone, struct line line, int alone)
     return 1;
 }
 
-int zone_join(struct zone *zone, const char *given, size_t len)
+static void zone_clear(struct zone *zone)
 {
     static const struct zone empty;
+
+    *zone = empty;
+}
+
+int zone_join(struct zone *zone, const char *given, size_t len)
+{
     struct line line;
     size_t lines = 0;
     size_t at;
 
-    *zone = empty;
+    zone_clear(zone);
     for (at = 0; next_line(given, len, &at, &line); lines++) {
     }
     for (at = 0; next_line(given, len, &at, &line);) {
@@ -77,6 +83,16 @@ int zone_join(struct zone *zone, const char *given, size_t len)
         }
     }
     return 1;
+}
+
+int zone_of(struct zone *zone, const uint8_t *text, size_t len)
+{
+    struct line line;
+
+    line.at = (const char *)text;
+    line.len = len;
+    zone_clear(zone);
+    return add_line(zone, line, 0);
 }
 
 void zone_free(struct zone *zone)

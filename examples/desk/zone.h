@@ -16,6 +16,9 @@ struct zone {
  */
 int zone_join(struct zone *zone, const char *given, size_t len);
 
+/* A text that is joined already. 0 where memory ran out. */
+int zone_of(struct zone *zone, const uint8_t *text, size_t len);
+
 void zone_free(struct zone *zone);
 
 #endif

@@ -4,12 +4,13 @@ ghost use Prim.Native.Nat.{_≤_};
 ghost use lib.Seq.{sets};
 ghost use Rattle.entry.specs.Bits.{put};
 ghost use Rattle.entry.specs.Codes.{formCode};
-ghost use Rattle.entry.specs.Entry.{putKey, putRest, entryOf, size, Writes};
+ghost use Rattle.entry.specs.Entry.{putKey, putRest, entryOf, Writes};
 ghost use Rattle.entry.specs.Ink.{Ready, Wrote};
 ghost use Rattle.entry.specs.Kept.{WritesKept};
 use crate::codes;
 use crate::pen;
 use crate::pen::Pen;
+use crate::run::size;
 use refusal::Cause;
 use refusal::Refusal;
 use refusal::Written;
@@ -26,14 +27,6 @@ const TOO_SHORT: Refusal = Refusal {
     cause: Cause::Output,
     place: 0,
 };
-
-// The octets of an entry whose name has so many characters.
-fn size_of(n: usize) -> usize
-    requires { ⌜ n ≤ 39 ⌝ }
-    ensures { λ r. ⌜ r ≡ size n ⌝ }
-{
-    (278 + 6 * n + 7) / 8
-}
 
 // House and form: fifteen bits as seven and eight, and three.
 fn write_house(out: &mut [u8], start: Pen, house: u32, form: Form) -> Pen
@@ -102,12 +95,12 @@ pub fn write_kept(house: u32, r: Record, out: &mut [u8]) -> Written
     if Form::NAME < n {
         return Written::Refused(UNSOUND);
     }
-    let size = size_of(n);
-    if out.len() < size {
+    let octets = size(n);
+    if out.len() < octets {
         return Written::Refused(TOO_SHORT);
     }
     write_bits(house, r, out);
-    Written::Octets(size)
+    Written::Octets(octets)
 }
 
 // The entry of a record: 17 for a house or a record that is not sound, then 16 for an output that is too short.

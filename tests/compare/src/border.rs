@@ -2,6 +2,7 @@
 //! compared, and bare ones with nothing around them for what is measured.
 
 use crate::guard::Lent;
+use crate::paper::presentation::Stretch;
 use crate::paper::Answer;
 
 extern "C" {
@@ -15,6 +16,14 @@ extern "C" {
     ) -> Answer;
     fn lamphudet_write_text(entry: *const u8, entry_length: usize, text: *mut u8, text_length: usize) -> Answer;
     fn lamphudet_next_entry(run: *const u8, run_length: usize, offset: u64) -> Answer;
+    fn lamphudet_read_presentation(
+        house: u32,
+        presentation: *const u8,
+        presentation_length: usize,
+        entry: *mut u8,
+        entry_length: usize,
+    ) -> Answer;
+    fn lamphudet_group_file(presentation: *const u8, presentation_length: usize, group: u32) -> Stretch;
 }
 
 pub fn digest(input: &mut Lent, output: &mut Lent) -> Answer {
@@ -37,6 +46,16 @@ pub fn next_entry(run: &mut Lent, offset: u64) -> Answer {
     unsafe { lamphudet_next_entry(run.pointer(), run.length(), offset) }
 }
 
+pub fn read_presentation(house: u32, lent: &mut Lent, entry: &mut Lent) -> Answer {
+    // As for the digest.
+    unsafe { lamphudet_read_presentation(house, lent.pointer(), lent.length(), entry.pointer(), entry.length()) }
+}
+
+pub fn group_file(lent: &mut Lent, group: u32) -> Stretch {
+    // The range is valid for its length.
+    unsafe { lamphudet_group_file(lent.pointer(), lent.length(), group) }
+}
+
 pub fn bare_digest(input: &[u8], output: &mut [u8]) -> Answer {
     // As for the digest.
     unsafe { lamphudet_digest(input.as_ptr(), input.len(), output.as_mut_ptr(), output.len()) }
@@ -55,4 +74,9 @@ pub fn bare_write_text(entry: &[u8], text: &mut [u8]) -> Answer {
 pub fn bare_next_entry(run: &[u8], offset: u64) -> Answer {
     // The range is valid for its length.
     unsafe { lamphudet_next_entry(run.as_ptr(), run.len(), offset) }
+}
+
+pub fn bare_read_presentation(house: u32, lent: &[u8], entry: &mut [u8]) -> Answer {
+    // As for the digest.
+    unsafe { lamphudet_read_presentation(house, lent.as_ptr(), lent.len(), entry.as_mut_ptr(), entry.len()) }
 }

@@ -1,11 +1,15 @@
 //! Holds what a call did to what the paper says that it does: the answer, and every octet of every lent range and guard.
 
 use crate::guard::Lent;
-use crate::paper::{Answer, Outcome};
+use crate::paper::Outcome;
 use crate::report::hex;
+use std::fmt::Display;
 
 /// The lines that tell a difference; none where there is no difference.
-pub fn differences(expected: &Outcome, given: Answer, inputs: &[&Lent], output: Option<&Lent>) -> Vec<String> {
+pub fn differences<A>(expected: &Outcome<A>, given: A, inputs: &[&Lent], output: Option<&Lent>) -> Vec<String>
+where
+    A: PartialEq + Display,
+{
     let mut harm: Vec<String> = inputs.iter().filter_map(|lent| strayed("input", lent, 0)).collect();
     let written = expected.written.len();
     let mut right = expected.answer == given;
@@ -17,19 +21,18 @@ pub fn differences(expected: &Outcome, given: Answer, inputs: &[&Lent], output: 
         return harm;
     }
     let mut lines = vec![
-        format!("expected: {}", told(expected.answer, &expected.written)),
-        format!("given:    {}", told(given, output.map_or(&[], |output| &output.content()[..written]))),
+        format!("expected: {}", told(&expected.answer, &expected.written)),
+        format!("given:    {}", told(&given, output.map_or(&[], |output| &output.content()[..written]))),
     ];
     lines.append(&mut harm);
     lines
 }
 
-fn told(answer: Answer, written: &[u8]) -> String {
-    let Answer { number, value } = answer;
+fn told(answer: &impl Display, written: &[u8]) -> String {
     if written.is_empty() {
-        return format!("number {number}, value {value}");
+        return answer.to_string();
     }
-    format!("number {number}, value {value}, the output begins {}", hex(written))
+    format!("{answer}, the output begins {}", hex(written))
 }
 
 fn strayed(name: &str, lent: &Lent, written: usize) -> Option<String> {

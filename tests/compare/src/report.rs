@@ -2,6 +2,8 @@
 
 /// How many differences of one call are printed whole. The others are counted.
 const SHOWN: u64 = 5;
+/// How many octets of a long input are printed. The seed and the case's number make it again.
+const OCTETS: usize = 2_000;
 
 /// The cases of one call.
 pub struct Tally {
@@ -45,6 +47,14 @@ impl Tally {
 
 pub fn hex(octets: &[u8]) -> String {
     octets.iter().map(|octet| format!("{octet:02x}")).collect()
+}
+
+/// As hex, but of long octets only the first ones.
+pub fn hex_shown(octets: &[u8]) -> String {
+    match octets.get(..OCTETS) {
+        Some(first) if octets.len() > OCTETS => format!("{} ..", hex(first)),
+        _ => hex(octets),
+    }
 }
 
 /// A number with its digits in threes.

@@ -14,7 +14,6 @@ const LONG: [usize; 16] = [
     131_072, 1_000_000,
 ];
 const RANDOM: usize = 3_000;
-const THREADS: usize = 4;
 
 /// Runs every case and gives the counts.
 pub fn compare(seed: u64) -> Tally {
@@ -28,7 +27,7 @@ pub fn compare(seed: u64) -> Tally {
     trials.empty_ranges();
     trials.fenced();
     trials.random();
-    trials.threads();
+    trials.threads(alone);
     trials.tally
 }
 
@@ -39,6 +38,7 @@ struct Digest {
 
 impl Call for Digest {
     const NAME: &'static str = "digest";
+    type Answer = Answer;
 
     fn expected(&self) -> Outcome {
         calls::digest(self.input.content(), self.output.length())
@@ -156,16 +156,6 @@ impl Trials<Digest> {
             let room = self.seeds.pick(&[32, 32, 32, 33, 31, 64, 0]);
             self.case(&input, room);
         }
-    }
-
-    /// The calls share no state: several at once answer as each does alone.
-    fn threads(&mut self) {
-        let seeds: Vec<u64> = (0..THREADS).map(|_| self.seeds.number()).collect();
-        let lines: Vec<Vec<String>> = std::thread::scope(|scope| {
-            let threads: Vec<_> = seeds.iter().map(|seed| scope.spawn(|| alone(*seed))).collect();
-            threads.into_iter().flat_map(|thread| thread.join().unwrap()).collect()
-        });
-        lines.into_iter().for_each(|lines| self.count(lines));
     }
 
     /// One case, its ranges at starts of the seed's choice.

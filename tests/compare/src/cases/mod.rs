@@ -1,10 +1,17 @@
 //! The cases, a file a call, and what they are made from.
 
+pub mod chance;
+pub mod damage;
 pub mod digest;
+pub mod group_file;
 pub mod next_entry;
+pub mod outside;
+pub mod presentations;
+pub mod read_presentation;
 pub mod read_text;
 pub mod records;
 pub mod specimens;
+pub mod trees;
 pub mod trials;
 pub mod vectors;
 pub mod write_text;

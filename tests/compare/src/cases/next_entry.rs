@@ -30,9 +30,10 @@ struct NextEntry {
 
 impl Call for NextEntry {
     const NAME: &'static str = "next_entry";
+    type Answer = Answer;
 
     fn expected(&self) -> Outcome {
-        Outcome { answer: calls::next_entry(self.run.content(), self.offset), written: Vec::new() }
+        Outcome::of(calls::next_entry(self.run.content(), self.offset))
     }
 
     fn made(&mut self) -> Answer {

@@ -44,6 +44,7 @@ struct ReadText {
 
 impl Call for ReadText {
     const NAME: &'static str = "read_text";
+    type Answer = Answer;
 
     fn expected(&self) -> Outcome {
         calls::read_text(self.house, self.text.content(), self.entry.length())

@@ -4,17 +4,21 @@
 use crate::fence;
 use crate::guard::Lent;
 use crate::judge::differences;
-use crate::paper::{Answer, Outcome};
+use crate::paper::Outcome;
 use crate::report::Tally;
 use crate::seeds::Seeds;
+use std::fmt::Display;
 use std::marker::PhantomData;
+
+const THREADS: usize = 4;
 
 /// A call with what it is lent, ready to be made.
 pub trait Call {
     const NAME: &'static str;
+    type Answer: PartialEq + Display;
     /// What the paper says that it answers and writes.
-    fn expected(&self) -> Outcome;
-    fn made(&mut self) -> Answer;
+    fn expected(&self) -> Outcome<Self::Answer>;
+    fn made(&mut self) -> Self::Answer;
     fn input(&self) -> &Lent;
     fn output(&self) -> Option<&Lent>;
     /// All that is needed to make it again.
@@ -27,7 +31,7 @@ pub fn held(call: impl Call) -> Vec<String> {
     held_to(&expected, call)
 }
 
-pub fn held_to(expected: &Outcome, mut call: impl Call) -> Vec<String> {
+pub fn held_to<C: Call>(expected: &Outcome<C::Answer>, mut call: C) -> Vec<String> {
     let given = call.made();
     let mut lines = differences(expected, given, &[call.input()], call.output());
     if !lines.is_empty() {
@@ -77,6 +81,16 @@ impl<C: Call> Trials<C> {
         calls(self);
         let lines = self.gathered.take().unwrap_or_default();
         self.tally.case(lines);
+    }
+
+    /// The calls share no state: several at once answer as each does alone. What one thread tries is made from its seed.
+    pub fn threads(&mut self, alone: fn(u64) -> Vec<Vec<String>>) {
+        let seeds: Vec<u64> = (0..THREADS).map(|_| self.seeds.number()).collect();
+        let lines: Vec<Vec<String>> = std::thread::scope(|scope| {
+            let threads: Vec<_> = seeds.iter().map(|seed| scope.spawn(|| alone(*seed))).collect();
+            threads.into_iter().flat_map(|thread| thread.join().unwrap()).collect()
+        });
+        lines.into_iter().for_each(|lines| self.count(lines));
     }
 
     pub fn count(&mut self, lines: Vec<String>) {

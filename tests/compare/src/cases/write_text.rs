@@ -35,6 +35,7 @@ struct WriteText {
 
 impl Call for WriteText {
     const NAME: &'static str = "write_text";
+    type Answer = Answer;
 
     fn expected(&self) -> Outcome {
         calls::write_text(self.entry.content(), self.text.length())

@@ -1,8 +1,8 @@
 //! What each C call answers and writes, from document 01, "What the server lends and gets" and "Refusal numbers".
 
-use super::{entry, sha256::sha256, text, Answer, Outcome};
+use super::{entry, presentation, sha256::sha256, text, Answer, Outcome};
 
-/// The longest input that is digested.
+/// The longest input that is digested, and the longest presentation.
 pub const LONGEST: usize = 65_535;
 
 /// Refusals 1, then 16; else 32 octets.
@@ -16,6 +16,15 @@ pub fn digest(input: &[u8], room: usize) -> Outcome {
 /// The reader's refusals, then 17 for the house, then 16; else the entry.
 pub fn read_text(house: u32, text: &[u8], room: usize) -> Outcome {
     match text::read(text) {
+        Err(refusal) => Outcome::refused(refusal.number, refusal.place as u64),
+        Ok(_) if !entry::is_house(house) => Outcome::refused(17, 0),
+        Ok(record) => Outcome::written(entry::write(house, &record), room),
+    }
+}
+
+/// As for a text.
+pub fn read_presentation(house: u32, lent: &[u8], room: usize) -> Outcome {
+    match presentation::read(lent) {
         Err(refusal) => Outcome::refused(refusal.number, refusal.place as u64),
         Ok(_) if !entry::is_house(house) => Outcome::refused(17, 0),
         Ok(record) => Outcome::written(entry::write(house, &record), room),

@@ -1,12 +1,19 @@
 //! What the papers say, in plain Rust and for reading rather than for proving.
 
 pub mod calls;
+pub mod com;
 pub mod entry;
 pub mod field;
 pub mod form;
+pub mod group;
+pub mod object;
+pub mod presentation;
 pub mod record;
 pub mod sha256;
 pub mod text;
+pub mod tlv;
+
+use std::fmt;
 
 /// An answer as it passes to C: 0 and a length or an offset, or a refusal's number and its place.
 #[repr(C)]
@@ -16,17 +23,30 @@ pub struct Answer {
     pub value: u64,
 }
 
+impl fmt::Display for Answer {
+    fn fmt(&self, to: &mut fmt::Formatter) -> fmt::Result {
+        write!(to, "number {}, value {}", self.number, self.value)
+    }
+}
+
 /// A call's complete outcome: its answer, and the octets at the start of the lent output that it changes.
 #[derive(Clone, Debug, PartialEq, Eq)]
-pub struct Outcome {
-    pub answer: Answer,
+pub struct Outcome<A = Answer> {
+    pub answer: A,
     pub written: Vec<u8>,
+}
+
+impl<A> Outcome<A> {
+    /// Of a call that has no output.
+    pub fn of(answer: A) -> Outcome<A> {
+        Outcome { answer, written: Vec::new() }
+    }
 }
 
 impl Outcome {
     /// A refusal writes nothing.
     pub fn refused(number: u32, place: u64) -> Outcome {
-        Outcome { answer: Answer { number, value: place }, written: Vec::new() }
+        Outcome::of(Answer { number, value: place })
     }
 
     /// All of these octets, or refusal 16 where the lent output has no room for them.

@@ -27,15 +27,15 @@ returns-3 c = let e = le-leb _ _ (c .before .before .if1 .left) in
     let g = lt-leb _ _ (c .if3 .taken) in
     record { answer = rw (e, f, g); output = rw (e, f, g) }
 
-size-of-requires : tie.Need-size-of-requires
-size-of-requires c κs = search needs
+size-requires : tie.Need-size-requires
+size-requires c κs = search needs
 
 returns-4 : tie.Need-returns-4
 unfolding keptAnswer keptOut isHouse
 returns-4 c = let e = le-leb _ _ (c .before .before .before .before .if1 .left) in
     let f = le-leb _ _ (c .before .before .before .if2 .left) in
     let g = le-leb _ _ (c .before .before .if3 .left) in
-    let h = rw (c .before .size-of .ensures) at (lt-leb _ _ (c .if4 .taken)) in
+    let h = rw (c .before .size .ensures .0) at (lt-leb _ _ (c .if4 .taken)) in
     record { answer = rw (e, f, g, h); output = rw (e, f, g, h) }
 
 write-bits-requires : tie.Need-write-bits-requires
@@ -47,7 +47,7 @@ same-length c = search needs
 returns-5 : tie.Need-returns-5
 unfolding keptAnswer keptOut isHouse
 returns-5 c = let a = c .before .before .before .before .before .before .before .before .before .before .args in
-    let s = c .before .before .before .before .before .size-of .ensures in
+    let s = c .before .before .before .before .before .size .ensures .0 in
     let e = le-leb _ _ (c .before .before .before .before .before .before .before .before .if1 .left) in
     let f = le-leb _ _ (c .before .before .before .before .before .before .before .if2 .left) in
     let g = le-leb _ _ (c .before .before .before .before .before .before .if3 .left) in
@@ -66,7 +66,7 @@ write-kept-spec =
     returns
     returns-2
     returns-3
-    size-of-requires
+    size-requires
     returns-4
     write-bits-requires
     same-length

@@ -1,0 +1,150 @@
+//! Presentations whose security object and group files were made by OpenSSL's DER encoder, each with the answer that
+//! document 01 gives it. `vectors/` has them beside the configurations that made them, and `remake.sh`, which makes them
+//! again.
+//!
+//! EF.COM has 23 octets and lists groups 1, 2 and 16, so the object begins at 23. The offsets in the object are those that
+//! `openssl asn1parse` prints (`remake.sh list`).
+
+use crate::cases::specimens;
+use crate::paper::{entry, text, Outcome};
+
+/// Where the object begins.
+const OBJECT: u64 = 23;
+
+pub struct Vector {
+    pub name: &'static str,
+    pub octets: Vec<u8>,
+    answer: Option<(u32, u64)>,
+}
+
+impl Vector {
+    /// What is answered with house 1: the refusal, or the entry of T3.
+    pub fn expected(&self, room: usize) -> Outcome {
+        match self.answer {
+            Some((number, place)) => Outcome::refused(number, place),
+            None => Outcome::written(entry::write(1, &text::read(specimens::T3.as_bytes()).unwrap()), room),
+        }
+    }
+}
+
+macro_rules! vector {
+    ($name:literal, $answer:expr) => {
+        Vector { name: $name, octets: octets(include_str!(concat!("../../vectors/", $name, ".hex"))), answer: $answer }
+    };
+}
+
+pub fn all() -> Vec<Vector> {
+    accepted().into_iter().chain(refused_in_the_object()).chain(refused_behind_the_object()).collect()
+}
+
+fn refused(number: u32, place: u64) -> Option<(u32, u64)> {
+    Some((number, place))
+}
+
+fn accepted() -> Vec<Vector> {
+    vec![
+        // Every stage passes.
+        vector!("two-entries", None),
+        // "alone or followed by 05 00": alone. No order of entries is named, and 14 is about groups that are lent: a listed
+        // group need not be.
+        vector!("no-parameters", None),
+        // "a one-octet integer 1-16", 6 among them; 16 entries are not more than 16. "In lent order" names no order.
+        vector!("sixteen-entries", None),
+    ]
+}
+
+fn refused_in_the_object() -> Vec<Vector> {
+    vec![
+        // "AlgorithmIdentifier of SHA-256 .., else 13", at its tag.
+        vector!("sha-1", refused(13, OBJECT + 5)),
+        // "exactly 06 .. 01, alone or followed by 05 00": 30 00 follows.
+        vector!("other-parameters", refused(13, OBJECT + 5)),
+        // "a version of another value, is .. 12 at that element", before what follows it.
+        vector!("version-1", refused(12, OBJECT + 2)),
+        // "Nothing follows": 10 at the first octet left over, which is the first behind the list.
+        vector!("versions-behind", refused(10, OBJECT + 100)),
+        // "a one-octet integer 1-16 .., else 12 at the bad element": 17, then 128 in two octets, then 0.
+        vector!("number-17", refused(12, OBJECT + 64)),
+        vector!("number-128", refused(12, OBJECT + 64)),
+        vector!("number-0", refused(12, OBJECT + 103)),
+        // "then fewer than 2 .. (12 at the list)".
+        vector!("one-entry", refused(12, OBJECT + 20)),
+        vector!("no-entry", refused(12, OBJECT + 20)),
+        // "a repeated number (12 at its integer)": the one that repeats, although the first of the two is right.
+        vector!("repeated-entry", refused(12, OBJECT + 103)),
+        // "an octet string of 32, else 12 at the bad element", also for a group that is not lent.
+        vector!("long-digest", refused(12, OBJECT + 107)),
+        // An entry is a sequence of two: 10 at the first octet left over in it.
+        vector!("three-in-an-entry", refused(10, OBJECT + 100)),
+        // "tags as named": 10 at the tag of the element that should stand there: A0 for 30, 0A for 02, 31 for 30.
+        vector!("tagged-algorithm", refused(10, OBJECT + 5)),
+        vector!("enumerated-number", refused(10, OBJECT + 63)),
+        vector!("set-of-entries", refused(10, OBJECT + 20)),
+    ]
+}
+
+fn refused_behind_the_object() -> Vec<Vector> {
+    vec![
+        // "here it too needs an entry": 14 at the file's start, behind group 2.
+        vector!("group-16-without-entry", refused(14, 226)),
+        // "The digest is over the whole file, tag and length included": 15 at the file's start, behind the object's 100.
+        vector!("digest-of-the-inside", refused(15, 123)),
+        // "No group 1: 14, its place the presentation's length", after the files that are lent were found right.
+        vector!("no-group-1", refused(14, 273)),
+        // "then the text's refusals": the text begins behind 61 5B 5F 1F 58, and its last digit stands 87 further on.
+        vector!("wrong-digit", refused(9, 123 + 5 + 87)),
+    ]
+}
+
+fn octets(hex: &str) -> Vec<u8> {
+    let digits: Vec<u8> = hex.bytes().filter(u8::is_ascii_hexdigit).collect();
+    let octet = |pair: &[u8]| u8::from_str_radix(&String::from_utf8_lossy(pair), 16).unwrap();
+    digits.chunks(2).map(octet).collect()
+}
+
+#[cfg(test)]
+mod tests {
+    use super::*;
+    use crate::paper::presentation::{group_file, Stretch};
+    use crate::paper::tlv::Walk;
+    use crate::paper::{calls, object};
+
+    #[test]
+    fn the_reader_answers_as_argued() {
+        for vector in all() {
+            assert_eq!(calls::read_presentation(1, &vector.octets, 64), vector.expected(64), "{}", vector.name);
+        }
+    }
+
+    /// The two encoders agree on every object that either would call sound.
+    #[test]
+    fn the_objects_as_written_here() {
+        for vector in all().iter().filter(|vector| vector.answer.is_none()) {
+            let mut walk = Walk::over(&vector.octets);
+            walk.take(&[0x60]).unwrap();
+            let element = walk.take(&[0x30]).unwrap();
+            let entries = object::read(&vector.octets, &element).unwrap();
+            let null = vector.name != "no-parameters";
+            assert_eq!(object::write(&entries, null), vector.octets[element.whole], "{}", vector.name);
+        }
+    }
+
+    #[test]
+    fn the_entry_of_an_accepted_one() {
+        let accepted = calls::read_presentation(1, &all()[0].octets, 64);
+        assert_eq!(accepted.answer.value, 43);
+        assert_eq!(accepted.written[..6], [0x00, 0x02, 0x9f, 0x79, 0x95, 0x48]);
+    }
+
+    #[test]
+    fn files_where_they_stand() {
+        let vectors = all();
+        let octets = &vectors[0].octets;
+        assert_eq!(group_file(octets, 1), Stretch { start: 123, length: 93 });
+        assert_eq!(group_file(octets, 2), Stretch { start: 216, length: 10 });
+        assert_eq!(group_file(octets, 16), Stretch::EMPTY);
+        // Refused in stage 4, which is not looked at for the file of a group.
+        let refused = vectors.iter().find(|vector| vector.name == "set-of-entries").unwrap();
+        assert_eq!(group_file(&refused.octets, 1), Stretch { start: 123, length: 93 });
+    }
+}

@@ -1,0 +1,375 @@
+//! The cases of reading a presentation to an entry.
+
+use crate::border;
+use crate::cases::records::HOUSES;
+use crate::cases::trials::{self, Call, Trials};
+use crate::cases::{chance, damage, outside, presentations, records, specimens};
+use crate::guard::{Lent, Side};
+use crate::paper::presentation::{write, write_file, write_text_element};
+use crate::paper::{calls, group, sha256::sha256, Answer, Outcome};
+use crate::report::{hex_shown, Tally};
+use crate::seeds::Seeds;
+use std::ops::Range;
+
+/// As long as the longest entry.
+const ROOM: usize = 64;
+const LONGEST: usize = calls::LONGEST;
+
+pub fn compare(seed: u64) -> Tally {
+    let mut trials = Trials::<ReadPresentation>::new(seed);
+    trials.outside();
+    trials.sound();
+    trials.rooms_and_houses();
+    trials.limit();
+    trials.length_edges();
+    trials.damage();
+    trials.pairs();
+    trials.cut();
+    trials.one_octet();
+    trials.bits();
+    trials.lists();
+    trials.numbers();
+    trials.fenced();
+    trials.drawn();
+    trials.random();
+    trials.threads(alone);
+    trials.tally
+}
+
+struct ReadPresentation {
+    house: u32,
+    lent: Lent,
+    entry: Lent,
+}
+
+impl Call for ReadPresentation {
+    const NAME: &'static str = "read_presentation";
+    type Answer = Answer;
+
+    fn expected(&self) -> Outcome {
+        calls::read_presentation(self.house, self.lent.content(), self.entry.length())
+    }
+
+    fn made(&mut self) -> Answer {
+        border::read_presentation(self.house, &mut self.lent, &mut self.entry)
+    }
+
+    fn input(&self) -> &Lent {
+        &self.lent
+    }
+
+    fn output(&self) -> Option<&Lent> {
+        Some(&self.entry)
+    }
+
+    fn about(&self) -> Vec<String> {
+        let (lent, room) = (self.lent.content_before(), self.entry.length());
+        let first = format!("read_presentation, house {}, of {} octets into {room}", self.house, lent.len());
+        vec![first, format!("lent:     {}", hex_shown(lent))]
+    }
+}
+
+impl Trials<ReadPresentation> {
+    /// Presentations whose object another encoder made, with the answers that are argued for there.
+    fn outside(&mut self) {
+        for vector in outside::all() {
+            let (lent, entry) = (self.lent(&vector.octets), self.room(ROOM));
+            self.count(trials::held_to(&vector.expected(ROOM), ReadPresentation { house: 1, lent, entry }));
+        }
+    }
+
+    fn sound(&mut self) {
+        for turn in 0..3_000 {
+            let files = presentations::files(&mut self.seeds, 1 + turn % 15);
+            let made = presentations::tree(&mut self.seeds, &files).encoded();
+            self.together(|trials| {
+                trials.case(&made);
+                trials.plain(&write(&files));
+            });
+        }
+    }
+
+    /// Every output length to one past the need with every house, on a sound presentation and on one that is refused.
+    fn rooms_and_houses(&mut self) {
+        for groups in [1, 2, 5] {
+            let made = write(&presentations::files(&mut self.seeds, groups));
+            let need = calls::read_presentation(1, &made, ROOM).written.len();
+            for lent in [&made[..], &made[..made.len() - 1]] {
+                self.together(|trials| {
+                    for (room, house) in (0..=need + 1).flat_map(|room| HOUSES.map(|house| (room, house))) {
+                        trials.with_room(house, lent, room);
+                    }
+                });
+            }
+        }
+    }
+
+    /// Around 65,535 octets in all, with one long file, with fifteen, and with nothing that is a presentation.
+    fn limit(&mut self) {
+        for size in [65_000, LONGEST - 2, LONGEST - 1, LONGEST, LONGEST + 1, LONGEST + 2] {
+            for groups in [2, 3, 15] {
+                let made = self.filled(groups, size);
+                self.case(&made);
+                self.plain(&made);
+            }
+        }
+        let sound = self.filled(2, LONGEST);
+        self.plain(&[&sound[..], &[0x00]].concat());
+        for size in [LONGEST, LONGEST + 1, 65_600, 100_000, 131_072, 1_000_000] {
+            for octet in [0x00, 0x60, 0xff] {
+                self.case(&vec![octet; size]);
+            }
+            let octets = self.seeds.octets(size);
+            self.case(&octets);
+        }
+        // One file whose length is the longest that has a form: it runs over.
+        for length in [[0xff, 0xff], [0xff, 0x00], [0xfe, 0xff]] {
+            let mut made = sound.clone();
+            let last = made.len() - 1_000;
+            made.truncate(last);
+            made.extend([0x6a, 0x82, length[0], length[1]]);
+            self.case(&made);
+        }
+    }
+
+    /// A sound presentation of just so many octets.
+    fn filled(&mut self, groups: usize, size: usize) -> Vec<u8> {
+        let mut files = presentations::files(&mut self.seeds, groups);
+        let longest = files.iter().position(|(group, _)| *group != 1).expect("more groups than one");
+        files[longest].1 = self.seeds.octets(1_000);
+        let length = size - (write(&files).len() - 1_000);
+        files[longest].1 = self.seeds.octets(length);
+        let made = write(&files);
+        assert_eq!(made.len(), size);
+        made
+    }
+
+    /// Files around the lengths where another form of length begins, each coded in every form.
+    fn length_edges(&mut self) {
+        for length in presentations::EDGES {
+            let content = self.seeds.octets(length);
+            let made = write(&[(1, presentations::group_1(&mut self.seeds)), (2, content.clone())]);
+            self.plain(&made);
+            for file in presentations::coded(0x75, &content) {
+                self.plain(&with_file(&made, &write_file(2, &content), &file));
+            }
+        }
+    }
+
+    /// Each kind of damage at each place, and each house with it.
+    fn damage(&mut self) {
+        let sample = damage::sample(&mut self.seeds);
+        self.plain(&sample.encoded());
+        for damage in damage::all() {
+            let mut tree = sample.clone();
+            damage::spoil(&mut tree, &[&damage]);
+            let made = tree.encoded();
+            self.together(|trials| {
+                HOUSES.iter().for_each(|house| trials.with_room(*house, &made, ROOM));
+                trials.with_room(0, &made, 0);
+            });
+        }
+    }
+
+    /// Any two of them: the stages go in number order, and each stage from left to right. One with all those before it is
+    /// one case.
+    fn pairs(&mut self) {
+        let sample = damage::sample(&mut self.seeds);
+        let all = damage::all();
+        for (at, one) in all.iter().enumerate() {
+            self.together(|trials| {
+                for other in &all[..at] {
+                    let mut tree = sample.clone();
+                    damage::spoil(&mut tree, &[one, other]);
+                    trials.plain(&tree.encoded());
+                }
+            });
+        }
+    }
+
+    fn cut(&mut self) {
+        let sample = damage::sample(&mut self.seeds).encoded();
+        for length in 0..sample.len() {
+            self.together(|trials| {
+                trials.case(&sample[..length]);
+                trials.plain(&sample[..length]);
+                // And its end alone.
+                trials.plain(&sample[length..]);
+            });
+        }
+    }
+
+    /// Every octet of one presentation with every value, and each of these again with the digests that fit it.
+    fn one_octet(&mut self) {
+        let first = write_text_element(specimens::T3.as_bytes());
+        let made = write(&[(1, first), (2, b"abc".to_vec())]);
+        // Where each file stands, and where its digest.
+        let files = [(122..215, 51), (215..220, 90)];
+        assert!(files.iter().all(|(file, entry)| made[*entry..entry + 32] == sha256(&made[file.clone()])));
+        for place in 0..made.len() {
+            let file = files.iter().find(|(file, _)| file.contains(&place));
+            self.together(|trials| {
+                for mut other in records::with_each_octet(&made, place) {
+                    trials.plain(&other);
+                    if let Some((file, entry)) = file {
+                        let digest = sha256(&other[file.clone()]);
+                        other[*entry..entry + 32].copy_from_slice(&digest);
+                        trials.plain(&other);
+                    }
+                }
+            });
+        }
+    }
+
+    /// Every bit of every digest of a presentation of all groups, and every bit of a smaller one.
+    fn bits(&mut self) {
+        let made = write(&presentations::files(&mut self.seeds, 15));
+        let digests: Vec<usize> = (2..made.len() - 32).filter(|at| made[at - 2..*at] == [0x04, 0x20]).collect();
+        let small = write(&presentations::files(&mut self.seeds, 3));
+        digests.into_iter().for_each(|digest| self.flipped(&made, digest..digest + 32));
+        (0..small.len()).for_each(|octet| self.flipped(&small, octet..octet + 1));
+    }
+
+    /// Each bit of some octets.
+    fn flipped(&mut self, made: &[u8], octets: Range<usize>) {
+        self.together(|trials| {
+            (8 * octets.start..8 * octets.end).for_each(|bit| trials.plain(&records::flipped(made, bit)));
+        });
+    }
+
+    /// Tag lists: every octet alone, and many of known, unknown and repeated tags.
+    fn lists(&mut self) {
+        for tag in 0..=255 {
+            self.listed(&[tag]);
+            self.listed(&[0x61, tag, 0x75]);
+        }
+        for _ in 0..3_000 {
+            let length = self.seeds.below(18);
+            let odd = self.seeds.pick(&[1, 8, 32]);
+            let tags: Vec<u8> = (0..length)
+                .map(|_| match self.seeds.below(odd) {
+                    0 => self.seeds.pick(&[0x66, 0x60, 0x62, 0x71, 0x00, 0xff, 0x61]),
+                    _ => group::tag_of(u32::from(self.seeds.pick(&group::ALL))).unwrap(),
+                })
+                .collect();
+            self.listed(&tags);
+        }
+    }
+
+    fn listed(&mut self, tags: &[u8]) {
+        let mut tree = damage::sample(&mut self.seeds);
+        *tree.at(&[0, 2]).unwrap().octets_mut().unwrap() = tags.to_vec();
+        self.plain(&tree.encoded());
+    }
+
+    /// Entries: every octet as a number, and lists of none to eighteen with and without repeats.
+    fn numbers(&mut self) {
+        for number in 0..=255 {
+            self.numbered(&[1, 2, number, 16]);
+        }
+        for turn in 0..3_000 {
+            let most = self.seeds.pick(&[16, 16, 16, 17]);
+            let mut numbers: Vec<u8> = (0..turn % 19).map(|_| 1 + self.seeds.below(most) as u8).collect();
+            if self.seeds.below(3) > 0 {
+                // Mostly without a repeat, since a repeat is looked for before the count.
+                numbers.sort_unstable();
+                numbers.dedup();
+            }
+            self.numbered(&numbers);
+        }
+    }
+
+    fn numbered(&mut self, numbers: &[u8]) {
+        let mut tree = damage::sample(&mut self.seeds);
+        let entries = numbers.iter().map(|number| presentations::entry(*number, &[0; 32])).collect();
+        *tree.at(&[1, 2]).unwrap().trees_mut().unwrap() = entries;
+        presentations::seal(&mut tree);
+        self.plain(&tree.encoded());
+    }
+
+    /// Nothing is read past either end, wherever a presentation is cut, nor the pointer of an empty range.
+    fn fenced(&mut self) {
+        let sample = damage::sample(&mut self.seeds).encoded();
+        let longest = self.filled(3, LONGEST);
+        for side in Side::BOTH {
+            (0..=sample.len()).for_each(|length| self.fence(&sample[..length], ROOM, side));
+            (0..=44).for_each(|room| self.fence(&sample, room, side));
+            self.fence(&longest, ROOM, side);
+        }
+        let entry = self.room(ROOM);
+        self.watch(ReadPresentation { house: 1, lent: Lent::absent(), entry });
+        let lent = self.lent(&sample);
+        self.watch(ReadPresentation { house: 1, lent, entry: Lent::absent() });
+        self.watch(ReadPresentation { house: 0, lent: Lent::absent(), entry: Lent::absent() });
+    }
+
+    /// None to four damages of any kind, some of them before the digests are worked out.
+    fn drawn(&mut self) {
+        for turn in 0..40_000 {
+            let groups = self.seeds.pick(&[1, 2, 2, 3, 3, 4]);
+            let files = presentations::files(&mut self.seeds, groups);
+            let mut tree = presentations::tree(&mut self.seeds, &files);
+            for _ in 0..turn % 3 {
+                chance::spoil(&mut self.seeds, &mut tree);
+            }
+            presentations::seal(&mut tree);
+            for _ in 0..self.seeds.below(3) {
+                chance::spoil(&mut self.seeds, &mut tree);
+            }
+            self.case(&tree.encoded());
+        }
+    }
+
+    fn random(&mut self) {
+        for length in (0..300).chain([1_000, 10_000]) {
+            let octets = self.seeds.octets(length);
+            self.case(&octets);
+            // Behind an outside that is well made.
+            let inner = self.seeds.octets(length % 100);
+            let made = [write_file(1, &octets), write_file(2, &inner)].concat();
+            self.case(&[&[0x60, inner.len() as u8], &inner[..], &[0x30, inner.len() as u8], &inner, &made].concat());
+        }
+    }
+
+    /// A house and a room of the seed's choice.
+    fn case(&mut self, lent: &[u8]) {
+        let house = records::house(&mut self.seeds);
+        let room = self.seeds.pick(&[ROOM, ROOM, ROOM, 200, 43, 36, 35, 0]);
+        self.with_room(house, lent, room);
+    }
+
+    /// House 1, and room for any entry.
+    fn plain(&mut self, lent: &[u8]) {
+        self.with_room(1, lent, ROOM);
+    }
+
+    fn with_room(&mut self, house: u32, lent: &[u8], room: usize) {
+        let (lent, entry) = (self.lent(lent), self.room(room));
+        self.hold(ReadPresentation { house, lent, entry });
+    }
+
+    fn fence(&mut self, lent: &[u8], room: usize, side: Side) {
+        let entry = Lent::fenced(&self.seeds.octets(room), side);
+        self.watch(ReadPresentation { house: 1, lent: Lent::fenced(lent, side), entry });
+    }
+}
+
+/// The presentation with another last file, and the digest of that file as it now is: nothing else is wrong.
+fn with_file(made: &[u8], last: &[u8], file: &[u8]) -> Vec<u8> {
+    let before = made.strip_suffix(last).expect("the last file");
+    let digest = sha256(last);
+    let entry = before.windows(32).position(|window| window == digest).expect("the entry of the last file");
+    [&before[..entry], &sha256(file), &before[entry + 32..], file].concat()
+}
+
+/// What one thread tries.
+fn alone(seed: u64) -> Vec<Vec<String>> {
+    let mut seeds = Seeds::new(seed);
+    let case = |turn: usize| {
+        let files = presentations::files(&mut seeds, 1 + turn % 15);
+        let lent = Lent::new(&write(&files), seeds.below(64));
+        let entry = Lent::new(&seeds.octets(ROOM), seeds.below(64));
+        trials::held(ReadPresentation { house: 1, lent, entry })
+    };
+    (0..150).map(case).collect()
+}

@@ -1,0 +1,126 @@
+//! EF.COM, from document 01, "Stages of a presentation", stage 3; source document 000, 5.1.
+
+use super::group;
+use super::text::Refusal;
+use super::tlv::{tlv, Element, Walk};
+
+const VERSION: &[u8] = b"0107";
+/// More tags than this are too many for a list. No list of known tags without a repeat has more.
+const MOST: usize = 15;
+
+/// The tag list of the EF.COM whose outer element was found.
+pub fn read<'a>(lent: &'a [u8], com: &Element) -> Result<&'a [u8], Refusal> {
+    let mut walk = Walk::inside(lent, com);
+    let version = walk.take(&[0x5f, 0x01])?;
+    content(&lent[version.content.clone()] == VERSION, &version)?;
+    let unicode = walk.take(&[0x5f, 0x36])?;
+    content(is_unicode(&lent[unicode.content.clone()]), &unicode)?;
+    let list = walk.take(&[0x5c])?;
+    listed(lent, &list)?;
+    walk.close()?;
+    Ok(&lent[list.content])
+}
+
+/// 11 at an element whose content is not as it should be.
+fn content(right: bool, element: &Element) -> Result<(), Refusal> {
+    if right {
+        return Ok(());
+    }
+    Err(Refusal { number: 11, place: element.whole.start })
+}
+
+fn is_unicode(digits: &[u8]) -> bool {
+    digits.len() == 6 && digits.iter().all(u8::is_ascii_digit)
+}
+
+/// Three looks at the whole list: unknown, repeated, too many.
+fn listed(lent: &[u8], list: &Element) -> Result<(), Refusal> {
+    let tags = &lent[list.content.clone()];
+    let unknown = tags.iter().position(|tag| group::of_tag(*tag).is_none());
+    let repeated = || (0..tags.len()).find(|at| tags[..*at].contains(&tags[*at]));
+    if let Some(at) = unknown.or_else(repeated) {
+        return Err(Refusal { number: 11, place: list.content.start + at });
+    }
+    content(tags.len() <= MOST, list)
+}
+
+/// The EF.COM that lists these tags.
+pub fn write(unicode: &[u8; 6], tags: &[u8]) -> Vec<u8> {
+    let held = [tlv(&[0x5f, 0x01], VERSION), tlv(&[0x5f, 0x36], unicode), tlv(&[0x5c], tags)];
+    tlv(&[0x60], &held.concat())
+}
+
+#[cfg(test)]
+mod tests {
+    use super::*;
+
+    /// Worked out by hand: 60 14; at 2 the version, at 9 the Unicode version, at 18 the list of two.
+    const BY_HAND: [u8; 22] = [
+        0x60, 0x14, 0x5f, 0x01, 0x04, 0x30, 0x31, 0x30, 0x37, 0x5f, 0x36, 0x06, 0x30, 0x34, 0x30, 0x30, 0x30, 0x30,
+        0x5c, 0x02, 0x61, 0x75,
+    ];
+
+    fn answer(com: &[u8]) -> Result<Vec<u8>, (u32, usize)> {
+        let element = Walk::over(com).take(&[0x60]).unwrap();
+        read(com, &element).map(<[u8]>::to_vec).map_err(|refusal| (refusal.number, refusal.place))
+    }
+
+    fn with(place: usize, octets: &[u8]) -> Vec<u8> {
+        let mut com = BY_HAND.to_vec();
+        com[place..place + octets.len()].copy_from_slice(octets);
+        com
+    }
+
+    #[test]
+    fn one_by_hand() {
+        assert_eq!(write(b"040000", &[0x61, 0x75]), BY_HAND);
+        assert_eq!(answer(&BY_HAND), Ok(vec![0x61, 0x75]));
+        assert_eq!(answer(&write(b"999999", &[])), Ok(vec![]));
+    }
+
+    #[test]
+    fn content_of_another_value_or_length() {
+        assert_eq!(answer(&with(8, b"8")), Err((11, 2)));
+        assert_eq!(answer(&with(17, b":")), Err((11, 9)));
+        assert_eq!(answer(&with(12, b"/")), Err((11, 9)));
+        // 5F01 of length 5 takes the 5F that follows: well coded, and not the length named.
+        assert_eq!(answer(&with(4, &[5])), Err((11, 2)));
+        assert_eq!(answer(&with(4, &[3])), Err((11, 2)));
+        assert_eq!(answer(&with(11, &[5])), Err((11, 9)));
+    }
+
+    #[test]
+    fn elements_that_fail() {
+        assert_eq!(answer(&with(3, &[0x02])), Err((10, 2)));
+        assert_eq!(answer(&with(4, &[0x12])), Err((10, 2)));
+        assert_eq!(answer(&with(9, &[0x5c])), Err((10, 9)));
+        assert_eq!(answer(&with(18, &[0x5d])), Err((10, 18)));
+        assert_eq!(answer(&with(19, &[0x03])), Err((10, 18)));
+        // The list ends one octet before EF.COM does.
+        assert_eq!(answer(&with(19, &[0x01])), Err((10, 21)));
+        // EF.COM ends before an element that should stand there: its end is the place.
+        assert_eq!(answer(&[0x60, 0x00]), Err((10, 2)));
+        assert_eq!(answer(&[&[0x60, 0x07], &BY_HAND[2..9]].concat()), Err((10, 9)));
+        assert_eq!(answer(&[&[0x60, 0x10], &BY_HAND[2..18]].concat()), Err((10, 18)));
+    }
+
+    #[test]
+    fn lists() {
+        let of = |tags: &[u8]| answer(&write(b"040000", tags)).err();
+        assert_eq!(of(&[0x61, 0x66]), Some((11, 21)));
+        // The repeated one stands before the unknown one, and is looked for after it.
+        assert_eq!(of(&[0x61, 0x61, 0x77]), Some((11, 22)));
+        assert_eq!(of(&[0x61, 0x75, 0x75, 0x61]), Some((11, 22)));
+        let all: Vec<u8> = group::ALL.into_iter().filter_map(|group| group::tag_of(u32::from(group))).collect();
+        assert_eq!(of(&all), None);
+        assert_eq!(of(&[&all[..], &[0x70]].concat()), Some((11, 35)));
+    }
+
+    #[test]
+    fn an_unknown_tag_goes_before_what_is_left_over() {
+        let held = [&BY_HAND[2..20], &[0x61, 0x77, 0x00]].concat();
+        assert_eq!(answer(&tlv(&[0x60], &held)), Err((11, 21)));
+        let held = [&BY_HAND[2..20], &[0x61, 0x75, 0x00]].concat();
+        assert_eq!(answer(&tlv(&[0x60], &held)), Err((10, 22)));
+    }
+}

@@ -1,0 +1,294 @@
+//! A presentation and the file of a group, from document 01, "What the server lends and gets" and "Stages of a
+//! presentation".
+
+use super::calls::LONGEST;
+use super::object::Entry;
+use super::record::Record;
+use super::sha256::sha256;
+use super::text::{self, Refusal};
+use super::tlv::{tlv, Element, Walk};
+use super::{com, group, object};
+use std::fmt;
+
+/// Where a group's file stands in what was lent. C has it as a start and a length.
+#[repr(C)]
+#[derive(Clone, Copy, Debug, PartialEq, Eq)]
+pub struct Stretch {
+    pub start: u64,
+    pub length: u64,
+}
+
+impl Stretch {
+    pub const EMPTY: Stretch = Stretch { start: 0, length: 0 };
+}
+
+impl fmt::Display for Stretch {
+    fn fmt(&self, to: &mut fmt::Formatter) -> fmt::Result {
+        write!(to, "start {}, length {}", self.start, self.length)
+    }
+}
+
+/// The parts that the outer walk finds.
+struct Parts {
+    com: Element,
+    object: Element,
+    files: Vec<File>,
+}
+
+/// A group file: the group whose tag it has, and where it stands.
+struct File {
+    group: u8,
+    element: Element,
+}
+
+/// The record of a presentation, or the first refusal of the stages in number order.
+pub fn read(lent: &[u8]) -> Result<Record, Refusal> {
+    let parts = parts(lent)?;
+    let listed = com::read(lent, &parts.com)?;
+    let entries = object::read(lent, &parts.object)?;
+    for (at, file) in parts.files.iter().enumerate() {
+        allowed(lent, file, &parts.files[..at], listed, &entries)?;
+    }
+    let first = parts.files.iter().find(|file| file.group == 1);
+    let first = first.ok_or(Refusal { number: 14, place: lent.len() })?;
+    record(lent, &first.element)
+}
+
+/// Stages 1 and 2.
+fn parts(lent: &[u8]) -> Result<Parts, Refusal> {
+    if lent.len() > LONGEST {
+        return Err(Refusal { number: 1, place: 0 });
+    }
+    let mut walk = Walk::over(lent);
+    let com = walk.take(&[0x60])?;
+    let object = walk.take(&[0x30])?;
+    let mut files = Vec::new();
+    while let Some(tag) = walk.left().first() {
+        match group::of_tag(*tag) {
+            Some(group) => files.push(File { group, element: walk.take(&[*tag])? }),
+            // An octet that is no group's tag: left over.
+            None => walk.close()?,
+        }
+    }
+    Ok(Parts { com, object, files })
+}
+
+/// Stage 5 for one file and those lent before it.
+fn allowed(lent: &[u8], file: &File, before: &[File], listed: &[u8], entries: &[Entry]) -> Result<(), Refusal> {
+    let place = file.element.whole.start;
+    let is_listed = listed.contains(&lent[place]);
+    let is_new = before.iter().all(|other| other.group != file.group);
+    let entry = entries.iter().find(|entry| entry.number == file.group);
+    let entry = entry.filter(|_| is_listed && is_new).ok_or(Refusal { number: 14, place })?;
+    if sha256(&lent[file.element.whole.clone()]) != entry.digest {
+        return Err(Refusal { number: 15, place });
+    }
+    Ok(())
+}
+
+/// Stage 6, inside group 1. The text's places are counted from the text's start, so they are moved to where that stands.
+fn record(lent: &[u8], file: &Element) -> Result<Record, Refusal> {
+    let mut walk = Walk::inside(lent, file);
+    let text = walk.take(&[0x5f, 0x1f])?.content;
+    walk.close()?;
+    let start = text.start;
+    text::read(&lent[text]).map_err(|refusal| Refusal { place: start + refusal.place, ..refusal })
+}
+
+/// The first file with the group's tag, as a stretch of what was lent.
+pub fn group_file(lent: &[u8], group: u32) -> Stretch {
+    let parts = match parts(lent) {
+        Ok(parts) => parts,
+        Err(_) => return Stretch::EMPTY,
+    };
+    let found = parts.files.iter().find(|file| u32::from(file.group) == group);
+    found.map_or(Stretch::EMPTY, |file| {
+        let whole = &file.element.whole;
+        Stretch { start: whole.start as u64, length: whole.len() as u64 }
+    })
+}
+
+/// The file of a group that has a tag.
+pub fn write_file(group: u8, content: &[u8]) -> Vec<u8> {
+    let tag = group::tag_of(u32::from(group)).expect("a group that has a tag");
+    tlv(&[tag], content)
+}
+
+/// Group 1's content with a text.
+pub fn write_text_element(text: &[u8]) -> Vec<u8> {
+    tlv(&[0x5f, 0x1f], text)
+}
+
+/// A presentation that lists and has entries for just the groups whose files these are, and for group 2 where it would
+/// have one entry only, which are too few.
+pub fn write(files: &[(u8, Vec<u8>)]) -> Vec<u8> {
+    let octets: Vec<Vec<u8>> = files.iter().map(|(group, content)| write_file(*group, content)).collect();
+    let tags: Vec<u8> = octets.iter().map(|file| file[0]).collect();
+    let entry = |(group, file): (u8, &Vec<u8>)| Entry { number: group, digest: sha256(file) };
+    let mut entries: Vec<Entry> = files.iter().map(|file| file.0).zip(&octets).map(entry).collect();
+    if let [only] = &entries[..] {
+        let other = if only.number == 2 { 1 } else { 2 };
+        entries.push(Entry { number: other, digest: [0; 32] });
+    }
+    [com::write(b"040000", &tags), object::write(&entries, true), octets.concat()].concat()
+}
+
+#[cfg(test)]
+mod tests {
+    use super::*;
+    use crate::cases::specimens;
+
+    fn first() -> (u8, Vec<u8>) {
+        (1, write_text_element(specimens::T3.as_bytes()))
+    }
+
+    /// EF.COM of 22 octets, the object of 100 at 22, group 1 of 93 at 122 with its text at 127, group 2 of 5 at 215.
+    fn sample() -> Vec<u8> {
+        write(&[first(), (2, b"abc".to_vec())])
+    }
+
+    fn refused(lent: &[u8]) -> (u32, usize) {
+        let refusal = read(lent).unwrap_err();
+        (refusal.number, refusal.place)
+    }
+
+    fn t3() -> Record {
+        text::read(specimens::T3.as_bytes()).unwrap()
+    }
+
+    /// The lent octets with the digest of the file at a place put into the entry at another.
+    fn sealed(mut lent: Vec<u8>, file: std::ops::Range<usize>, entry: usize) -> Vec<u8> {
+        let digest = sha256(&lent[file]);
+        lent[entry..entry + 32].copy_from_slice(&digest);
+        lent
+    }
+
+    #[test]
+    fn where_all_stands() {
+        let sample = sample();
+        assert_eq!(sample.len(), 220);
+        assert_eq!(sample[..2], [0x60, 0x14]);
+        assert_eq!(sample[22..24], [0x30, 0x62]);
+        assert_eq!(sample[122..127], [0x61, 0x5b, 0x5f, 0x1f, 0x58]);
+        assert_eq!(sample[127..215], *specimens::T3.as_bytes());
+        assert_eq!(sample[215..], [0x75, 0x03, b'a', b'b', b'c']);
+        assert_eq!(read(&sample), Ok(t3()));
+    }
+
+    #[test]
+    fn the_size_goes_first() {
+        assert_eq!(refused(&vec![0x60; 65_536]), (1, 0));
+        assert_eq!(refused(&vec![0x00; 65_536]), (1, 0));
+        // 65,535 octets in all: one file more, with a length of three octets.
+        let rest = |size| write(&[first(), (2, vec![7; size])]);
+        let around = rest(1_000).len() - 1_000;
+        assert_eq!(read(&rest(65_535 - around)), Ok(t3()));
+        assert_eq!(refused(&rest(65_536 - around)), (1, 0));
+    }
+
+    #[test]
+    fn the_outer_walk() {
+        assert_eq!(refused(&[]), (10, 0));
+        assert_eq!(refused(&[0x60]), (10, 0));
+        assert_eq!(refused(&[0x60, 0x00]), (10, 2));
+        assert_eq!(refused(&[0x61, 0x00]), (10, 0));
+        assert_eq!(refused(&[0x60, 0x00, 0x30, 0x00, 0x66, 0x00]), (10, 4));
+        assert_eq!(refused(&[0x60, 0x00, 0x30, 0x00, 0x75]), (10, 4));
+        assert_eq!(refused(&[0x60, 0x00, 0x30, 0x00, 0x75, 0x00, 0x70, 0x01]), (10, 6));
+        assert_eq!(refused(&[0x60, 0x00, 0x30, 0x00, 0x75, 0x81, 0x00]), (10, 4));
+        // All well outside: then EF.COM is looked into.
+        assert_eq!(refused(&[0x60, 0x00, 0x30, 0x00, 0x75, 0x00]), (10, 2));
+    }
+
+    #[test]
+    fn files_that_are_not_allowed() {
+        let sample = sample();
+        let again = [&sample[..], &sample[215..]].concat();
+        assert_eq!(refused(&again), (14, 220));
+        // 70 is neither listed nor has it an entry; 63 neither.
+        for tag in [0x70, 0x63] {
+            assert_eq!(refused(&[&sample[..], &[tag, 0x00]].concat()), (14, 220));
+        }
+        // Only one of the two.
+        let mut unlisted = sample.clone();
+        unlisted[21] = 0x63;
+        assert_eq!(refused(&unlisted), (14, 215));
+        let mut without = sample.clone();
+        without[22 + 65] = 3;
+        assert_eq!(refused(&without), (14, 215));
+        // Every octet of both digests, and one of each file.
+        for place in (51..83).chain(127..128) {
+            let mut other = sample.clone();
+            other[place] ^= 0x80;
+            assert_eq!(refused(&other), (15, 122));
+        }
+        for place in (90..122).chain(217..220) {
+            let mut other = sample.clone();
+            other[place] ^= 0x01;
+            assert_eq!(refused(&other), (15, 215));
+        }
+    }
+
+    #[test]
+    fn no_group_1() {
+        let sample = sample();
+        assert_eq!(refused(&sample[..122]), (14, 122));
+        assert_eq!(refused(&[&sample[..122], &sample[215..]].concat()), (14, 127));
+        // A file that is not allowed is told before.
+        let mut other = [&sample[..122], &sample[215..]].concat();
+        other[126] ^= 1;
+        assert_eq!(refused(&other), (15, 122));
+    }
+
+    #[test]
+    fn inside_group_1() {
+        let with = |content: &[u8]| refused(&write(&[(1, content.to_vec()), (2, Vec::new())]));
+        assert_eq!(with(&[]), (10, 124));
+        assert_eq!(with(&[0x5f]), (10, 124));
+        assert_eq!(with(&[0x5f, 0x1f]), (10, 124));
+        assert_eq!(with(&[0x5f, 0x1f, 0x01]), (10, 124));
+        assert_eq!(with(&[0x5f, 0x1e, 0x00]), (10, 124));
+        assert_eq!(with(&[0x5f, 0x1f, 0x00]), (1, 127));
+        // What is left over goes before what is wrong with the text.
+        assert_eq!(with(&[0x5f, 0x1f, 0x00, 0x00]), (10, 127));
+        assert_eq!(with(&[&first().1[..], &[0x00]].concat()), (10, 215));
+    }
+
+    #[test]
+    fn a_text_is_refused_where_it_stands() {
+        for (place, character, number) in [(130, b'a', 2), (127, b'V', 3), (191, b'X', 7), (214, b'1', 9)] {
+            let mut other = sample();
+            other[place] = character;
+            assert_eq!(refused(&sealed(other, 122..215, 51)), (number, place));
+        }
+    }
+
+    #[test]
+    fn stages_in_number_order() {
+        // A bad list, a bad version, an unknown algorithm, a group lent twice: told one after another as each is mended.
+        let mut lent = [&sample()[..], &[0x75, 0x00]].concat();
+        (lent[20], lent[26], lent[40]) = (0x66, 0x01, 0x06);
+        assert_eq!(refused(&lent), (11, 20));
+        lent[20] = 0x61;
+        assert_eq!(refused(&lent), (12, 24));
+        lent[26] = 0x00;
+        assert_eq!(refused(&lent), (13, 27));
+        lent[40] = 0x05;
+        assert_eq!(refused(&lent), (14, 220));
+    }
+
+    #[test]
+    fn files_of_groups() {
+        let sample = [&sample()[..], &[0x61, 0x00]].concat();
+        let file = |group| (group_file(&sample, group).start, group_file(&sample, group).length);
+        assert_eq!((file(1), file(2)), ((122, 93), (215, 5)));
+        for group in [0, 3, 6, 16, 17, 97, 257, u32::MAX] {
+            assert_eq!(file(group), (0, 0));
+        }
+        // The outer walk alone decides: nothing inside is looked at.
+        let bare = [0x60, 0x00, 0x30, 0x00, 0x70, 0x00, 0x61, 0x00];
+        assert_eq!(group_file(&bare, 16), Stretch { start: 4, length: 2 });
+        assert_eq!(group_file(&bare[..7], 16), Stretch::EMPTY);
+        assert_eq!(group_file(&vec![0; 65_536], 1), Stretch::EMPTY);
+    }
+}

@@ -1,0 +1,38 @@
+# shellcheck shell=bash disable=SC2154
+# Presentations: each answer with its stage.
+
+# One that is sound, and one for each stage.
+holds 'a presentation' 0 "$expected/presentation" presentation --hex $samples/presentation.hex
+sed '/^#/d' "$expected/presentation" > "$folder/presentation"
+octets_of $samples/presentation.hex > "$folder/octets"
+holds 'a presentation in octets' 0 "$folder/presentation" presentation --file "$folder/octets"
+holds 'a presentation on standard input' 0 "$folder/presentation" presentation < "$folder/octets"
+for stage in walk com algorithm digest text; do
+    holds "a presentation that is refused, $stage" 1 "$expected/presentation-$stage" \
+        presentation --hex "$samples/presentation-$stage.hex"
+done
+holds 'a presentation of 65,536 octets' 1 "$expected/presentation-size" presentation < <(head -c 65536 /dev/zero)
+holds 'a presentation with house 0' 1 "$expected/presentation-house-0" presentation --house 0 --file "$folder/octets"
+holds 'a presentation of no octets' 1 "$expected/presentation-empty" presentation < /dev/null
+# What should still stand in EF.COM is told at its end, which is where the security object stands or should stand.
+holds 'an EF.COM that holds nothing' 1 "$expected/presentation-com-empty" presentation 6000 3000
+holds 'no security object' 1 "$expected/presentation-no-object" presentation 6000
+
+# EF.COM and the security object of the sample, and behind them another file of group 1, which has its digest in its entry: 32
+# octets from 52, in a presentation whose files begin at 123.
+sample=$(hex_of $samples/presentation.hex)
+with_group_1() {
+    local digest
+    digest=$(octets "$1" | sha256sum | cut -d ' ' -f 1)
+    echo "${sample:0:104}$digest${sample:168:78}$1"
+}
+# Its place is the presentation's length.
+holds 'no group 1' 1 "$expected/presentation-no-group-1" presentation "${sample:0:246}"
+holds 'an empty group 1' 1 "$expected/presentation-group-1-empty" presentation "$(with_group_1 6100)"
+holds 'an empty text in group 1' 1 "$expected/presentation-text-empty" presentation "$(with_group_1 61035f1f00)"
+
+# The samples are what OpenSSL's encoder made, where the vectors of tests/compare have the same.
+for pair in presentation:two-entries presentation-{algorithm:sha-1,digest:digest-of-the-inside,text:wrong-digit}; do
+    sample_hex=$(hex_of "$samples/${pair%:*}.hex")
+    try "the sample ${pair%:*} is the vector ${pair#*:}" [ "$sample_hex" = "$(hex_of "tests/compare/vectors/${pair#*:}.hex")" ]
+done

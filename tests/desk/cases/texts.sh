@@ -1,0 +1,35 @@
+# shellcheck shell=bash disable=SC2154
+# Texts, and how they are handed over.
+
+# The same record in each way of handing a text over.
+holds 'lines joined' 0 "$expected/t3" text "$first$second"
+holds 'a blank between the lines' 0 "$expected/t3" text "$first $second"
+holds 'blanks around the lines' 0 "$expected/t3" text $' \t'"$first"$'  \t '"$second "
+holds 'line ends of Unix, none behind the last line' 0 "$expected/t3" text < <(printf '%s\n%s' "$first" "$second")
+holds 'line ends of DOS, and blanks before them' 0 "$expected/t3" text < <(printf '  %s \r\n%s\t\r\n\r\n' "$first" "$second")
+
+# The widths of the other forms' lines, at which a blank ends a line too. Their specimens are the second and the third.
+specimen() {
+    awk -v RS= -v at="$1" 'NR == at' "$expected/specimens" | tail -n +2
+    echo
+}
+specimen 2 > "$folder/td1"
+specimen 3 > "$folder/td2"
+holds 'TD1 in one line' 0 "$folder/td1" text \
+    'I<UTOD231458907<<<<<<<<<<<<<<< 7408122F1204159UTO<<<<<<<<<<<6 ERIKSSON<<ANNA<MARIA<<<<<<<<<<'
+holds 'TD2 in one line' 0 "$folder/td2" text \
+    'I<UTOERIKSSON<<ANNA<MARIA<<<<<<<<<<< D231458907UTO7408122F1204159<<<<<<<6'
+
+# A text that is lent otherwise is shown as it was lent, and refused there.
+holds 'a blank within a line' 1 "$expected/blank-kept" text "P<UTO NORD<<ELIN<<<<<<<<<<<<<<<<<<<<<<<<<<<< $second"
+holds 'a line that is too short, behind a blank' 1 "$expected/short-line" text "$first ${second%0}"
+holds 'a text of no characters' 1 "$expected/no-characters" text ''
+holds 'standard input with nothing on it' 1 "$expected/no-characters" text < /dev/null
+holds 'house 0' 1 "$expected/house-0" text --house 0 "$first$second"
+holds 'house 32,768' 1 "$expected/house-32768" text --house 32768 "$first$second"
+cat "$expected/t3" "$expected/no-characters" "$expected/t3" > "$folder/several"
+holds 'one refused among several' 1 "$folder/several" text "$first$second" '' "$first$second"
+
+holds 'the specimens' 0 "$expected/specimens" text --file $samples/specimens.text
+holds 'long numbers, the greatest house' 0 "$expected/long-numbers" text --house 32767 --file $samples/long-numbers.text
+holds 'each refusal of a text' 1 "$expected/refused" text --file $samples/refused.text
