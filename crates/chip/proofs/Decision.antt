@@ -1,10 +1,10 @@
 -- Stages 5 and 6 by the table of digests decide as they do by the entries.
-use Prim.Native.Nat.{ℕ, _≤_, _<_}
+use Prim.Native.Nat.{ℕ, _≤_}
 use mathlib.Core.Path.{_≡_, refl, ap, sym, _∙_}
 use mathlib.Core.List.{List, []}
 use native.Mathlib.Omega.{arith}
 use lib.ListN.{length, getD}
-use Rattle.refusal.specs.Outcome.{Outcome, passed, refused}
+use Rattle.refusal.specs.Outcome.{passed}
 use Rattle.zone.specs.declared.record.Record.{Record}
 use Rattle.tlv.specs.Read.{Read, value, refusal, andThen, checked, toldOf}
 use Rattle.chip.specs.Outer.{File, files}

@@ -1,10 +1,10 @@
 -- The first file of a group, looked for from one file to the next.
 use Prim.Native.Nat.{ℕ, _≤_, _<_}
-use mathlib.Core.Path.{_≡_, refl, ap, sym, _∙_}
-use mathlib.Core.List.{List, [], _∷_}
+use mathlib.Core.Path.{_≡_, refl}
+use mathlib.Core.List.{List}
 use borrow.Author.Tests.{eq-eqb, ne-eqb}
 use lib.ListN.{length, getD}
-use Rattle.refusal.specs.Outcome.{Outcome, passed, refused}
+use Rattle.refusal.specs.Outcome.{passed}
 use Rattle.tlv.specs.declared.Stretch.{Stretch}
 use Rattle.tlv.specs.Read.{Read, value, refusal, andThen, toldOf}
 use Rattle.chip.specs.Groups.{groupOf}

@@ -4,14 +4,14 @@ use mathlib.Core.Path.{_≡_, refl, ap, sym, _∙_}
 use mathlib.Core.Bool.{Bool, true, false, cond, not, _&&_, _||_}
 use mathlib.Core.List.{List, [], _∷_}
 use native.Mathlib.Omega.{arith}
-use borrow.Author.Tests.{eq-eqb, ne-eqb, eqb-true, eqb-false, leb-true, le-leb, lt-leb}
+use borrow.Author.Tests.{eq-eqb, ne-eqb, eqb-true, eqb-false, leb-true}
 use lib.Dec.{eqb, leb, ltb}
 use lib.ListN.{length, take, drop, getD, set, length-set}
 use lib.Seq.{getD-set-same, getD-set-other}
 use Rattle.lent.proofs.Bools.{and-both}
 use Rattle.refusal.specs.Outcome.{Outcome, passed, refused, unless, orElse}
 use Rattle.tlv.specs.declared.Stretch.{Stretch}
-use Rattle.tlv.specs.Read.{Read, value, refusal, andThen, checked, toldOf}
+use Rattle.tlv.specs.Read.{Read, value, refusal, andThen, toldOf}
 use Rattle.tlv.specs.Element.{element}
 use Rattle.chip.specs.Cut.{alike, stands}
 use Rattle.chip.specs.Groups.{groupOf, isGroup}

@@ -1,6 +1,6 @@
 -- A text's refusal stands near the text: so near that its place in the presentation is a number of the machine.
-use Prim.Native.Nat.{ℕ, suc, _+_, _-_, _≤_, _<_, min}
-use mathlib.Core.Path.{_≡_, refl, ap, sym, _∙_}
+use Prim.Native.Nat.{ℕ, suc, _+_, _-_, _≤_}
+use mathlib.Core.Path.{_≡_, refl, ap}
 use mathlib.Core.Bool.{Bool, true, false, cond, _&&_}
 use mathlib.Core.List.{List, [], _∷_}
 use native.Mathlib.Omega.{arith}
@@ -10,13 +10,12 @@ use lib.ListN.{length, take, drop, getD, length-take, length-drop}
 use Rattle.lent.proofs.Bools.{and-both}
 use Rattle.refusal.specs.Outcome.{Outcome, passed, refused, unless, orElse}
 use Rattle.zone.specs.declared.form.Form.{Form}
-use Rattle.zone.specs.declared.form.Form.the-variants.{Td1, Td2, Td3}
 use Rattle.zone.specs.declared.form.Told.{Told}
 use Rattle.zone.specs.declared.form.Told.the-variants.{As, Unknown}
 use Rattle.zone.specs.declared.record.Record.{Record}
-use Rattle.zone.specs.Alphabet.{first, firstForeign, isForeign, isFiller, firstFiller}
+use Rattle.zone.specs.Alphabet.{first, firstForeign, isForeign, firstFiller}
 use Rattle.zone.specs.Part.{Part, code, state, number, numberCheck, optional, birth, birthCheck, sex, expiry, expiryCheck, nationality, optional2, composite, name, personal, personalCheck}
-use Rattle.zone.specs.Form.{formOf, parts, start, width, total, field}
+use Rattle.zone.specs.Form.{formOf, parts, start, width, field}
 use Rattle.zone.proofs.Widths.{within, total-le}
 use Rattle.field.specs.Code.{codeRule}
 use Rattle.field.specs.Letters.{stateRule, sexRule, nameRule}

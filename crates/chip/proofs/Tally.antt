@@ -1,13 +1,14 @@
 -- A walk over entries goes on from the end of each, whatever number of steps is allowed, as long as it is enough; what was seen so far goes with it.
 use Prim.Native.Nat.{ℕ, zero, suc, _+_, _≤_, _<_}
 use mathlib.Core.Path.{_≡_, refl, ap, sym, _∙_}
-use mathlib.Core.Bool.{Bool, true, false}
+use mathlib.Core.Bool.{false}
 use mathlib.Core.List.{List, [], _∷_}
 use native.Mathlib.Omega.{arith}
-use borrow.Author.Tests.{le-leb, lt-leb, ltb-true, ltb-false}
-use lib.Dec.{leb, ltb}
+use borrow.Author.Tests.{le-leb, lt-leb}
+use lib.Dec.{leb}
 use lib.ListN.{length}
 use Rattle.tlv.specs.Read.{Read, value, refusal, andThen}
+use Rattle.tlv.proofs.Steps.{steps-enough}
 use Rattle.chip.specs.declared.entries.Seen.{Seen}
 use Rattle.chip.specs.Object.{Entry, entryAt, entriesFrom}
 use Rattle.chip.specs.Told.{counted, tallied, tallyFrom}
@@ -33,28 +34,30 @@ unfolding entriesFrom
 entries-end zero s at h = refl
 entries-end (suc k) s at h = rw (le-leb (length s) at h)
 
+-- an entry before those that follow it
+before : ℕ → Entry → Read (List Entry) → Read (List Entry)
+before at e rest = andThen rest (λ es. value (e ∷ es))
+
 -- any number of steps that is enough gives the same
 pub entries-enough : (k m : ℕ) (s : List ℕ) (at : ℕ) → length s ≤ at + k → length s ≤ at + m → entriesFrom k s at ≡ entriesFrom m s at
-entries-enough zero m s at a b = entries-end zero s at (omega arith) ∙ sym (entries-end m s at (omega arith))
-entries-enough (suc k) zero s at a b = entries-end (suc k) s at (omega arith) ∙ sym (entries-end zero s at (omega arith))
-entries-enough (suc k) (suc m) s at a b =
-    step (ltb at (length s)) refl (entryAt s at) refl (λ e h. entries-enough k m s (e .end) (omega arith) (omega arith))
-  where
-    here : (x : Read Entry) → entryAt s at ≡ x → at < length s
-        → ((e : Entry) → at < e .end → entriesFrom k s (e .end) ≡ entriesFrom m s (e .end))
-        → entriesFrom (suc k) s at ≡ entriesFrom (suc m) s at
-    here (value e) q h ih =
-        entries-more s at h k e q
-        ∙ (ap (λ x. andThen x (λ rest. value (e ∷ rest))) (ih e (entry-stands s at e q .0)) ∙ sym (entries-more s at h m e q))
-    here (refusal n p) q h ih = entries-stop s at h k n p q ∙ sym (entries-stop s at h m n p q)
-
-    step : (y : Bool) → ltb at (length s) ≡ y → (x : Read Entry) → entryAt s at ≡ x
-        → ((e : Entry) → at < e .end → entriesFrom k s (e .end) ≡ entriesFrom m s (e .end))
-        → entriesFrom (suc k) s at ≡ entriesFrom (suc m) s at
-    step true q x e ih = here x e (ltb-true at (length s) q) ih
-    step false q x e ih =
-        let h = ltb-false at (length s) q in
-        entries-end (suc k) s at h ∙ sym (entries-end (suc m) s at h)
+unfolding before
+entries-enough k m s at a b =
+    steps-enough
+    (length s)
+    (entryAt s)
+    (λ e. e .end)
+    before
+    (value [])
+    (λ i p. entriesFrom i s p)
+    (λ i p. entries-end i s p)
+    (λ i p e h. entries-more s p h i e)
+    (λ i p x y h. entries-stop s p h i x y)
+    (λ p e q. entry-stands s p e q .0)
+    k
+    m
+    at
+    a
+    b
 
 one-more : (s : List ℕ) (at : ℕ) → entriesFrom (length s) s at ≡ entriesFrom (suc (length s)) s at
 one-more s at = entries-enough (length s) (suc (length s)) s at (omega arith) (omega arith)

@@ -4,13 +4,13 @@ use mathlib.Core.Path.{_≡_, refl, ap, sym, _∙_}
 use mathlib.Core.Bool.{Bool, true, false, cond}
 use mathlib.Core.List.{List, [], _∷_}
 use native.Mathlib.Omega.{arith}
-use borrow.Author.Tests.{le-leb, lt-leb, ltb-true, ltb-false}
-use lib.Dec.{eqb, leb, ltb}
+use borrow.Author.Tests.{le-leb, lt-leb}
+use lib.Dec.{leb}
 use lib.ListN.{length, getD}
-use Rattle.refusal.specs.Outcome.{Outcome, passed, refused}
 use Rattle.tlv.specs.declared.Stretch.{Stretch}
 use Rattle.tlv.specs.Read.{Read, value, refusal, andThen, toldOf}
 use Rattle.tlv.specs.Element.{element}
+use Rattle.tlv.proofs.Steps.{steps-enough}
 use Rattle.tlv.proofs.Past.{ends-behind, refusal-not-value}
 use Rattle.chip.specs.Groups.{isGroup}
 use Rattle.chip.specs.Outer.{File, fileAt, filesFrom, files}
@@ -53,23 +53,23 @@ files-end (suc k) w at h = rw (le-leb (length w) at h)
 
 -- any number of steps that is enough gives the same
 files-enough : (k m : ℕ) (w : List ℕ) (at : ℕ) → length w ≤ at + k → length w ≤ at + m → filesFrom k w at ≡ filesFrom m w at
-files-enough zero m w at a b = files-end zero w at (omega arith) ∙ sym (files-end m w at (omega arith))
-files-enough (suc k) zero w at a b = files-end (suc k) w at (omega arith) ∙ sym (files-end zero w at (omega arith))
-files-enough (suc k) (suc m) w at a b =
-    step (ltb at (length w)) refl (fileAt w at) refl (λ v h. files-enough k m w (v .to) (omega arith) (omega arith))
-  where
-    here : (x : Read Stretch) → fileAt w at ≡ x → at < length w → ((v : Stretch) → at < v .to → filesFrom k w (v .to) ≡ filesFrom m w (v .to))
-        → filesFrom (suc k) w at ≡ filesFrom (suc m) w at
-    here (value v) e h ih = files-more w at h k v e ∙ (ap (before at v) (ih v (file-behind w at v e .0)) ∙ sym (files-more w at h m v e))
-    here (refusal n p) e h ih = files-stop w at h k n p e ∙ sym (files-stop w at h m n p e)
-
-    step : (y : Bool) → ltb at (length w) ≡ y → (x : Read Stretch) → fileAt w at ≡ x
-        → ((v : Stretch) → at < v .to → filesFrom k w (v .to) ≡ filesFrom m w (v .to))
-        → filesFrom (suc k) w at ≡ filesFrom (suc m) w at
-    step true q x e ih = here x e (ltb-true at (length w) q) ih
-    step false q x e ih =
-        let h = ltb-false at (length w) q in
-        files-end (suc k) w at h ∙ sym (files-end (suc m) w at h)
+files-enough k m w at a b =
+    steps-enough
+    (length w)
+    (fileAt w)
+    (λ v. v .to)
+    before
+    (value [])
+    (λ i p. filesFrom i w p)
+    (λ i p. files-end i w p)
+    (λ i p v h. files-more w p h i v)
+    (λ i p x y h. files-stop w p h i x y)
+    (λ p v e. file-behind w p v e .0)
+    k
+    m
+    at
+    a
+    b
 
 -- ---- what a loop goes by
 

@@ -5,7 +5,6 @@ use mathlib.Core.List.{List, [], _∷_}
 use lib.Dec.{eqb, ltb}
 use lib.ListN.{take, drop, getD}
 use Rattle.refusal.specs.Outcome.{Outcome, passed, unless, orElse}
-use Rattle.tlv.specs.declared.Stretch.{Stretch}
 use Rattle.sha256.specs.Hash.{sha256}
 use Rattle.chip.specs.Cut.{cut, alike, stands}
 use Rattle.chip.specs.Groups.{groupOf}

@@ -5,7 +5,7 @@ use mathlib.Core.List.{List, [], _∷_}
 use lib.Dec.{leb}
 use lib.ListN.{length, getD}
 use Rattle.refusal.specs.Numbers.{numberOf}
-use Rattle.refusal.specs.Outcome.{Outcome, unless, passed, refused}
+use Rattle.refusal.specs.Outcome.{Outcome, unless}
 use Rattle.tlv.specs.declared.Stretch.{Stretch}
 use Rattle.tlv.specs.Read.{Read, value, refusal, andThen, checked}
 use Rattle.tlv.specs.Element.{element}

@@ -16,10 +16,10 @@ use Rattle.chip.specs.Cut.{cut, endCheck}
 use Rattle.chip.specs.Groups.{groupOf}
 use Rattle.chip.specs.Outer.{File, files, walked}
 use Rattle.chip.specs.Common.{common}
-use Rattle.chip.specs.Object.{Entry, object}
+use Rattle.chip.specs.Object.{object}
 use Rattle.chip.specs.Files.{filesCheck}
 
--- the first file with that group's tag, from its start to its end; empty where there is none
+-- the first file with that group's tag; where there is none, 14 at the presentation's length
 unfoldable pub firstFile : List ℕ → ℕ → List File → Read File
 firstFile w group [] = refusal 14 (length w)
 firstFile w group (f ∷ fs) = cond (eqb (groupOf (getD w (f .start) 0)) group) (value f) (firstFile w group fs)
@@ -32,10 +32,11 @@ moved at a = checked (by (a .outcome)) (value (a .kept))
     by outcome.passed = outcome.passed
     by (outcome.refused n p) = outcome.refused n (at + p)
 
--- stage 6: no group 1, 14 at the presentation's length. Inside group 1: 5F1F and the text, exactly filling 61
+-- inside group 1: 5F1F and the text, exactly filling 61
 unfoldable pub textAt : List ℕ → ℕ → Read Record
 textAt s at = andThen (element s at 24351) (λ v. checked (endCheck s (v .to)) (moved (v .from) (readText (cut s v))))
 
+-- stage 6
 unfoldable pub groupOne : List ℕ → List File → Read Record
 groupOne w fs = andThen (firstFile w 1 fs) (λ f. textAt (take (f .held .to) w) (f .held .from))
 

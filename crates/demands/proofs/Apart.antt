@@ -1,14 +1,14 @@
 -- Parts of a text do not overlap, and what is copied to one place leaves the others as they are.
-use Prim.Native.Nat.{ℕ, zero, suc, _+_, _-_, _≤_, _<_, min}
+use Prim.Native.Nat.{ℕ, _+_, _-_, _≤_}
 use mathlib.Core.Path.{_≡_, refl, ap, sym, _∙_}
-use mathlib.Core.Bool.{Bool, true, false, cond}
+use mathlib.Core.Bool.{Bool, true, false}
 use mathlib.Core.Logic.{_⊎_, inl, inr}
 use mathlib.Core.List.{List, [], _∷_, _++_, append-assoc}
 use native.Mathlib.Omega.{arith}
 use borrow.Author.Tests.{eqb-true, eq-eqb}
 use lib.ListN.{length, take, drop, length-take, length-drop, length-append, take-append-drop}
 use lib.Seq.{take-all, length-take-le, take-append-le, drop-append-le, drop-append-add, drop-drop, drop-at, take-append-add}
-use Rattle.lent.specs.Copied.{copied, copiedAt}
+use Rattle.lent.specs.Copied.{copiedAt}
 use Rattle.zone.specs.declared.form.Form.{Form}
 use Rattle.zone.specs.Part.{Part, rank, same}
 use Rattle.zone.specs.Form.{Cell, _of_, layout, startIn, start, widthIn, width}

@@ -1,6 +1,6 @@
 -- Trailing fillers, and tests over every character, on lists put together and cut.
 use Prim.Native.Nat.{ℕ, zero, suc, _+_, _-_, _≤_, _<_}
-use mathlib.Core.Path.{_≡_, refl, ap, sym, _∙_}
+use mathlib.Core.Path.{_≡_, refl, sym}
 use mathlib.Core.Bool.{Bool, true, false, cond, not, _&&_}
 use mathlib.Core.List.{List, [], _∷_, _++_}
 use native.Mathlib.Omega.{arith}
@@ -9,11 +9,10 @@ use lib.Dec.{eqb, eqb·suc-zero}
 use lib.ListN.{length, take, drop, getD, replicate}
 use Rattle.lent.proofs.Bools.{and-both}
 use Rattle.zone.specs.Alphabet.{isFiller, isLetter, first, firstFiller}
-use Rattle.zone.specs.Record.{trimmedLength, trimmed, padded}
+use Rattle.zone.specs.Record.{trimmedLength}
 use Rattle.zone.proofs.Classes.{letter-range}
 use Rattle.field.specs.Letters.{every}
 use Rattle.sound.specs.Sound.{isSolid}
-use Rattle.demands.proofs.Span.{false-not-true}
 
 -- ---- trailing fillers
 

@@ -1,13 +1,12 @@
 -- The form that a length tells, and the parts that every form has.
 use Prim.Native.Nat.{ℕ}
-use mathlib.Core.Path.{_≡_, refl, ap, sym, _∙_}
+use mathlib.Core.Path.{_≡_, refl, ap, _∙_}
 use mathlib.Core.Bool.{Bool, true, false, cond}
 use native.Mathlib.Omega.{arith}
 use borrow.Author.Tests.{eqb-true}
 use lib.Dec.{eqb}
 use Rattle.zone.specs.declared.form.Form.{Form}
 use Rattle.zone.specs.declared.form.Form.the-variants.{Td1, Td2, Td3}
-use Rattle.zone.specs.declared.form.Told.{Told}
 use Rattle.zone.specs.declared.form.Told.the-variants.{As, Unknown}
 use Rattle.zone.specs.Part.{code, state, number, numberCheck, birth, birthCheck, sex, expiry, expiryCheck, nationality, composite, name, rank, same}
 use Rattle.zone.specs.Form.{total, formOf, parts, partOf, layout}

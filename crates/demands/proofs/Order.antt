@@ -17,8 +17,8 @@ use Rattle.zone.specs.Form.{formOf, layout, partOf, parts, start, startIn, widt
 use Rattle.text.specs.declared.number.Span.the-variants.{Long}
 use Rattle.text.specs.Number.{spanOf}
 use Rattle.demands.proofs.Span.{span-within}
-use Rattle.text.specs.Order.{inOrder, verdictBy, fieldCheck, digitCheck, characters}
-use Rattle.text.specs.Read.{readText, readBy, answered, recordBy, Answer}
+use Rattle.text.specs.Order.{inOrder, verdictBy, fieldCheck, digitCheck}
+use Rattle.text.specs.Read.{readText, readBy, answered, recordBy}
 use Rattle.zone.specs.declared.record.Record.{Record}
 use Rattle.demands.specs.Ordered.{checksBy, checksOf, FirstFailing, here, later, isRising}
 

@@ -1,30 +1,26 @@
 -- DEMAND 2, the record: an accepted text's record holds the fields that stand in it, and is sound.
-use Prim.Native.Nat.{ℕ, zero, suc, _+_, _-_, _≤_, _<_, min}
+use Prim.Native.Nat.{ℕ, _+_, _-_, _≤_, _<_}
 use mathlib.Core.Path.{_≡_, refl, ap, sym, _∙_}
-use mathlib.Core.Bool.{Bool, true, false, not, _&&_}
-use mathlib.Core.List.{List, [], _++_}
+use mathlib.Core.Bool.{Bool, true, false, _&&_}
+use mathlib.Core.List.{List, _++_}
 use native.Mathlib.Omega.{arith}
 use borrow.Author.Tests.{le-leb, eq-eqb}
-use lib.Dec.{eqb, leb}
 use lib.ListN.{length, take, drop, getD, replicate, length-take, length-drop, length-append, drop-of-length-le, List·getD-append}
 use lib.Seq.{take-all, drop-at, getD-take}
 use Rattle.lent.proofs.Bools.{and-both, both-and}
 use Rattle.refusal.specs.Outcome.{passed}
 use Rattle.zone.specs.declared.form.Form.{Form}
 use Rattle.zone.specs.declared.form.Form.the-variants.{Td1, Td2, Td3}
-use Rattle.zone.specs.declared.record.Record.{Record}
-use Rattle.zone.specs.Alphabet.{isCharacter, isFiller, isLetter, isDigit, firstFiller}
-use Rattle.zone.specs.Part.{Part, code, state, number, optional, birth, sex, expiry, nationality, name, rank, same}
-use Rattle.zone.specs.Form.{formOf, start, width, widthIn, layout, total, longest, field}
+use Rattle.zone.specs.Alphabet.{isCharacter, isFiller, isLetter, isDigit}
+use Rattle.zone.specs.Part.{Part, code, state, number, optional, birth, expiry, nationality, name, rank, same}
+use Rattle.zone.specs.Form.{start, width, widthIn, layout, total, longest, field}
 use Rattle.zone.specs.Record.{trimmedLength, trimmed, padded}
 use Rattle.zone.proofs.Widths.{within, fixed}
 use Rattle.zone.proofs.Padded.{padded-exact, padded-spare, padded-trimmed, length-padded, take-padded, trimmed-le, trimmed-length}
 use Rattle.field.specs.Code.{codeRule}
-use Rattle.field.specs.Letters.{stateRule, sexRule, nameRule, isNameCharacter, every}
+use Rattle.field.specs.Letters.{stateRule, nameRule, isNameCharacter, every}
 use Rattle.field.specs.Date.{birthRule, expiryRule}
-use Rattle.text.specs.declared.number.Span.the-variants.{Short, Long, Bad}
 use Rattle.text.specs.Number.{isLong, spanOf, numberBy}
-use Rattle.text.specs.Order.{verdictBy}
 use Rattle.text.specs.Read.{readText, answered, recordBy}
 use Rattle.sound.specs.Sound.{isShaped, isHeld, isSolid, isNumber, isDocument, isHolder, isSound}
 use Rattle.demands.specs.Accepted.{Keeps, filler}

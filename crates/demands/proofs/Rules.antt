@@ -2,14 +2,13 @@
 use Prim.Native.Nat.{ℕ, _+_, _-_, _≤_, _<_}
 use mathlib.Core.Path.{_≡_, refl, ap, sym, _∙_}
 use mathlib.Core.Logic.{_↔_}
-use mathlib.Core.Bool.{Bool, true, false, cond, not, _&&_}
+use mathlib.Core.Bool.{Bool, true, false, not}
 use mathlib.Core.List.{List, _++_}
 use lib.ListN.{length, take, getD}
-use native.Mathlib.Omega.{arith}
 use borrow.Author.Tests.{eqb-true, eq-eqb}
 use lib.Dec.{eqb}
 use Rattle.lent.proofs.Bools.{and-both}
-use Rattle.refusal.specs.Outcome.{Outcome, passed, refused, orElse, unless}
+use Rattle.refusal.specs.Outcome.{passed, refused, orElse}
 use Rattle.zone.specs.declared.form.Form.{Form}
 use Rattle.zone.specs.declared.form.Told.{Told}
 use Rattle.zone.specs.declared.form.Told.the-variants.{As, Unknown}
@@ -22,15 +21,14 @@ use Rattle.field.specs.Code.{codeRule}
 use Rattle.field.specs.Letters.{stateRule, sexRule, nameRule}
 use Rattle.field.specs.Date.{birthRule, expiryRule}
 use Rattle.text.specs.declared.number.Span.{Span}
-use Rattle.text.specs.declared.number.Span.the-variants.{Short, Long, Bad}
 use Rattle.text.specs.Number.{isLong, spanOf, spanRule, numberRule, checkedBy}
-use Rattle.text.specs.Order.{characters, fieldCheck, digitAt, numberDigit, furtherDigit, digitCheck, inOrder, verdictBy}
+use Rattle.text.specs.Order.{characters, fieldCheck, numberDigit, furtherDigit, digitCheck, inOrder, verdictBy}
 use Rattle.text.specs.Read.{readText, readBy, answered, recordBy}
 use Rattle.demands.specs.Accepted.{Keeps, has, filler}
 use Rattle.demands.proofs.Order.{answered-outcome}
 use Rattle.demands.proofs.Form.{told-by, by-told, common}
 use Rattle.demands.proofs.Walk.{refused-not-passed, both-passed, unless-kept, kept-unless, digit-kept, kept-digit, walk-each, each-walk}
-use Rattle.demands.proofs.Span.{false-not-true, short-span, long-span, span-ends, long-has}
+use Rattle.demands.proofs.Span.{short-span, long-span, span-ends, long-has}
 
 -- a test that was not passed
 not-true : (b : Bool) → not b ≡ true → b ≡ false

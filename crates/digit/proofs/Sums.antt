@@ -1,9 +1,9 @@
 -- The laws of a weighted sum: its parts are small, one more character, and stretches joined.
 use Prim.Native.Nat.{ℕ, zero, suc, _+_, _*_, _-_, _%_, _≤_, _<_}
-use mathlib.Core.Path.{_≡_, refl, ap, sym, _∙_}
+use mathlib.Core.Path.{_≡_, refl}
 use mathlib.Core.Bool.{Bool, true, false, cond}
 use mathlib.Core.List.{List, [], _∷_, _++_}
-use native.Mathlib.Nat.{mod-mod, mod-add-mod, add-mod-mod, mod-lt, mul-le-mul, zero-add, add-zero}
+use native.Mathlib.Nat.{mod-mod, mod-lt, mul-le-mul, zero-add, add-zero}
 use native.Mathlib.Numerals.{add-one}
 use native.Mathlib.Omega.{arith}
 use lib.Dec.{lit≤, lit<}

@@ -1,7 +1,6 @@
 -- What the bits of an entry stand for: document 01, "The entry".
 use Prim.Native.Nat.{ℕ, _+_, _-_}
-use mathlib.Core.Bool.{cond, _&&_}
-use mathlib.Core.List.{List, [], _∷_}
+use mathlib.Core.Bool.{cond}
 use lib.Dec.{eqb, leb}
 use Rattle.zone.specs.Alphabet.{isDigit, isLetter}
 use Rattle.zone.specs.declared.form.Form.{Form}

@@ -1,5 +1,4 @@
 -- The answer that C receives: a number and a value (document 01, "What the server lends and gets": plain calls on numbers and byte ranges).
-use Prim.Native.Nat.{ℕ}
 use Rattle.refusal.specs.Length.{Length, written, refused}
 use Rattle.lamphudet.specs.declared.Answer.{Answer}
 

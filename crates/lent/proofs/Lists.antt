@@ -1,14 +1,14 @@
 -- Laws on lists that the proofs of this crate and of those above it share.
-use mathlib.Core.Path.{_≡_, refl, ap, sym, _∙_}
-use mathlib.Core.List.{List, [], _∷_, _++_, append-nil}
+use mathlib.Core.Path.{_≡_, refl, sym, _∙_}
+use mathlib.Core.List.{List, [], _++_, append-nil}
 use mathlib.Core.Logic.{_⊎_, inl, inr}
 use Prim.Native.Nat.{ℕ, zero, suc, _+_, _-_, _≤_, _<_}
-use native.Mathlib.Nat.{zero-add, add-sub-cancel-left}
+use native.Mathlib.Nat.{zero-add}
 use native.Mathlib.Numerals.{add-one}
 use native.Mathlib.Omega.{arith}
-use lib.ListN.{length, take, drop, getD, set, length-drop, drop-of-length-le, take-append-drop, replicate}
+use lib.ListN.{length, take, drop, getD, set, length-drop, drop-of-length-le, replicate}
 use Rattle.lent.specs.Copied.{copied, copiedAt}
-use lib.Seq.{drop-nil, take-all, paste, paste-suc, take-length, drop-length}
+use lib.Seq.{drop-nil, take-all, paste-suc, take-length, drop-length}
 
 -- one more octet copied to the front of a range
 pub copy-more : (to from : List ℕ) (i : ℕ) → i < length to → i < length from

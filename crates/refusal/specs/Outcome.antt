@@ -1,7 +1,6 @@
 -- What a check says in the paper's terms: that it passed, or a number and a place (document 01, "Refusal numbers").
 use Prim.Native.Nat.{ℕ}
 use mathlib.Core.Bool.{Bool, true, false}
-use Rattle.refusal.specs.declared.Refusal.{Refusal}
 use Rattle.refusal.specs.declared.Verdict.{Verdict}
 use Rattle.refusal.specs.declared.Verdict.the-variants.{Passed, Refused}
 use Rattle.refusal.specs.Numbers.{numberOf}

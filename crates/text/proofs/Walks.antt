@@ -1,12 +1,12 @@
 -- The two orders in which the code joins its checks are the text order of the forms that it joins them so for.
-use Prim.Native.Nat.{ℕ, _+_, _<_, _≤_}
-use mathlib.Core.Path.{_≡_, refl}
+use Prim.Native.Nat.{ℕ, _<_, _≤_}
+use mathlib.Core.Path.{_≡_}
 use mathlib.Core.Bool.{cond}
-use mathlib.Core.List.{List, map}
+use mathlib.Core.List.{List}
 use native.Mathlib.Omega.{arith}
 use lib.ListN.{getD}
 use lib.Dec.{ltb}
-use Rattle.refusal.specs.Outcome.{Outcome, passed, orElse, unless}
+use Rattle.refusal.specs.Outcome.{passed, orElse, unless}
 use Rattle.refusal.proofs.Outcomes.{orElse-assoc, orElse-passed}
 use Rattle.zone.specs.declared.form.Form.{Form}
 use Rattle.zone.specs.declared.form.Form.the-variants.{Td1, Td2, Td3}

@@ -1,6 +1,5 @@
 -- The checks of a text, in the paper's order: document 01, "The text", Order, and "Refusal numbers", 1 to 9.
 use Prim.Native.Nat.{ℕ, _+_}
-use mathlib.Core.Bool.{Bool}
 use mathlib.Core.List.{List, [], _∷_}
 use lib.ListN.{length, getD}
 use lib.Dec.{eqb}

@@ -1,3 +1,4 @@
 pub mod Past
 pub mod Told
+pub mod Steps
 pub mod Encoded

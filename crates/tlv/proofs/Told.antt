@@ -1,6 +1,6 @@
 -- What is known of a joined reading from what its first step told.
 use Prim.Native.Nat.{ℕ}
-use mathlib.Core.Path.{_≡_, refl, ap, sym, _∙_}
+use mathlib.Core.Path.{_≡_, refl, ap, sym}
 use native.Mathlib.Omega.{arith}
 use Rattle.refusal.specs.Outcome.{Outcome, passed, refused}
 use Rattle.tlv.specs.Read.{Read, value, refusal, andThen, checked, toldOf}

@@ -1,6 +1,5 @@
 -- What a reading that goes from place to place gives: a value, or the first refusal. Steps are joined in the paper's order.
 use Prim.Native.Nat.{ℕ}
-use mathlib.Core.Bool.{Bool, true, false}
 use Rattle.refusal.specs.Outcome.{Outcome, passed, refused}
 
 pub data Read (A : Type 0) : Type 0 where

@@ -1,7 +1,7 @@
 // Texts that are refused for a check digit, refusal 9, at the digit's own place.
 use crate::print::show;
 
-pub fn all() {
+pub(crate) fn all() {
     digits();
     long_digits();
     two_digits();

@@ -12,7 +12,7 @@ use zone::record::Record;
 const SHOWN: usize = 60;
 
 // Prints a text under its title, then its record, or its refusal with a caret under the place.
-pub fn show(title: &[u8], text: &[u8]) {
+pub(crate) fn show(title: &[u8], text: &[u8]) {
     io::write_all(1, b"\n");
     io::write_all(1, title);
     io::write_all(1, b"\n");

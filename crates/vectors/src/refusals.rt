@@ -1,7 +1,7 @@
 // Texts that are refused before any check digit is looked at: by their length, a character, or a field.
 use crate::print::show;
 
-pub fn all() {
+pub(crate) fn all() {
     lengths();
     characters();
     codes();

@@ -1,7 +1,7 @@
 // Texts that are read: the specimens of Doc 9303, and texts at the edges of the rules.
 use crate::print::show;
 
-pub fn all() {
+pub(crate) fn all() {
     specimens();
     wide_numbers();
     optional_data();

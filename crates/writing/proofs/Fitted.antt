@@ -1,9 +1,9 @@
 -- A range's front, lent to be filled with a text, and what the range holds when it comes back.
 use Prim.Native.Nat.{ℕ, _≤_}
-use mathlib.Core.Path.{_≡_, refl, ap, sym, _∙_}
+use mathlib.Core.Path.{_≡_, sym, _∙_}
 use mathlib.Core.List.{List, _++_}
 use native.Mathlib.Omega.{arith}
-use lib.ListN.{length, take, drop, replicate, length-take, length-replicate}
+use lib.ListN.{length, take, drop, length-take, length-replicate}
 use Rattle.zone.specs.Form.{total}
 use Rattle.zone.specs.declared.record.Record.{Record}
 use Rattle.writing.specs.Text.{putAll, textOf}

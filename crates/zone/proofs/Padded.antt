@@ -1,15 +1,14 @@
 -- The laws of `padded`: a copy over fillers is one, two copies one behind the other are one, and trailing fillers make no difference.
-use Prim.Native.Nat.{ℕ, zero, suc, _+_, _-_, _≤_, _<_}
-use mathlib.Core.Path.{_≡_, refl, ap, sym, _∙_}
+use Prim.Native.Nat.{ℕ, zero, suc, _+_, _-_, _≤_}
+use mathlib.Core.Path.{_≡_, refl}
 use mathlib.Core.Bool.{Bool, true, false, cond, _&&_}
-use mathlib.Core.List.{List, [], _∷_, _++_, append-nil, append-assoc}
-use mathlib.Core.Logic.{⊎-elim}
+use mathlib.Core.List.{List, [], _∷_, _++_, append-nil}
 use native.Mathlib.Nat.{sub-zero}
 use native.Mathlib.Omega.{arith}
 use borrow.Author.Tests.{eqb-true}
 use lib.Dec.{eqb}
-use lib.ListN.{length, take, drop, replicate, length-replicate, length-take, length-append, drop-of-length-le}
-use lib.Seq.{take-all, take-at, drop-at}
+use lib.ListN.{length, take, drop, replicate, length-replicate, length-take, length-append}
+use lib.Seq.{take-all}
 use Rattle.lent.specs.Copied.{copied, copiedAt}
 use Rattle.lent.proofs.Bools.{and-both}
 use Rattle.zone.specs.Alphabet.{isFiller}

@@ -1,6 +1,6 @@
 -- The characters of the zone (document 01, "Refusal numbers", 2; Doc 9303-3, 4.3): A-Z, 0-9 and the filler `<`.
-use Prim.Native.Nat.{ℕ, zero, suc}
-use mathlib.Core.Bool.{Bool, true, false, cond, not, _&&_, _||_}
+use Prim.Native.Nat.{ℕ, suc}
+use mathlib.Core.Bool.{Bool, cond, not, _&&_, _||_}
 use mathlib.Core.List.{List, [], _∷_}
 use lib.Dec.{leb, eqb}
 

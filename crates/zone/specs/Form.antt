@@ -1,6 +1,6 @@
 -- The forms: document 01, "The text", Layouts and Composite. Every offset follows from the widths, in text order.
 use Prim.Native.Nat.{ℕ, _+_, _-_, _*_}
-use mathlib.Core.Bool.{Bool, cond}
+use mathlib.Core.Bool.{cond}
 use mathlib.Core.List.{List, [], _∷_, _++_, map}
 use lib.ListN.{take, drop, getD}
 use lib.Dec.{eqb}

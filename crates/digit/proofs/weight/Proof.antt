@@ -1,6 +1,4 @@
 -- The number matched on is the place modulo 3.
-use borrow.Author.Needs.{needs}
-use native.Mathlib.Nat.{mod-lt}
 use native.Mathlib.Omega.{arith}
 use Prim.Native.Nat.{_%_}
 use mathlib.Core.Path.{_≡_}

@@ -5,7 +5,7 @@ use denote.Ref.{now}
 use Rattle.text.specs.Read.{Answer, answerOf}
 use Rattle.sound.specs.Sound.{isSound}
 use Rattle.chip.specs.Presentation.{readPresentation}
-use Rattle.demands.specs.Answered.{Accepted, of-presentation}
+use Rattle.demands.specs.Answered.{of-presentation}
 use Rattle.demands.proofs.Answered.{accepted-sound}
 use Rattle.lamphudet.specs.Calls.{readAnswer, readOut}
 use Rattle.lamphudet.proofs.lamphudet_read_presentation.Statement.{statement}

@@ -2,7 +2,6 @@
 use borrow.Author.Needs.{needs}
 use mathlib.Core.Path.{ap, sym, _∙_}
 use denote.Ref.{now}
-use Rattle.refusal.specs.Outcome.{outcomeOf}
 use Rattle.text.specs.Read.{Answer, answerOf}
 use Rattle.sound.specs.Sound.{isSound}
 use Rattle.demands.proofs.Record.{kept-and-sound}

@@ -1,10 +1,9 @@
 use denote.Ref.{now}
 use mathlib.Core.Logic.{inl, inr}
 use Prim.Native.Nat.{_≤_, _<_, _-_, _+_}
-use mathlib.Core.Path.{_≡_, ap, _∙_, sym}
-use mathlib.Core.List.{_++_, append-nil}
-use lib.ListN.{length, take, drop, length-set, drop-of-length-le}
-use lib.Seq.{take-all}
+use mathlib.Core.Path.{_≡_, _∙_}
+use mathlib.Core.List.{_++_}
+use lib.ListN.{length, take, drop}
 use native.Mathlib.Omega.{arith}
 use borrow.Author.Needs.{needs}
 use Rattle.lent.proofs.Lists.{copy-more, copy-ends}

@@ -1,6 +1,6 @@
 -- The one test, that the value ends within.
 use borrow.Author.Needs.{needs}
-use borrow.Author.Tests.{le-leb, le-ltb, lt-leb, lt-ltb}
+use borrow.Author.Tests.{le-leb, lt-leb}
 use Rattle.tlv.specs.Element.{endsWithin}
 use Rattle.tlv.proofs.ends_within.Statement.{statement}
 use Rattle.tlv.proofs.ends_within.Tie as tie

@@ -1,9 +1,7 @@
 -- The length is told by three octets, or fewer.
 use borrow.Author.Needs.{needs}
 use Rattle.tlv.specs.Element.{sized, sizeAt, countIn}
-use mathlib.Core.Path.{sym, ap, _∙_}
 use native.Mathlib.Omega.{arith}
-use Prim.Native.Nat.{_≤_, _<_}
 use Rattle.tlv.proofs.sized.Statement.{statement}
 use Rattle.tlv.proofs.sized.Tie as tie
 

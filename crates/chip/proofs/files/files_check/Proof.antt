@@ -1,17 +1,16 @@
 -- What is left from here, with the table as it is then, is decided as the whole is.
-use Prim.Native.Nat.{_≤_, _-_}
+use Prim.Native.Nat.{_-_}
 use mathlib.Core.Path.{_≡_, refl, ap, sym, _∙_}
-use mathlib.Core.List.{List}
 use native.Mathlib.Omega.{arith}
 use borrow.Author.Needs.{needs}
 use denote.Ref.{now}
-use lib.ListN.{length, getD, set, length-set}
+use lib.ListN.{length, length-set}
 use Rattle.refusal.specs.Outcome.{outcomeOf, passed}
 use Rattle.tlv.specs.Read.{toldOf}
 use Rattle.tlv.specs.Element.{takenOf}
 use Rattle.chip.specs.Groups.{groupOf}
 use Rattle.chip.specs.Outer.{files}
-use Rattle.chip.specs.Lent.{filesIn, fileBy, filesBy}
+use Rattle.chip.specs.Lent.{filesIn, filesBy}
 use Rattle.chip.proofs.Walks.{file-behind}
 use Rattle.chip.proofs.Lending.{in-next, lent-on, lent-refused, lent-never, lent-done}
 use Rattle.chip.proofs.files.files_check.Statement.{statement}

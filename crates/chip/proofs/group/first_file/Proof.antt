@@ -1,10 +1,10 @@
 -- What is left from here has the same first file as the whole.
-use Prim.Native.Nat.{_≤_, _-_}
+use Prim.Native.Nat.{_-_}
 use mathlib.Core.Path.{_≡_, refl, ap, sym, _∙_}
 use native.Mathlib.Omega.{arith}
 use borrow.Author.Needs.{needs}
 use denote.Ref.{now}
-use lib.ListN.{length, getD}
+use lib.ListN.{length}
 use Rattle.refusal.specs.Outcome.{passed}
 use Rattle.tlv.specs.Read.{toldOf}
 use Rattle.tlv.specs.Element.{takenOf}

@@ -1,7 +1,6 @@
 -- Each arm is a tag of the paper's row.
 use borrow.Author.Needs.{needs}
 use borrow.Author.Tests.{le-leb, lt-leb, ne-eqb}
-use Rattle.lent.proofs.Tests.{tests}
 use Rattle.chip.specs.Groups.{groupOf}
 use native.Mathlib.Omega.{arith}
 use Rattle.chip.proofs.groups.group_of.Statement.{statement}

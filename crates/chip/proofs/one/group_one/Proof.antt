@@ -1,6 +1,6 @@
 -- The first file of group 1, and the text inside it.
 use borrow.Author.Needs.{needs}
-use mathlib.Core.Path.{_≡_, ap, sym, _∙_}
+use mathlib.Core.Path.{ap, sym, _∙_}
 use denote.Ref.{now}
 use lib.ListN.{length}
 use Rattle.tlv.specs.Read.{andThen}

@@ -1,7 +1,7 @@
 -- The element, then its end, then the text, whose refusals stand near enough to be moved.
 use borrow.Author.Needs.{needs}
 use Prim.Native.Nat.{_<_, _^_}
-use mathlib.Core.Path.{_≡_, ap, sym, _∙_}
+use mathlib.Core.Path.{ap, sym, _∙_}
 use native.Mathlib.Nat.{le-trans}
 use native.Mathlib.Omega.{arith}
 use denote.Ref.{now}
@@ -11,7 +11,7 @@ use Rattle.text.specs.Read.{Answer, answerOf, readText}
 use Rattle.tlv.specs.Read.{andThen, checked}
 use Rattle.tlv.specs.Element.{takenOf}
 use Rattle.tlv.proofs.Past.{ends-behind, from-to}
-use Rattle.chip.specs.Cut.{cut, endCheck}
+use Rattle.chip.specs.Cut.{cut}
 use Rattle.chip.specs.Presentation.{moved, textAt, answerBy}
 use Rattle.chip.proofs.Near.{moved-near}
 use Rattle.chip.proofs.one.text_at.Statement.{statement}

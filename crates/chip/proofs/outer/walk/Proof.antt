@@ -1,12 +1,7 @@
 -- Size first, then EF.COM at the start.
 use borrow.Author.Needs.{needs}
 use borrow.Author.Tests.{le-leb, lt-leb}
-use mathlib.Core.Path.{sym, ap, _∙_}
-use denote.Ref.{now}
-use Rattle.refusal.specs.Outcome.{outcomeOf}
 use Rattle.tlv.specs.Read.{andThen}
-use Rattle.tlv.specs.Element.{takenOf}
-use Rattle.tlv.proofs.Told.{passed-then, refused-then}
 use Rattle.chip.specs.Outer.{sizeCheck, outer, walked}
 use Rattle.tlv.specs.Read.{checked}
 use Rattle.chip.proofs.outer.walk.Statement.{statement}

@@ -1,11 +1,6 @@
 -- The security object stands where EF.COM ends.
 use borrow.Author.Needs.{needs}
-use mathlib.Core.Path.{sym, ap, _∙_}
-use denote.Ref.{now}
-use Rattle.refusal.specs.Outcome.{outcomeOf}
 use Rattle.tlv.specs.Read.{andThen}
-use Rattle.tlv.specs.Element.{takenOf}
-use Rattle.tlv.proofs.Told.{passed-then, refused-then}
 use Rattle.chip.proofs.outer.with_efcom.Statement.{statement}
 use Rattle.chip.proofs.outer.with_efcom.Tie as tie
 

@@ -1,10 +1,7 @@
 -- The files have been walked to the end, or the first that fails is told.
 use borrow.Author.Needs.{needs}
 use mathlib.Core.Path.{sym, ap, _∙_}
-use denote.Ref.{now}
 use Rattle.refusal.specs.Outcome.{outcomeOf}
-use Rattle.tlv.specs.Read.{andThen}
-use Rattle.tlv.specs.Element.{takenOf}
 use Rattle.tlv.proofs.Told.{passed-then, refused-then}
 use Rattle.chip.proofs.outer.with_object.Statement.{statement}
 use Rattle.chip.proofs.outer.with_object.Tie as tie

@@ -1,6 +1,6 @@
 -- Stage 3, and the rest where it passes.
 use borrow.Author.Needs.{needs}
-use mathlib.Core.Path.{_≡_, ap, sym, _∙_}
+use mathlib.Core.Path.{ap, sym, _∙_}
 use Rattle.tlv.specs.Read.{andThen}
 use Rattle.tlv.specs.Element.{takenOf}
 use Rattle.chip.specs.Presentation.{decided}

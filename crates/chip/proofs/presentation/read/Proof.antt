@@ -1,6 +1,6 @@
 -- Stages 1 and 2, and the rest where they pass.
 use borrow.Author.Needs.{needs}
-use mathlib.Core.Path.{_≡_, ap, sym, _∙_}
+use mathlib.Core.Path.{ap, sym, _∙_}
 use denote.Ref.{now}
 use Rattle.tlv.specs.Read.{andThen}
 use Rattle.chip.specs.Outer.{walkedOf}

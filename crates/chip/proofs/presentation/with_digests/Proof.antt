@@ -1,7 +1,5 @@
 -- Stage 6 only where stage 5 passes.
 use borrow.Author.Needs.{needs}
-use mathlib.Core.Path.{_≡_, ap, sym, _∙_}
-use Rattle.refusal.specs.Outcome.{outcomeOf}
 use Rattle.tlv.specs.Read.{checked}
 use Rattle.chip.proofs.presentation.with_digests.Statement.{statement}
 use Rattle.chip.proofs.presentation.with_digests.Tie as tie

@@ -1,9 +1,8 @@
 -- The table that the code hands on decides as the entries do.
 use borrow.Author.Needs.{needs}
-use mathlib.Core.Path.{_≡_, ap, sym, _∙_}
+use mathlib.Core.Path.{ap, sym, _∙_}
 use denote.Ref.{now}
 use Rattle.refusal.specs.Outcome.{outcomeOf}
-use Rattle.tlv.specs.Read.{toldOf}
 use Rattle.tlv.proofs.Told.{refused-then}
 use Rattle.chip.specs.Cut.{cut}
 use Rattle.chip.specs.Object.{object}

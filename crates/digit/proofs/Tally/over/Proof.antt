@@ -1,6 +1,6 @@
 -- What was passed and what is left come to the same sum as the whole, modulo 10.
-use Prim.Native.Nat.{_≤_, _<_, _+_, _-_, _*_, _%_}
-use mathlib.Core.Path.{_≡_, ap, sym, _∙_}
+use Prim.Native.Nat.{_≤_, _<_, _+_, _-_, _%_}
+use mathlib.Core.Path.{_≡_, _∙_}
 use native.Mathlib.Nat.{add-zero, mod-lt}
 use native.Mathlib.Omega.{arith}
 use borrow.Author.Needs.{needs}
@@ -8,7 +8,7 @@ use denote.Ref.{now}
 use lib.Dec.{lit<}
 use lib.ListN.{length, drop, getD}
 use Rattle.digit.proofs.Sums.{weighed-le, weight-mod, sum-more, sum-ends}
-use Rattle.digit.specs.Check.{value, weight, sumFrom, Tally·over}
+use Rattle.digit.specs.Check.{value, weight, sumFrom}
 use Rattle.digit.proofs.Tally.over.Statement.{statement}
 use Rattle.digit.proofs.Tally.over.Tie as tie
 

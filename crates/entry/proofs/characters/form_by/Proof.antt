@@ -1,5 +1,4 @@
 -- The number matched on is a code, or none.
-use borrow.Author.Needs.{needs}
 use borrow.Author.Tests.{ne-eqb}
 use Rattle.entry.specs.Codes.{formBy}
 use Rattle.entry.proofs.characters.form_by.Statement.{statement}

@@ -1,5 +1,4 @@
 -- The number matched on is a code, or none.
-use borrow.Author.Needs.{needs}
 use borrow.Author.Tests.{ne-eqb}
 use Rattle.entry.specs.Codes.{sexBy}
 use Rattle.entry.proofs.characters.sex_by.Statement.{statement}

@@ -1,5 +1,4 @@
 -- The branches that led to each `return` are the tests of `isCardLetter`.
-use borrow.Author.Needs.{needs}
 use borrow.Author.Tests.{ne-eqb}
 use Rattle.field.specs.Code.{isCardLetter}
 use Rattle.field.proofs.code.is_card_letter.Statement.{statement}

@@ -1,6 +1,6 @@
 -- The branches that led to each `return` are the tests of `dayRule`.
 use borrow.Author.Needs.{needs}
-use borrow.Author.Tests.{lt-ltb, le-ltb, le-leb, lt-leb}
+use borrow.Author.Tests.{le-leb, lt-leb}
 use Rattle.field.specs.Date.{dayRule}
 use Rattle.field.proofs.date.is_day.Statement.{statement}
 use Rattle.field.proofs.date.is_day.Tie as tie

@@ -1,6 +1,6 @@
 -- The branches that led to each `return` are the tests of `monthRule`.
 use borrow.Author.Needs.{needs}
-use borrow.Author.Tests.{lt-ltb, le-ltb, le-leb, lt-leb}
+use borrow.Author.Tests.{le-leb, lt-leb}
 use Rattle.field.specs.Date.{monthRule}
 use Rattle.field.proofs.date.is_month.Statement.{statement}
 use Rattle.field.proofs.date.is_month.Tie as tie

@@ -1,5 +1,4 @@
 -- The branches that led to each `return` are the tests of `sexRule`.
-use borrow.Author.Needs.{needs}
 use borrow.Author.Tests.{ne-eqb}
 use Rattle.zone.specs.Alphabet.{isFiller}
 use Rattle.field.specs.Letters.{sexRule}

@@ -1,6 +1,5 @@
 -- A stretch that runs backwards is empty, as in the definition.
-use borrow.Author.Needs.{needs}
-use mathlib.Core.Path.{_≡_, refl, sym}
+use mathlib.Core.Path.{_≡_, refl}
 use native.Mathlib.Omega.{arith}
 use Prim.Native.Nat.{_-_}
 use Rattle.lamphudet.specs.Calls.{stretchInC}

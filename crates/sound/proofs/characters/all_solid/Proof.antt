@@ -1,13 +1,11 @@
 -- What is left from i on decides for the whole.
 use Prim.Native.Nat.{_≤_, _-_}
-use mathlib.Core.Path.{_≡_, refl, sym, _∙_}
+use mathlib.Core.Path.{_≡_, refl}
 use borrow.Author.Needs.{needs}
 use denote.Ref.{now}
 use lib.ListN.{length, drop}
 use Rattle.field.proofs.Every.{every-more, every-fails, every-end}
 use Rattle.field.specs.Letters.{every}
-use borrow.Author.Tests.{eq-eqb, ne-eqb}
-use Rattle.zone.specs.Alphabet.{isFiller}
 use Rattle.sound.specs.Sound.{isSolid}
 use Rattle.sound.proofs.Solid.{filler-fails, other-passes}
 use Rattle.sound.proofs.characters.all_solid.Statement.{statement}

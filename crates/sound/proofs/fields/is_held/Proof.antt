@@ -1,6 +1,6 @@
 -- The tests of the definition, in its order.
 use borrow.Author.Needs.{needs}
-use borrow.Author.Tests.{le-leb, le-ltb, lt-leb, lt-ltb}
+use borrow.Author.Tests.{le-leb, lt-leb}
 use Rattle.sound.specs.Sound.{isHeld}
 use Rattle.sound.proofs.fields.is_held.Statement.{statement}
 use Rattle.sound.proofs.fields.is_held.Tie as tie

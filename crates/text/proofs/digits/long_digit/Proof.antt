@@ -2,7 +2,6 @@
 use borrow.Author.Needs.{needs}
 use native.Mathlib.Omega.{arith}
 use mathlib.Core.Path.{ap}
-use Prim.Native.Nat.{ℕ}
 use Rattle.zone.specs.Part.{optional}
 use Rattle.zone.specs.declared.form.Places.{Places}
 use Rattle.zone.proofs.Widths.{within, total-le}

@@ -1,10 +1,6 @@
 -- A sum that goes on over the further characters is the sum over both.
 use borrow.Author.Needs.{needs}
 use Rattle.zone.proofs.Widths.{fixed}
-use denote.Ref.{now}
-use mathlib.Core.List.{_++_}
-use lib.ListN.{take}
-use Rattle.zone.specs.Part.{number, optional}
 use Rattle.digit.proofs.Sums.{over-over, over-digit}
 use Rattle.zone.specs.Form.{placesOf, field}
 use Rattle.text.proofs.digits.long_sum.Statement.{statement}

@@ -1,5 +1,4 @@
 -- The range is as long as the text, or longer; what lies behind the text stays.
-use mathlib.Core.Path.{sym}
 use denote.Ref.{now}
 use borrow.Author.Needs.{needs}
 use borrow.Author.Tests.{le-leb, lt-leb}

@@ -1,5 +1,4 @@
 -- The stretches that the paper gives as places of lines.
-use borrow.Author.Needs.{needs}
 use mathlib.Core.Path.{refl}
 use Rattle.zone.specs.Form.{coveredOf, stretchAt, stretches, stretchOf, covers, line}
 use Rattle.zone.proofs.form.td1_covered.Statement.{statement}

@@ -1,5 +1,4 @@
 -- The starts that the layout's widths add up to.
-use borrow.Author.Needs.{needs}
 use mathlib.Core.Path.{refl}
 use Rattle.zone.specs.Form.{placesOf, layout, start, startIn}
 use Rattle.zone.specs.Part.{rank, same}

@@ -1,5 +1,4 @@
 -- The number matched on is the length of the form that is answered, or of none.
-use borrow.Author.Needs.{needs}
 use borrow.Author.Tests.{ne-eqb}
 use Rattle.zone.specs.Form.{formOf, total}
 use Rattle.zone.proofs.form.Form.of_length.Statement.{statement}

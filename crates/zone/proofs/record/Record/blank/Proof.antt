@@ -1,5 +1,4 @@
 -- Field by field the blank record.
-use borrow.Author.Needs.{needs}
 use mathlib.Core.Path.{refl}
 use Rattle.zone.specs.Record.{blank}
 use Rattle.zone.proofs.record.Record.blank.Statement.{statement}
