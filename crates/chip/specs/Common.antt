@@ -5,8 +5,7 @@ use mathlib.Core.List.{List, [], _∷_}
 use lib.Dec.{leb}
 use lib.ListN.{length, take}
 use Rattle.refusal.specs.Outcome.{Outcome, passed, refused, unless, orElse}
-use Rattle.zone.specs.Alphabet.{isDigit}
-use Rattle.field.specs.Letters.{every}
+use Rattle.zone.specs.Alphabet.{isDigit, every}
 use Rattle.tlv.specs.declared.Stretch.{Stretch}
 use Rattle.tlv.specs.Read.{Read, value, andThen, checked}
 use Rattle.tlv.specs.Element.{element}

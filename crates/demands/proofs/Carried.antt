@@ -10,8 +10,7 @@ use Rattle.refusal.specs.Outcome.{passed}
 use Rattle.zone.specs.declared.form.Form.{Form}
 use Rattle.zone.specs.declared.form.Form.the-variants.{Td1, Td2, Td3}
 use Rattle.zone.specs.Form.{total}
-use Rattle.zone.specs.Alphabet.{isDigit}
-use Rattle.field.specs.Letters.{every}
+use Rattle.zone.specs.Alphabet.{isDigit, every}
 use Rattle.text.specs.Read.{readText}
 use Rattle.sha256.specs.Constants.{H0}
 use Rattle.sha256.specs.Padding.{padded}

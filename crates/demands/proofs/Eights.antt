@@ -10,7 +10,7 @@ use lib.ListN.{length, take, drop, replicate, length-drop, take-append-drop}
 use lib.Pow.{pow-pos}
 use lib.Seq.{take-add}
 use Rattle.lent.proofs.Bools.{and-both}
-use Rattle.field.specs.Letters.{every}
+use Rattle.zone.specs.Alphabet.{every}
 use Rattle.demands.specs.Runs.{isOctet, areOctets}
 use Rattle.demands.proofs.Endings.{every-drop}
 use Rattle.entry.proofs.Gather.{gathered-over}

@@ -11,7 +11,7 @@ use lib.ListN.{length, take, drop, getD, length-append, length-take, length-drop
 use lib.Seq.{take-take, take-all, take-at, drop-drop, getD-drop}
 use Rattle.lent.proofs.Bools.{and-both, both-and}
 use Rattle.refusal.specs.Outcome.{Outcome, passed, refused}
-use Rattle.field.specs.Letters.{every}
+use Rattle.zone.specs.Alphabet.{every}
 use Rattle.tlv.specs.declared.Stretch.{Stretch}
 use Rattle.tlv.specs.Read.{Read, value, refusal, andThen, checked}
 use Rattle.tlv.specs.Element.{tlv, element}

@@ -16,9 +16,8 @@ use Rattle.zone.specs.declared.form.Told.{Told}
 use Rattle.zone.specs.declared.form.Told.the-variants.{As, Unknown}
 use Rattle.zone.specs.declared.record.Record.{Record}
 use Rattle.zone.specs.Record.{padded, blank}
-use Rattle.zone.specs.Alphabet.{isCharacter}
+use Rattle.zone.specs.Alphabet.{isCharacter, every}
 use Rattle.zone.proofs.Padded.{take-padded}
-use Rattle.field.specs.Letters.{every}
 use Rattle.sound.specs.Sound.{isSound}
 use Rattle.entry.specs.Bits.{put, octets, number}
 use Rattle.entry.specs.Codes.{formCode, sexCode, sexBy}

@@ -8,10 +8,9 @@ use borrow.Author.Tests.{ne-eqb}
 use lib.Dec.{eqb, eqb·suc-zero}
 use lib.ListN.{length, take, drop, getD, replicate}
 use Rattle.lent.proofs.Bools.{and-both}
-use Rattle.zone.specs.Alphabet.{isFiller, isLetter, first, firstFiller}
+use Rattle.zone.specs.Alphabet.{isFiller, isLetter, first, firstFiller, every}
 use Rattle.zone.specs.Record.{trimmedLength}
 use Rattle.zone.proofs.Classes.{letter-range}
-use Rattle.field.specs.Letters.{every}
 use Rattle.sound.specs.Sound.{isSolid}
 
 -- ---- trailing fillers

@@ -8,8 +8,7 @@ use native.Mathlib.Omega.{arith}
 use lib.ListN.{length, take, drop, length-drop}
 use lib.Seq.{drop-drop, take-add}
 use Rattle.lent.proofs.Bools.{and-both}
-use Rattle.zone.specs.Alphabet.{isCharacter}
-use Rattle.field.specs.Letters.{every}
+use Rattle.zone.specs.Alphabet.{isCharacter, every}
 use Rattle.entry.specs.Bits.{put, number}
 use Rattle.entry.specs.Codes.{codeOf, characterOf}
 use Rattle.entry.specs.Entry.{puts}

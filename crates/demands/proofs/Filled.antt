@@ -7,7 +7,7 @@ use native.Mathlib.Nat.{min-eq-left}
 use native.Mathlib.Omega.{arith}
 use lib.ListN.{length, take, replicate, length-take}
 use Rattle.zone.specs.declared.record.Record.{Record}
-use Rattle.field.specs.Letters.{every}
+use Rattle.zone.specs.Alphabet.{every}
 use Rattle.entry.proofs.Gather as gather
 use Rattle.entry.proofs.Gather.{length-put, length-puts}
 use Rattle.entry.specs.Bits.{put, gathered, octets}

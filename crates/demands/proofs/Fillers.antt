@@ -12,11 +12,10 @@ use lib.Dec.{eqb, lit<}
 use lib.ListN.{length, take, drop, getD, replicate, length-take, length-append}
 use lib.Seq.{take-take}
 use Rattle.lent.proofs.Bools.{and-both}
-use Rattle.zone.specs.Alphabet.{isDigit, isLetter, isFiller, isCharacter, first, firstFiller}
+use Rattle.zone.specs.Alphabet.{isDigit, isLetter, isFiller, isCharacter, first, firstFiller, every}
 use Rattle.zone.specs.Record.{trimmedLength, trimmed, padded}
 use Rattle.zone.proofs.Padded.{padded-cons, padded-nil, padded-spare}
 use Rattle.digit.specs.Check.{value, sumFrom, checkOf, digitOf}
-use Rattle.field.specs.Letters.{every}
 use Rattle.sound.specs.Sound.{isSolid}
 
 -- ---- filled up

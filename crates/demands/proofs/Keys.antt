@@ -14,7 +14,7 @@ use Rattle.zone.specs.declared.form.Told.the-variants.{As}
 use Rattle.zone.specs.declared.record.Record.{Record}
 use Rattle.zone.specs.Record.{trimmedLength, trimmed, padded}
 use Rattle.zone.proofs.Padded.{padded-exact, padded-trimmed}
-use Rattle.field.specs.Letters.{every}
+use Rattle.zone.specs.Alphabet.{every}
 use Rattle.sound.specs.Sound.{isSound}
 use Rattle.text.specs.Read.{readText}
 use Rattle.entry.specs.Bits.{put, octets}

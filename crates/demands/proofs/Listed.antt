@@ -10,8 +10,7 @@ use lib.ListN.{length, take, drop}
 use lib.Seq.{length-take-le}
 use Rattle.lent.proofs.Bools.{and-both, both-and}
 use Rattle.refusal.specs.Outcome.{passed, refused, unless, orElse}
-use Rattle.zone.specs.Alphabet.{isDigit}
-use Rattle.field.specs.Letters.{every}
+use Rattle.zone.specs.Alphabet.{isDigit, every}
 use Rattle.tlv.specs.declared.Stretch.{Stretch}
 use Rattle.tlv.specs.Read.{value, checked}
 use Rattle.tlv.specs.Element.{tlv, element}

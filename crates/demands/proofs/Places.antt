@@ -12,7 +12,7 @@ use lib.ListN.{length, take, drop, getD, replicate}
 use lib.Pow.{mod-pow-add, high}
 use lib.Seq.{getD-drop, drop-drop}
 use Rattle.lent.proofs.Bools.{and-both}
-use Rattle.field.specs.Letters.{every}
+use Rattle.zone.specs.Alphabet.{every}
 use Rattle.entry.proofs.Gather.{put-above, length-put}
 use Rattle.entry.specs.Bits.{put, bit, number}
 

@@ -10,7 +10,7 @@ use borrow.Author.Tests.{eqb-true, leb-true}
 use lib.Dec.{eqb, leb}
 use lib.ListN.{length, take, drop, getD}
 use Rattle.lent.proofs.Bools.{and-both, or-either}
-use Rattle.zone.specs.Alphabet.{isDigit, isLetter, isFiller, isCharacter}
+use Rattle.zone.specs.Alphabet.{isDigit, isLetter, isFiller, isCharacter, every}
 use Rattle.zone.specs.declared.form.Form.{Form}
 use Rattle.zone.specs.declared.form.Form.the-variants.{Td1, Td2, Td3}
 use Rattle.zone.specs.declared.record.Record.{Record}
@@ -18,7 +18,7 @@ use Rattle.zone.specs.Part.{name, rank, same}
 use Rattle.zone.specs.Form.{width, widthIn, layout, longest}
 use Rattle.zone.specs.Record.{trimmedLength}
 use Rattle.field.specs.Code.{codeRule, cardRule, passportRule, isCardLetter, isSecond}
-use Rattle.field.specs.Letters.{stateRule, lettersThenFillers, sexRule, nameRule, isNameCharacter, every}
+use Rattle.field.specs.Letters.{stateRule, lettersThenFillers, sexRule, nameRule, isNameCharacter}
 use Rattle.field.specs.declared.date.Pair.{Pair}
 use Rattle.field.specs.declared.date.Pair.the-variants.{Known, Unknown, Neither}
 use Rattle.field.specs.Date.{pairOf, yearOf, monthOf, dayOf, daysIn, yearRule, monthRule, dayRule, birthRule, isKnown, expiryRule}

@@ -17,7 +17,7 @@ use Rattle.zone.specs.Form.{start, width, total, field}
 use Rattle.zone.specs.Record.{padded}
 use Rattle.zone.proofs.Widths.{within}
 use Rattle.zone.proofs.Padded.{padded-spare}
-use Rattle.field.specs.Letters.{every}
+use Rattle.zone.specs.Alphabet.{every}
 use Rattle.writing.specs.Text.{put}
 use Rattle.demands.proofs.Apart.{apart, copied-there, cut-before, cut-behind, cut-there}
 use Rattle.demands.proofs.Endings.{every-append, every-take, every-drop}

@@ -11,14 +11,14 @@ use Rattle.lent.proofs.Bools.{and-both, both-and}
 use Rattle.refusal.specs.Outcome.{passed}
 use Rattle.zone.specs.declared.form.Form.{Form}
 use Rattle.zone.specs.declared.form.Form.the-variants.{Td1, Td2, Td3}
-use Rattle.zone.specs.Alphabet.{isCharacter, isFiller, isLetter, isDigit}
+use Rattle.zone.specs.Alphabet.{isCharacter, isFiller, isLetter, isDigit, every}
 use Rattle.zone.specs.Part.{Part, code, state, number, optional, birth, expiry, nationality, name, rank, same}
 use Rattle.zone.specs.Form.{start, width, widthIn, layout, total, longest, field}
 use Rattle.zone.specs.Record.{trimmedLength, trimmed, padded}
 use Rattle.zone.proofs.Widths.{within, fixed}
 use Rattle.zone.proofs.Padded.{padded-exact, padded-spare, padded-trimmed, length-padded, take-padded, trimmed-le, trimmed-length}
 use Rattle.field.specs.Code.{codeRule}
-use Rattle.field.specs.Letters.{stateRule, nameRule, isNameCharacter, every}
+use Rattle.field.specs.Letters.{stateRule, nameRule, isNameCharacter}
 use Rattle.field.specs.Date.{birthRule, expiryRule}
 use Rattle.text.specs.Number.{isLong, spanOf, numberBy}
 use Rattle.text.specs.Read.{readText, answered, recordBy}

@@ -16,7 +16,7 @@ use Rattle.refusal.specs.Outcome.{passed}
 use Rattle.zone.specs.declared.form.Form.{Form}
 use Rattle.zone.specs.declared.form.Form.the-variants.{Td1, Td2, Td3}
 use Rattle.zone.specs.declared.record.Record.{Record}
-use Rattle.zone.specs.Alphabet.{isCharacter, isFiller, isLetter, firstFiller}
+use Rattle.zone.specs.Alphabet.{isCharacter, isFiller, isLetter, firstFiller, every}
 use Rattle.zone.specs.Part.{code, state, number, numberCheck, optional, birth, birthCheck, sex, expiry, expiryCheck, nationality, name, personal, personalCheck, rank, same}
 use Rattle.zone.specs.Form.{parts, partOf, layout, start, width, widthIn, total, longest, field}
 use Rattle.zone.specs.Record.{trimmed, padded}
@@ -24,7 +24,7 @@ use Rattle.zone.proofs.Widths.{fixed}
 use Rattle.zone.proofs.Padded.{padded-nil, padded-exact, padded-trimmed, trimmed-length}
 use Rattle.digit.specs.Check.{digitOf}
 use Rattle.field.specs.Code.{codeRule}
-use Rattle.field.specs.Letters.{stateRule, sexRule, nameRule, isNameCharacter, every}
+use Rattle.field.specs.Letters.{stateRule, sexRule, nameRule, isNameCharacter}
 use Rattle.field.specs.Date.{birthRule, expiryRule}
 use Rattle.text.specs.Number.{isLong, spanOf, numberBy}
 use Rattle.text.specs.Read.{Answer, readText, answered, recordBy}

@@ -12,13 +12,12 @@ use Rattle.zone.specs.declared.form.Form.{Form}
 use Rattle.zone.specs.declared.form.Form.the-variants.{Td1, Td2, Td3}
 use Rattle.zone.specs.declared.record.Record.{Record}
 use Rattle.zone.specs.Part.{Part, code, state, number, numberCheck, optional, birth, birthCheck, sex, expiry, expiryCheck, nationality, optional2, composite, name, personal, personalCheck, rank, same}
-use Rattle.zone.specs.Alphabet.{isDigit, isLetter, isFiller, isCharacter}
+use Rattle.zone.specs.Alphabet.{isDigit, isLetter, isFiller, isCharacter, every}
 use Rattle.zone.specs.Form.{layout, start, width, widthIn, total, longest, field, covered}
 use Rattle.zone.specs.Record.{padded}
 use Rattle.zone.proofs.Widths.{fixed, within}
 use Rattle.zone.proofs.Padded.{padded-nil, padded-exact, trimmed-le}
 use Rattle.digit.specs.Check.{digitOf}
-use Rattle.field.specs.Letters.{every}
 use Rattle.writing.specs.Text.{put, mark, putOpening, numberIn, furtherIn, isWide, putShort, putLong, putNumber, putDates, putPerson, putLast, putAll, textOf}
 use Rattle.demands.specs.Accepted.{among}
 use Rattle.demands.proofs.Span.{false-not-true}

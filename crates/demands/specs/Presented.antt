@@ -8,8 +8,7 @@ use mathlib.Core.Bool.{Bool, true, false, cond, not, _&&_}
 use mathlib.Core.List.{List, [], _∷_, _++_}
 use lib.ListN.{length, replicate}
 use Rattle.zone.specs.declared.form.Form.{Form}
-use Rattle.zone.specs.Alphabet.{isDigit}
-use Rattle.field.specs.Letters.{every}
+use Rattle.zone.specs.Alphabet.{isDigit, every}
 use Rattle.sha256.specs.Hash.{sha256}
 use Rattle.tlv.specs.Element.{tlv}
 use Rattle.chip.specs.Groups.{groupOf, isGroup}

@@ -7,7 +7,7 @@ use mathlib.Core.List.{List, [], _∷_, _++_}
 use lib.Dec.{ltb}
 use lib.ListN.{length, take, drop}
 use Rattle.zone.specs.declared.record.Record.{Record}
-use Rattle.field.specs.Letters.{every}
+use Rattle.zone.specs.Alphabet.{every}
 use Rattle.sound.specs.Sound.{isSound}
 use Rattle.entry.specs.Entry.{isHouse, entryOf}
 use Rattle.entry.specs.Run.{Onward, next, none, refused, readEntry}

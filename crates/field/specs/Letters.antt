@@ -1,10 +1,10 @@
 -- The fields of letters and fillers: document 01, "The text", Field rules, State, Sex and Name.
 use Prim.Native.Nat.{ℕ}
-use mathlib.Core.Bool.{Bool, true, cond, _&&_, _||_}
-use mathlib.Core.List.{List, [], _∷_}
+use mathlib.Core.Bool.{Bool, cond, _&&_, _||_}
+use mathlib.Core.List.{List}
 use lib.ListN.{getD}
 use lib.Dec.{eqb}
-use Rattle.zone.specs.Alphabet.{isLetter, isFiller}
+use Rattle.zone.specs.Alphabet.{isLetter, isFiller, every}
 
 -- one to three letters, then fillers
 unfoldable pub lettersThenFillers : ℕ → ℕ → ℕ → Bool
@@ -16,11 +16,6 @@ stateRule s = lettersThenFillers (getD s 0 0) (getD s 1 0) (getD s 2 0)
 -- M, F or `<`
 unfoldable pub sexRule : ℕ → Bool
 sexRule c = eqb c 77 || eqb c 70 || isFiller c
-
--- every character passes a test
-unfoldable pub every : (ℕ → Bool) → List ℕ → Bool
-every p [] = true
-every p (c ∷ s) = p c && every p s
 
 -- letters and fillers
 unfoldable pub isNameCharacter : ℕ → Bool

@@ -1,6 +1,7 @@
 // The fields of letters and fillers: state and nationality, sex, name.
 ghost use mathlib.Core.Path.{_≡_};
-ghost use Rattle.field.specs.Letters.{stateRule, lettersThenFillers, sexRule, nameRule, isNameCharacter, every};
+ghost use Rattle.field.specs.Letters.{stateRule, lettersThenFillers, sexRule, nameRule, isNameCharacter};
+ghost use Rattle.zone.specs.Alphabet.{every};
 use zone::alphabet::FILLER;
 use zone::alphabet::is_letter;
 

@@ -4,13 +4,13 @@ use mathlib.Core.Bool.{Bool, not, _&&_}
 use mathlib.Core.List.{List}
 use lib.ListN.{length, take, drop, getD}
 use lib.Dec.{eqb, leb}
-use Rattle.zone.specs.Alphabet.{isCharacter, isFiller}
+use Rattle.zone.specs.Alphabet.{isCharacter, isFiller, every}
 use Rattle.zone.specs.Part.{name}
 use Rattle.zone.specs.Form.{width, longest}
 use Rattle.zone.specs.Record.{trimmedLength}
 use Rattle.zone.specs.declared.record.Record.{Record}
 use Rattle.field.specs.Code.{codeRule}
-use Rattle.field.specs.Letters.{stateRule, sexRule, nameRule, every}
+use Rattle.field.specs.Letters.{stateRule, sexRule, nameRule}
 use Rattle.field.specs.Date.{birthRule, expiryRule}
 
 -- fits: the places that each field has in a record

@@ -1,7 +1,6 @@
 // Tests of every character of a field.
 ghost use mathlib.Core.Path.{_≡_};
-ghost use Rattle.zone.specs.Alphabet.{isCharacter};
-ghost use Rattle.field.specs.Letters.{every};
+ghost use Rattle.zone.specs.Alphabet.{isCharacter, every};
 ghost use Rattle.sound.specs.Sound.{isSolid};
 use zone::alphabet::FILLER;
 use zone::alphabet::is_character;

@@ -1,5 +1,6 @@
 pub mod Classes
 pub mod Covers
+pub mod Every
 pub mod Places
 pub mod Padded
 pub mod Trimmed

@@ -1,6 +1,6 @@
 -- The characters of the zone (document 01, "Refusal numbers", 2; Doc 9303-3, 4.3): A-Z, 0-9 and the filler `<`.
 use Prim.Native.Nat.{ℕ, suc}
-use mathlib.Core.Bool.{Bool, cond, not, _&&_, _||_}
+use mathlib.Core.Bool.{Bool, true, cond, not, _&&_, _||_}
 use mathlib.Core.List.{List, [], _∷_}
 use lib.Dec.{leb, eqb}
 
@@ -22,6 +22,11 @@ isCharacter c = isDigit c || (isLetter c || isFiller c)
 -- none of these
 unfoldable pub isForeign : ℕ → Bool
 isForeign c = not (isCharacter c)
+
+-- every character passes a test
+unfoldable pub every : (ℕ → Bool) → List ℕ → Bool
+every p [] = true
+every p (c ∷ s) = p c && every p s
 
 -- the place of the first octet that passes a test, or the length where none does
 unfoldable pub first : (ℕ → Bool) → List ℕ → ℕ

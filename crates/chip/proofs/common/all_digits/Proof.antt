@@ -1,7 +1,6 @@
 -- What is left from i on decides.
-use Rattle.zone.specs.Alphabet.{isDigit}
-use Rattle.field.specs.Letters.{every}
-use Rattle.field.proofs.Every.{every-more, every-fails, every-end}
+use Rattle.zone.specs.Alphabet.{isDigit, every}
+use Rattle.zone.proofs.Every.{every-more, every-fails, every-end}
 use borrow.Author.Needs.{needs}
 use denote.Ref.{now}
 use mathlib.Core.Path.{_≡_, refl, sym, _∙_}

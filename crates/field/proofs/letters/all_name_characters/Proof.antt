@@ -4,8 +4,9 @@ use mathlib.Core.Path.{_≡_, refl, sym, _∙_}
 use borrow.Author.Needs.{needs}
 use denote.Ref.{now}
 use lib.ListN.{length, drop}
-use Rattle.field.proofs.Every.{every-more, every-fails, every-end}
-use Rattle.field.specs.Letters.{every, isNameCharacter}
+use Rattle.zone.proofs.Every.{every-more, every-fails, every-end}
+use Rattle.field.specs.Letters.{isNameCharacter}
+use Rattle.zone.specs.Alphabet.{every}
 use Rattle.field.proofs.letters.all_name_characters.Statement.{statement}
 use Rattle.field.proofs.letters.all_name_characters.Tie as tie
 

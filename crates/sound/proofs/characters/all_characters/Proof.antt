@@ -4,9 +4,8 @@ use mathlib.Core.Path.{_≡_, refl, sym, _∙_}
 use borrow.Author.Needs.{needs}
 use denote.Ref.{now}
 use lib.ListN.{length, drop}
-use Rattle.field.proofs.Every.{every-more, every-fails, every-end}
-use Rattle.field.specs.Letters.{every}
-use Rattle.zone.specs.Alphabet.{isCharacter}
+use Rattle.zone.proofs.Every.{every-more, every-fails, every-end}
+use Rattle.zone.specs.Alphabet.{every, isCharacter}
 use Rattle.sound.proofs.characters.all_characters.Statement.{statement}
 use Rattle.sound.proofs.characters.all_characters.Tie as tie
 

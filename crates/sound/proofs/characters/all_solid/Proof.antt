@@ -4,8 +4,8 @@ use mathlib.Core.Path.{_≡_, refl}
 use borrow.Author.Needs.{needs}
 use denote.Ref.{now}
 use lib.ListN.{length, drop}
-use Rattle.field.proofs.Every.{every-more, every-fails, every-end}
-use Rattle.field.specs.Letters.{every}
+use Rattle.zone.proofs.Every.{every-more, every-fails, every-end}
+use Rattle.zone.specs.Alphabet.{every}
 use Rattle.sound.specs.Sound.{isSolid}
 use Rattle.sound.proofs.Solid.{filler-fails, other-passes}
 use Rattle.sound.proofs.characters.all_solid.Statement.{statement}

@@ -4,9 +4,8 @@ use borrow.Author.Tests.{eq-eqb, ne-eqb}
 use Rattle.sound.specs.Sound.{isNumber, isSolid}
 use mathlib.Core.Path.{ap, _∙_}
 use lib.ListN.{length, take, drop}
-use Rattle.field.specs.Letters.{every}
+use Rattle.zone.specs.Alphabet.{every, isFiller}
 use denote.Ref.{now}
-use Rattle.zone.specs.Alphabet.{isFiller}
 use Rattle.sound.proofs.Solid.{from-tenth}
 use Rattle.sound.proofs.fields.is_number.Statement.{statement}
 use Rattle.sound.proofs.fields.is_number.Tie as tie

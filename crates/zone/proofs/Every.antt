@@ -6,7 +6,7 @@ use Prim.Native.Nat.{ℕ, _+_, _≤_, _<_}
 use native.Mathlib.Numerals.{add-one}
 use lib.ListN.{length, drop, getD, drop-of-length-le}
 use lib.Seq.{drop-cons}
-use Rattle.field.specs.Letters.{every}
+use Rattle.zone.specs.Alphabet.{every}
 
 module _ (p : ℕ → Bool) (s : List ℕ) (i : ℕ) (e : Bool) (left : every p (drop i s) ≡ e) where
   -- a character that passes: the rest decides
