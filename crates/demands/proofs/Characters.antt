@@ -13,7 +13,8 @@ use Rattle.zone.specs.declared.form.Form.the-variants.{Td1, Td2, Td3}
 use Rattle.zone.specs.declared.form.Told.the-variants.{As, Unknown}
 use Rattle.zone.proofs.Classes.{digit-range, letter-range}
 use Rattle.field.specs.Letters.{sexRule}
-use Rattle.entry.specs.Codes.{codeOf, characterOf, formCode, formBy, sexCode, sexBy}
+use Rattle.entry.specs.Codes.{formCode, formBy, sexCode, sexBy}
+use Rattle.zone.specs.Codes.{codeOf, characterOf}
 use Rattle.demands.proofs.Span.{false-not-true}
 
 -- ---- characters

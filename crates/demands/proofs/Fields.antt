@@ -10,7 +10,7 @@ use lib.Seq.{drop-drop, take-add}
 use Rattle.lent.proofs.Bools.{and-both}
 use Rattle.zone.specs.Alphabet.{isCharacter, every}
 use Rattle.entry.specs.Bits.{put, number}
-use Rattle.entry.specs.Codes.{codeOf, characterOf}
+use Rattle.zone.specs.Codes.{codeOf, characterOf}
 use Rattle.entry.specs.Entry.{puts}
 use Rattle.entry.specs.Run.{charactersAt}
 use Rattle.demands.proofs.Endings.{every-drop}

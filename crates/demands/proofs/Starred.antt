@@ -12,7 +12,8 @@ use Rattle.text.specs.Number.{isLong, spanOf, numberBy}
 use Rattle.text.specs.Read.{recordBy}
 use Rattle.entry.specs.Bits.{put, gathered}
 use Rattle.entry.specs.Bits as bits
-use Rattle.entry.specs.Codes.{codeOf, formCode, sexCode}
+use Rattle.entry.specs.Codes.{formCode, sexCode}
+use Rattle.zone.specs.Codes.{codeOf}
 use Rattle.entry.specs.Entry.{puts, putKey, putRest, entryOf}
 use Rattle.tlv.specs.Element.{element, tagAt, tagWidth, sizeAt, sizeOf, sized, endsWithin}
 use Rattle.chip.specs.Cut.{alike}

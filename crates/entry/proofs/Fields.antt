@@ -1,4 +1,4 @@
--- Laws of what is read: the characters by their codes, `charactersAt` and the field that it fills, and how far a whole entry reaches.
+-- Laws of what is read: `charactersAt` and the field that it fills, and how far a whole entry reaches.
 use Prim.Native.Nat.{ℕ, zero, suc, _+_, _-_, _*_, _<_, _≤_}
 use mathlib.Core.Path.{_≡_, refl, ap, _∙_}
 use mathlib.Core.Bool.{true}
@@ -16,25 +16,9 @@ use Rattle.lent.proofs.Bools.{and-both}
 use Rattle.lent.proofs.Lists.{copy-more, copy-ends}
 use Rattle.zone.proofs.Padded.{copied-padded, padded-exact}
 use Rattle.entry.specs.Bits.{number}
-use Rattle.entry.specs.Codes.{characterOf}
+use Rattle.zone.specs.Codes.{characterOf}
 use Rattle.entry.specs.Entry.{size}
 use Rattle.entry.specs.Run.{charactersAt, nameLength, spare, isWhole}
-
--- the table of k characters, from the n-th code on
-unfoldable pub byCode : (k n : ℕ) → List ℕ
-byCode zero n = []
-byCode (suc k) n = characterOf n ∷ byCode k (suc n)
-
-getD-byCode : (k n i : ℕ) → i < k → getD (byCode k n) i 0 ≡ characterOf (n + i)
-unfolding byCode
-getD-byCode zero n i h = absurd (omega arith)
-getD-byCode (suc k) n zero h = simp unary-clauses
-getD-byCode (suc k) n (suc i) h =
-    let e : suc n + i ≡ n + suc i = omega arith in
-    getD-byCode k (suc n) i (omega arith) ∙ ap characterOf e
-
-pub by-code : (code : ℕ) → code < 64 → getD (byCode 64 0) code 0 ≡ characterOf code
-by-code code h = getD-byCode 64 0 code h ∙ ap characterOf (zero-add code)
 
 pub length-characters : (s : List ℕ) (k n : ℕ) → length (charactersAt s k n) ≡ n
 unfolding charactersAt

@@ -13,7 +13,7 @@ use lib.Seq.{length-take-le, take-suc}
 use lib.Pow.{pow-pos, pow-add, mod-pow-add, shr-shr, shr-mod}
 use Rattle.zone.specs.declared.record.Record.{Record}
 use Rattle.entry.specs.Bits.{put, gathered, octets}
-use Rattle.entry.specs.Codes.{codeOf}
+use Rattle.zone.specs.Codes.{codeOf}
 use Rattle.entry.specs.Entry.{puts, putKey, putRest, entryOf, size}
 
 -- ---- a number in bits

@@ -10,7 +10,7 @@ use lib.ListN.{length, take, drop, getD, set, length-append}
 use lib.Seq.{sets, length-sets, set-out, sets-eq}
 use lib.Pow.{pow-pos, pow-add, pow-mono, shl-lt}
 use Rattle.entry.specs.Bits.{put, gathered}
-use Rattle.entry.specs.Codes.{codeOf}
+use Rattle.zone.specs.Codes.{codeOf}
 use Rattle.entry.specs.Entry.{puts}
 use Rattle.entry.specs.declared.pen.Pen.{Pen}
 use Rattle.entry.specs.Ink.{Ready, Reached, within, past, Wrote}

@@ -1,20 +1,11 @@
--- What the bits of an entry stand for: document 01, "The entry".
-use Prim.Native.Nat.{ℕ, _+_, _-_}
+-- The codes of a form and of a sex: document 01, "The entry".
+use Prim.Native.Nat.{ℕ}
 use mathlib.Core.Bool.{cond}
-use lib.Dec.{eqb, leb}
-use Rattle.zone.specs.Alphabet.{isDigit, isLetter}
+use lib.Dec.{eqb}
 use Rattle.zone.specs.declared.form.Form.{Form}
 use Rattle.zone.specs.declared.form.Form.the-variants.{Td1, Td2, Td3}
 use Rattle.zone.specs.declared.form.Told.{Told}
 use Rattle.zone.specs.declared.form.Told.the-variants.{As, Unknown}
-
--- `<` 0, digits 1-10, letters 11-36
-unfoldable pub codeOf : ℕ → ℕ
-codeOf c = cond (isDigit c) (c - 47) (cond (isLetter c) (c - 54) 0)
-
--- the character of a code; 0, which is none, for a code above 36
-unfoldable pub characterOf : ℕ → ℕ
-characterOf n = cond (eqb n 0) 60 (cond (leb n 10) (n + 47) (cond (leb n 36) (n + 54) 0))
 
 -- TD1 0, TD2 1, TD3 2
 unfoldable pub formCode : Form → ℕ

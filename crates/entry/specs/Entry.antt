@@ -10,7 +10,8 @@ use Rattle.refusal.specs.Length.{Length, written, refused, lengthOf}
 use Rattle.zone.specs.declared.record.Record.{Record}
 use Rattle.sound.specs.Sound.{isSound}
 use Rattle.entry.specs.Bits.{put, octets}
-use Rattle.entry.specs.Codes.{codeOf, formCode, sexCode}
+use Rattle.entry.specs.Codes.{formCode, sexCode}
+use Rattle.zone.specs.Codes.{codeOf}
 
 -- a character is 6 bits
 unfoldable pub puts : List ℕ → List ℕ → List ℕ

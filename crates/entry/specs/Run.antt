@@ -12,7 +12,8 @@ use Rattle.zone.specs.declared.record.Record.{Record}
 use Rattle.zone.specs.Record.{blank, trimmedLength, padded}
 use Rattle.sound.specs.Sound.{isSound}
 use Rattle.entry.specs.Bits.{number}
-use Rattle.entry.specs.Codes.{characterOf, formBy, sexBy}
+use Rattle.entry.specs.Codes.{formBy, sexBy}
+use Rattle.zone.specs.Codes.{characterOf}
 use Rattle.entry.specs.Entry.{size, isHouse}
 use Rattle.entry.specs.declared.run.Step.{Step}
 use Rattle.entry.specs.declared.run.Step.the-variants.{Next, End, Refused}

@@ -1,26 +1,16 @@
 // What the bits of an entry stand for: a form, a sex, and fields of characters, each of 6 bits.
 ghost use mathlib.Core.Path.{_≡_};
-ghost use Prim.Native.Nat.{ℕ, _+_, _*_, _<_, _≤_};
-ghost use lib.ListN.{length, getD};
+ghost use Prim.Native.Nat.{_+_, _*_, _<_, _≤_};
+ghost use lib.ListN.{length};
 ghost use Rattle.lent.specs.Copied.{copied};
 ghost use Rattle.zone.specs.Record.{padded};
-ghost use Rattle.entry.specs.Codes.{characterOf, formBy, sexBy};
+ghost use Rattle.entry.specs.Codes.{formBy, sexBy};
 ghost use Rattle.entry.specs.Run.{charactersAt};
 use crate::bits::six;
 use zone::alphabet::FILLER;
+use zone::codes::characters;
 use zone::form::Form;
 use zone::form::Told;
-
-// The characters by their codes; 0 for a code above 36: no character, so that no sound record holds it.
-const CHARACTERS: [u8; 64] =
-    *b"<0123456789ABCDEFGHIJKLMNOPQRSTUVWXYZ\0\0\0\0\0\0\0\0\0\0\0\0\0\0\0\0\0\0\0\0\0\0\0\0\0\0\0";
-
-// Handed out by value, so that a field is read from one copy and not each character from its own.
-fn characters() -> [u8; 64]
-    ensures { λ r. ⌜ ((code : ℕ) → code < 64 → getD r code 0 ≡ characterOf code) ⌝ }
-{
-    CHARACTERS
-}
 
 pub(crate) fn form_by(code: u32) -> Told
     ensures { λ r. ⌜ r ≡ formBy code ⌝ }

@@ -1,19 +1,8 @@
-// What the bits of an entry stand for: the codes of a character, a form and a sex.
+// The codes of a form and of a sex.
 ghost use mathlib.Core.Path.{_≡_};
 ghost use Prim.Native.Nat.{_<_};
-ghost use Rattle.entry.specs.Codes.{codeOf, formCode, sexCode};
+ghost use Rattle.entry.specs.Codes.{formCode, sexCode};
 use zone::form::Form;
-
-// `<` 0, digits 1-10, letters 11-36.
-pub(crate) fn code_of(c: u8) -> u8
-    ensures { λ r. ⌜ (r ≡ codeOf c) × (r < 64) ⌝ }
-{
-    match c {
-        48..=57 => c - 47,
-        65..=90 => c - 54,
-        _ => 0,
-    }
-}
 
 pub(crate) fn form_code(form: Form) -> u8
     ensures { λ r. ⌜ (r ≡ formCode form) × (r < 8) ⌝ }

@@ -1,4 +1,5 @@
 pub mod Classes
+pub mod Coding
 pub mod Covers
 pub mod Every
 pub mod Places

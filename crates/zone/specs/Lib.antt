@@ -1,4 +1,5 @@
 pub mod Alphabet
+pub mod Codes
 pub mod Part
 pub mod Form
 pub mod Record

@@ -1,10 +1,10 @@
 -- The tests that led to each `return` are those of `codeOf`.
 use native.Mathlib.Omega.{arith}
 use Rattle.lent.proofs.Tests.{tests}
 use Rattle.zone.specs.Alphabet.{isDigit, isLetter}
-use Rattle.entry.specs.Codes.{codeOf}
-use Rattle.entry.proofs.codes.code_of.Statement.{statement}
-use Rattle.entry.proofs.codes.code_of.Tie as tie
+use Rattle.zone.specs.Codes.{codeOf}
+use Rattle.zone.proofs.codes.code_of.Statement.{statement}
+use Rattle.zone.proofs.codes.code_of.Tie as tie
 
 sub-result : tie.Need-sub-result
 sub-result c = search tests

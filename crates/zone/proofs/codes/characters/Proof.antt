@@ -1,0 +1,12 @@
+-- The table has the characters by their codes.
+use Rattle.zone.specs.Codes.{characterOf}
+use Rattle.zone.proofs.Coding.{byCode, by-code}
+use Rattle.zone.proofs.codes.characters.Statement.{statement}
+use Rattle.zone.proofs.codes.characters.Tie as tie
+
+returns : tie.Need-returns
+unfolding characterOf byCode
+returns c = by-code
+
+pub characters-spec : {M : Type 1} → statement M
+characters-spec = tie.close (tie.spec returns)
