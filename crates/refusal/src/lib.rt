@@ -59,6 +59,25 @@ pub struct Refusal {
     pub place: usize,
 }
 
+impl Refusal {
+    // What every call that writes answers to a range that is too short, and to a house or a record that is not sound.
+    pub const TOO_SHORT: Refusal = Refusal {
+        cause: Cause::Output,
+        place: 0,
+    };
+
+    pub const UNSOUND: Refusal = Refusal {
+        cause: Cause::Unsound,
+        place: 0,
+    };
+
+    pub fn at(cause: Cause, place: usize) -> Refusal
+        ensures { λ r. ⌜ r ≡ record { cause = cause; place = place } ⌝ }
+    {
+        Refusal { cause, place }
+    }
+}
+
 // What one check, or several in their order, found.
 pub enum Verdict {
     Passed,
