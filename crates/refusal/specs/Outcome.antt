@@ -19,7 +19,7 @@ abbrev pub orElse : Outcome → Outcome → Outcome
 orElse passed next = next
 orElse (refused n p) next = refused n p
 
--- a check that refuses by number n at place p unless the rule is kept
+-- a check that refuses by number n at place p unless the rule holds
 abbrev pub unless : Bool → ℕ → ℕ → Outcome
 unless true n p = passed
 unless false n p = refused n p

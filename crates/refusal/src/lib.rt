@@ -85,11 +85,11 @@ pub enum Verdict {
 }
 
 impl Verdict {
-    // A rule that is kept passes; one that is not is refused at its place.
-    pub fn judged(kept: bool, cause: Cause, place: usize) -> Verdict
-        ensures { λ r. ⌜ outcomeOf r ≡ unless kept (numberOf cause) place ⌝ }
+    // A rule that holds passes; one that does not is refused at its place.
+    pub fn judged(holds: bool, cause: Cause, place: usize) -> Verdict
+        ensures { λ r. ⌜ outcomeOf r ≡ unless holds (numberOf cause) place ⌝ }
     {
-        if kept {
+        if holds {
             Verdict::Passed
         } else {
             Verdict::Refused(Refusal { cause, place })

@@ -1,4 +1,4 @@
--- Kept or not: the two cases of `unless`.
+-- It holds or not: the two cases of `unless`.
 use borrow.Author.Needs.{needs}
 use Rattle.refusal.proofs.Verdict.judged.Statement.{statement}
 use Rattle.refusal.proofs.Verdict.judged.Tie as tie
