@@ -7,6 +7,7 @@ use lib.Dec.{eqb, leb}
 use Rattle.zone.specs.Alphabet.{isCharacter, isFiller, every}
 use Rattle.zone.specs.Part.{name}
 use Rattle.zone.specs.Form.{width, longest}
+use Rattle.zone.specs.Rooms.{codeRoom, stateRoom, dateRoom, nine, numberRoom, nameRoom}
 use Rattle.zone.specs.Record.{trimmedLength}
 use Rattle.zone.specs.declared.record.Record.{Record}
 use Rattle.field.specs.Code.{codeRule}
@@ -16,8 +17,13 @@ use Rattle.field.specs.Date.{birthRule, expiryRule}
 -- fits: the places that each field has in a record
 unfoldable pub isShaped : Record → Bool
 isShaped r =
-    eqb (length (r .code)) 2 && (eqb (length (r .state)) 3 && (eqb (length (r .number)) 22 && (eqb (length (r .nationality)) 3
-    && (eqb (length (r .birth)) 6 && (eqb (length (r .expiry)) 6 && eqb (length (r .name)) 39)))))
+    eqb (length (r .code)) codeRoom
+    && (eqb (length (r .state)) stateRoom
+    && (eqb (length (r .number)) numberRoom
+    && (eqb (length (r .nationality)) stateRoom
+    && (eqb (length (r .birth)) dateRoom
+    && (eqb (length (r .expiry)) dateRoom
+    && eqb (length (r .name)) nameRoom)))))
 
 -- n characters, not none and at most so many, that end in no filler, and fillers in every place past them
 unfoldable pub isHeld : ℕ → List ℕ → ℕ → Bool
@@ -29,7 +35,7 @@ isSolid c = not (isFiller c)
 
 -- does not begin with `<`; over nine characters, has none from its tenth character on
 unfoldable pub isNumber : List ℕ → ℕ → Bool
-isNumber s n = every isCharacter s && (isSolid (getD s 0 0) && every isSolid (drop 9 (take n s)))
+isNumber s n = every isCharacter s && (isSolid (getD s 0 0) && every isSolid (drop nine (take n s)))
 
 -- what stands for the document: code, issuing state and number keep their rules
 unfoldable pub isDocument : Record → Bool

@@ -37,20 +37,20 @@ fn is_number(s: &[u8], n: usize) -> bool
         if lent::octet(s, 0) == FILLER {
             false
         } else {
-            all_solid(lent::part(lent::part(s, 0, n), 9, s.len()))
+            all_solid(lent::part(lent::part(s, 0, n), Form::NINE, s.len()))
         }
     } else {
         false
     }
 }
 
-fn keeps_code(form: Form, code: [u8; 2]) -> bool
+fn keeps_code(form: Form, code: [u8; Form::CODE]) -> bool
     ensures { λ r. ⌜ r ≡ codeRule form code ⌝ }
 {
     field::code::is_code(form, &code)
 }
 
-fn keeps_state(state: [u8; 3]) -> bool
+fn keeps_state(state: [u8; Form::STATE]) -> bool
     ensures { λ r. ⌜ r ≡ stateRule state ⌝ }
 {
     field::letters::is_state(&state)
@@ -66,13 +66,13 @@ fn keeps_number(form: Form, number: [u8; Form::NUMBER], n: usize) -> bool
     }
 }
 
-fn keeps_birth(birth: [u8; 6]) -> bool
+fn keeps_birth(birth: [u8; Form::DATE]) -> bool
     ensures { λ r. ⌜ r ≡ birthRule birth ⌝ }
 {
     field::date::is_birth(&birth)
 }
 
-fn keeps_expiry(expiry: [u8; 6]) -> bool
+fn keeps_expiry(expiry: [u8; Form::DATE]) -> bool
     ensures { λ r. ⌜ r ≡ expiryRule expiry ⌝ }
 {
     field::date::is_expiry(&expiry)

@@ -2,4 +2,5 @@ pub mod Alphabet
 pub mod Codes
 pub mod Part
 pub mod Form
+pub mod Rooms
 pub mod Record

@@ -8,6 +8,7 @@ use lib.Dec.{eqb}
 use Rattle.zone.specs.declared.form.Form.the-variants.{Td1}
 use Rattle.zone.specs.declared.record.Record.{Record}
 use Rattle.zone.specs.Alphabet.{isFiller}
+use Rattle.zone.specs.Rooms.{codeRoom, stateRoom, dateRoom, numberRoom, nameRoom}
 
 -- the length without trailing fillers
 unfoldable pub trimmedLength : List ℕ → ℕ
@@ -25,14 +26,14 @@ padded n s = take n s ++ replicate (n - length s) 60
 unfoldable pub blank : Record
 blank = record {
   form = Td1;
-  code = replicate 2 60;
-  state = replicate 3 60;
-  number = replicate 22 60;
+  code = replicate codeRoom 60;
+  state = replicate stateRoom 60;
+  number = replicate numberRoom 60;
   «number_len» = 0;
-  nationality = replicate 3 60;
-  birth = replicate 6 60;
+  nationality = replicate stateRoom 60;
+  birth = replicate dateRoom 60;
   sex = 60;
-  expiry = replicate 6 60;
-  name = replicate 39 60;
+  expiry = replicate dateRoom 60;
+  name = replicate nameRoom 60;
   «name_len» = 0;
 }

@@ -50,6 +50,25 @@ pub struct Covered {
 }
 
 impl Form {
+    // How many characters a text has.
+    pub const TD1_TEXT: usize = 90;
+
+    pub const TD2_TEXT: usize = 72;
+
+    pub const TD3_TEXT: usize = 88;
+
+    // The widths that are the same in every form; a nationality has that of a state.
+    pub const CODE: usize = 2;
+
+    pub const STATE: usize = 3;
+
+    pub const DATE: usize = 6;
+
+    // The number's own field, and the most characters of a long number behind it.
+    pub const NINE: usize = 9;
+
+    pub const FURTHER: usize = 13;
+
     // How many characters each form allows.
     pub const TD1_NUMBER: usize = 22;
 
@@ -79,9 +98,9 @@ impl Form {
         ensures { λ r. ⌜ r ≡ formOf n ⌝ }
     {
         match n {
-            90 => Told::As(Form::Td1),
-            72 => Told::As(Form::Td2),
-            88 => Told::As(Form::Td3),
+            Form::TD1_TEXT => Told::As(Form::Td1),
+            Form::TD2_TEXT => Told::As(Form::Td2),
+            Form::TD3_TEXT => Told::As(Form::Td3),
             _ => Told::Unknown,
         }
     }
@@ -90,9 +109,9 @@ impl Form {
         ensures { λ r. ⌜ r ≡ total self ⌝ }
     {
         match self {
-            Form::Td1 => 90,
-            Form::Td2 => 72,
-            Form::Td3 => 88,
+            Form::Td1 => Form::TD1_TEXT,
+            Form::Td2 => Form::TD2_TEXT,
+            Form::Td3 => Form::TD3_TEXT,
         }
     }
 

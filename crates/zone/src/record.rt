@@ -6,14 +6,14 @@ use crate::form::Form;
 
 pub struct Record {
     pub form: Form,
-    pub code: [u8; 2],
-    pub state: [u8; 3],
+    pub code: [u8; Form::CODE],
+    pub state: [u8; Form::STATE],
     pub number: [u8; Form::NUMBER],
     pub number_len: usize,
-    pub nationality: [u8; 3],
-    pub birth: [u8; 6],
+    pub nationality: [u8; Form::STATE],
+    pub birth: [u8; Form::DATE],
     pub sex: u8,
-    pub expiry: [u8; 6],
+    pub expiry: [u8; Form::DATE],
     pub name: [u8; Form::NAME],
     pub name_len: usize,
 }
@@ -25,14 +25,14 @@ impl Record {
     {
         Record {
             form: Form::Td1,
-            code: [FILLER; 2],
-            state: [FILLER; 3],
+            code: [FILLER; Form::CODE],
+            state: [FILLER; Form::STATE],
             number: [FILLER; Form::NUMBER],
             number_len: 0,
-            nationality: [FILLER; 3],
-            birth: [FILLER; 6],
+            nationality: [FILLER; Form::STATE],
+            birth: [FILLER; Form::DATE],
             sex: FILLER,
-            expiry: [FILLER; 6],
+            expiry: [FILLER; Form::DATE],
             name: [FILLER; Form::NAME],
             name_len: 0,
         }
