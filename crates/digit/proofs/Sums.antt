@@ -1,4 +1,4 @@
--- The laws of a weighted sum: its parts are small, one more character, and stretches joined.
+-- The laws of a weighted sum: its parts are small, one more character, and pieces joined.
 use Prim.Native.Nat.{ℕ, zero, suc, _+_, _*_, _-_, _%_, _≤_, _<_}
 use mathlib.Core.Path.{_≡_, refl}
 use mathlib.Core.Bool.{Bool, true, false, cond}
@@ -58,7 +58,7 @@ sum-more place sum i s h =
     let k : place + (i + 1) ≡ suc (place + i) = omega arith in
     rw (k, add-one i, drop-cons s i 0 h) (omega arith)
 
--- the sum over joined stretches
+-- the sum over joined pieces
 pub sum-append : (i : ℕ) (a b : List ℕ) → sumFrom i (a ++ b) ≡ sumFrom i a + sumFrom (i + length a) b
 unfolding sumFrom
 sum-append i [] b = rw (zero-add (sumFrom (i + 0) b), add-zero i)
@@ -75,7 +75,7 @@ sum-ends t s i turn sum h k l e f =
     let g : (sum + 0) % 10 ≡ (t .sum % 10 + sumFrom (t .turn % 3) s) % 10 = rw (drop-of-length-le s h) at f in
     (omega arith, omega (arith, g, sum-mod (t .turn % 3) (t .turn) s (mod-mod (t .turn) 3)))
 
--- stretches joined: the sum over the one and then the other is the sum over both
+-- pieces joined: the sum over the one and then the other is the sum over both
 pub over-over : (t : Tally) (a b : List ℕ) → Tally·over (Tally·over t a) b ≡ Tally·over t (a ++ b)
 unfolding Tally·over
 over-over t a b = λ i. record { turn = turns i; sum = sums i }

@@ -1,13 +1,13 @@
-// The composite digit: of several stretches of a text, joined as its form says.
+// The composite digit: of several pieces of a text, joined as its form says.
 ghost use mathlib.Core.Path.{_≡_};
 ghost use Rattle.zone.specs.Form.{cut, covered};
 ghost use Rattle.digit.specs.Check.{digitOf, Tally·over};
 use crate::Tally;
 use zone::form::Form;
-use zone::form::Stretch;
+use zone::form::Piece;
 
-// A sum goes on over a stretch of the text.
-fn over_stretch(tally: Tally, text: &[u8], s: Stretch) -> Tally
+// A sum goes on over a piece of the text.
+fn over_piece(tally: Tally, text: &[u8], s: Piece) -> Tally
     ensures { λ r. ⌜ r ≡ Tally·over tally (cut (now (text .entry)) s) ⌝ }
 {
     tally.over(lent::part(text, s.start, s.width))
@@ -18,8 +18,8 @@ pub fn covered_digit(form: Form, text: &[u8]) -> u8
     ensures { λ r. ⌜ r ≡ digitOf (covered form (now (text .entry))) ⌝ }
 {
     let covers = form.covered();
-    let one = over_stretch(Tally::new(), text, covers.first);
-    let two = over_stretch(one, text, covers.second);
-    let three = over_stretch(two, text, covers.third);
-    over_stretch(three, text, covers.fourth).digit()
+    let one = over_piece(Tally::new(), text, covers.first);
+    let two = over_piece(one, text, covers.second);
+    let three = over_piece(two, text, covers.third);
+    over_piece(three, text, covers.fourth).digit()
 }

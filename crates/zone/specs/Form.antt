@@ -9,7 +9,7 @@ use Rattle.zone.specs.declared.form.Form.the-variants.{Td1, Td2, Td3}
 use Rattle.zone.specs.declared.form.Told.{Told}
 use Rattle.zone.specs.declared.form.Told.the-variants.{As, Unknown}
 use Rattle.zone.specs.declared.form.Places.{Places}
-use Rattle.zone.specs.declared.form.Stretch.{Stretch}
+use Rattle.zone.specs.declared.form.Piece.{Piece}
 use Rattle.zone.specs.declared.form.Covered.{Covered}
 use Rattle.zone.specs.Part.{Part, code, state, number, numberCheck, optional, birth, birthCheck, sex, expiry, expiryCheck, nationality, optional2, composite, name, personal, personalCheck, same}
 
@@ -90,22 +90,22 @@ covers Td1 = run 1 6 30 ∷ run 2 1 7 ∷ run 2 9 15 ∷ run 2 19 29 ∷ []
 covers Td2 = run 2 1 10 ∷ run 2 14 20 ∷ run 2 22 35 ∷ []
 covers Td3 = run 2 1 10 ∷ run 2 14 20 ∷ run 2 22 43 ∷ []
 
-unfoldable pub stretchOf : Form → Run → Stretch
-stretchOf f (run which from to) = record { start = (which - 1) * line f + (from - 1); width = to + 1 - from }
+unfoldable pub pieceOf : Form → Run → Piece
+pieceOf f (run which from to) = record { start = (which - 1) * line f + (from - 1); width = to + 1 - from }
 
-unfoldable pub stretches : Form → List Stretch
-stretches f = map (stretchOf f) (covers f)
+unfoldable pub pieces : Form → List Piece
+pieces f = map (pieceOf f) (covers f)
 
-unfoldable pub cut : List ℕ → Stretch → List ℕ
+unfoldable pub cut : List ℕ → Piece → List ℕ
 cut t s = take (s .width) (drop (s .start) t)
 
 -- joined in that order
-unfoldable pub joinedCuts : List ℕ → List Stretch → List ℕ
+unfoldable pub joinedCuts : List ℕ → List Piece → List ℕ
 joinedCuts t [] = []
 joinedCuts t (s ∷ ss) = cut t s ++ joinedCuts t ss
 
 unfoldable pub covered : Form → List ℕ → List ℕ
-covered f t = joinedCuts t (stretches f)
+covered f t = joinedCuts t (pieces f)
 
 -- no words of the paper: the rows of constants that the code has of these
 unfoldable pub placesOf : Form → Places
@@ -127,9 +127,9 @@ placesOf f = record {
   name = start f name;
 }
 
--- the i-th stretch that the composite covers, empty where there are fewer
-unfoldable pub stretchAt : Form → ℕ → Stretch
-stretchAt f i = getD (stretches f) i (record { start = 0; width = 0 })
+-- the i-th piece that the composite covers, empty where there are fewer
+unfoldable pub pieceAt : Form → ℕ → Piece
+pieceAt f i = getD (pieces f) i (record { start = 0; width = 0 })
 
 unfoldable pub coveredOf : Form → Covered
-coveredOf f = record { first = stretchAt f 0; second = stretchAt f 1; third = stretchAt f 2; fourth = stretchAt f 3 }
+coveredOf f = record { first = pieceAt f 0; second = pieceAt f 1; third = pieceAt f 2; fourth = pieceAt f 3 }

@@ -36,17 +36,17 @@ pub struct Places {
 }
 
 // A run of characters of a text.
-pub struct Stretch {
+pub struct Piece {
     pub start: usize,
     pub width: usize,
 }
 
 // What the composite digit covers, joined in this order. The last is empty in forms that have three.
 pub struct Covered {
-    pub first: Stretch,
-    pub second: Stretch,
-    pub third: Stretch,
-    pub fourth: Stretch,
+    pub first: Piece,
+    pub second: Piece,
+    pub third: Piece,
+    pub fourth: Piece,
 }
 
 impl Form {
@@ -249,19 +249,19 @@ fn td1_covered() -> Covered
     ensures { λ r. ⌜ r ≡ coveredOf Form.Td1 ⌝ }
 {
     Covered {
-        first: Stretch {
+        first: Piece {
             start: 5,
             width: 25,
         },
-        second: Stretch {
+        second: Piece {
             start: 30,
             width: 7,
         },
-        third: Stretch {
+        third: Piece {
             start: 38,
             width: 7,
         },
-        fourth: Stretch {
+        fourth: Piece {
             start: 48,
             width: 11,
         },
@@ -272,19 +272,19 @@ fn td2_covered() -> Covered
     ensures { λ r. ⌜ r ≡ coveredOf Form.Td2 ⌝ }
 {
     Covered {
-        first: Stretch {
+        first: Piece {
             start: 36,
             width: 10,
         },
-        second: Stretch {
+        second: Piece {
             start: 49,
             width: 7,
         },
-        third: Stretch {
+        third: Piece {
             start: 57,
             width: 14,
         },
-        fourth: Stretch { start: 0, width: 0 },
+        fourth: Piece { start: 0, width: 0 },
     }
 }
 
@@ -292,18 +292,18 @@ fn td3_covered() -> Covered
     ensures { λ r. ⌜ r ≡ coveredOf Form.Td3 ⌝ }
 {
     Covered {
-        first: Stretch {
+        first: Piece {
             start: 44,
             width: 10,
         },
-        second: Stretch {
+        second: Piece {
             start: 57,
             width: 7,
         },
-        third: Stretch {
+        third: Piece {
             start: 65,
             width: 22,
         },
-        fourth: Stretch { start: 0, width: 0 },
+        fourth: Piece { start: 0, width: 0 },
     }
 }

@@ -1,4 +1,4 @@
--- A sum that goes on over four stretches is the sum over all of them joined.
+-- A sum that goes on over four pieces is the sum over all of them joined.
 use borrow.Author.Needs.{needs}
 use denote.Ref.{now}
 use mathlib.Core.List.{_++_}
@@ -14,17 +14,17 @@ covered-requires c κs = search needs
 new-requires : tie.Need-new-requires
 new-requires c κs = search needs
 
-over-stretch-requires : tie.Need-over-stretch-requires
-over-stretch-requires c κs = search needs
+over-piece-requires : tie.Need-over-piece-requires
+over-piece-requires c κs = search needs
 
-over-stretch-requires-2 : tie.Need-over-stretch-requires-2
-over-stretch-requires-2 c κs = search needs
+over-piece-requires-2 : tie.Need-over-piece-requires-2
+over-piece-requires-2 c κs = search needs
 
-over-stretch-requires-3 : tie.Need-over-stretch-requires-3
-over-stretch-requires-3 c κs = search needs
+over-piece-requires-3 : tie.Need-over-piece-requires-3
+over-piece-requires-3 c κs = search needs
 
-over-stretch-requires-4 : tie.Need-over-stretch-requires-4
-over-stretch-requires-4 c κs = search needs
+over-piece-requires-4 : tie.Need-over-piece-requires-4
+over-piece-requires-4 c κs = search needs
 
 digit-requires : tie.Need-digit-requires
 digit-requires c κs = search needs
@@ -36,10 +36,10 @@ returns c =
     let new = c .before .before .before .before .before .new in
     rw (
       c .digit .ensures,
-      c .before .over-stretch4 .ensures,
-      c .before .before .over-stretch3 .ensures,
-      c .before .before .before .over-stretch2 .ensures,
-      c .before .before .before .before .over-stretch .ensures,
+      c .before .over-piece4 .ensures,
+      c .before .before .over-piece3 .ensures,
+      c .before .before .before .over-piece2 .ensures,
+      c .before .before .before .before .over-piece .ensures,
       c .before .before .before .before .before .before .covered .ensures,
       over-over,
       over-over,
@@ -54,9 +54,9 @@ covered-digit-spec =
     (tie.spec
     covered-requires
     new-requires
-    over-stretch-requires
-    over-stretch-requires-2
-    over-stretch-requires-3
-    over-stretch-requires-4
+    over-piece-requires
+    over-piece-requires-2
+    over-piece-requires-3
+    over-piece-requires-4
     digit-requires
     returns)

@@ -1,11 +1,11 @@
--- The stretches that the paper gives as places of lines.
+-- The pieces that the paper gives as places of lines.
 use mathlib.Core.Path.{refl}
-use Rattle.zone.specs.Form.{coveredOf, stretchAt, stretches, stretchOf, covers, line}
+use Rattle.zone.specs.Form.{coveredOf, pieceAt, pieces, pieceOf, covers, line}
 use Rattle.zone.proofs.form.td3_covered.Statement.{statement}
 use Rattle.zone.proofs.form.td3_covered.Tie as tie
 
 returns : tie.Need-returns
-unfolding coveredOf stretchAt stretches stretchOf covers line
+unfolding coveredOf pieceAt pieces pieceOf covers line
 returns c = refl
 
 pub td3-covered-spec : {M : Type 1} → statement M

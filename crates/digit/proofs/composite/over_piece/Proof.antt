@@ -1,8 +1,8 @@
--- One call on the stretch.
+-- One call on the piece.
 use borrow.Author.Needs.{needs}
 use Rattle.zone.specs.Form.{cut}
-use Rattle.digit.proofs.composite.over_stretch.Statement.{statement}
-use Rattle.digit.proofs.composite.over_stretch.Tie as tie
+use Rattle.digit.proofs.composite.over_piece.Statement.{statement}
+use Rattle.digit.proofs.composite.over_piece.Tie as tie
 
 part-requires : tie.Need-part-requires
 part-requires c κs = search needs
@@ -14,5 +14,5 @@ returns : tie.Need-returns
 unfolding cut
 returns c = rw (c .over .ensures, c .before .part .ensures)
 
-pub over-stretch-spec : {M : Type 1} → statement M
-over-stretch-spec = tie.close (tie.spec part-requires over-requires returns)
+pub over-piece-spec : {M : Type 1} → statement M
+over-piece-spec = tie.close (tie.spec part-requires over-requires returns)
