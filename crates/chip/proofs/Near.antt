@@ -10,8 +10,8 @@ use lib.ListN.{length, take, drop, getD, length-take, length-drop}
 use Rattle.lent.proofs.Bools.{and-both}
 use Rattle.refusal.specs.Outcome.{Outcome, passed, refused, unless, orElse}
 use Rattle.zone.specs.declared.form.Form.{Form}
-use Rattle.zone.specs.declared.form.Told.{Told}
-use Rattle.zone.specs.declared.form.Told.the-variants.{As, Unknown}
+use Rattle.zone.specs.declared.form.Recognised.{Recognised}
+use Rattle.zone.specs.declared.form.Recognised.the-variants.{As, Unknown}
 use Rattle.zone.specs.declared.record.Record.{Record}
 use Rattle.zone.specs.Alphabet.{first, firstForeign, isForeign, firstFiller}
 use Rattle.zone.specs.Part.{Part, code, state, number, numberCheck, optional, birth, birthCheck, sex, expiry, expiryCheck, nationality, optional2, composite, name, personal, personalCheck}
@@ -159,7 +159,7 @@ unfolding answered
 near-answered m passed r h = h
 near-answered m (refused n p) r h = h
 
-near-told : (told : Told) (t : List ℕ) → isNear (length t + 180) (readBy told t .outcome) ≡ true
+near-told : (told : Recognised) (t : List ℕ) → isNear (length t + 180) (readBy told t .outcome) ≡ true
 unfolding readBy isNear
 near-told (As f) t =
     near-answered (length t + 180) (verdictBy f t (spanOf f t)) (recordBy f t (spanOf f t)) (near-verdict (length t + 180) (omega arith) f t (omega arith))

@@ -9,8 +9,8 @@ use borrow.Author.Tests.{eqb-true, eqb-false}
 use lib.Dec.{eqb, ltb}
 use lib.ListN.{length, drop}
 use Rattle.lent.proofs.Bools.{both-and}
-use Rattle.zone.specs.declared.form.Told.{Told}
-use Rattle.zone.specs.declared.form.Told.the-variants.{As, Unknown}
+use Rattle.zone.specs.declared.form.Recognised.{Recognised}
+use Rattle.zone.specs.declared.form.Recognised.the-variants.{As, Unknown}
 use Rattle.zone.specs.Record.{blank}
 use Rattle.entry.specs.Entry.{entryOf, size}
 use Rattle.entry.specs.Run.{Answer, Onward, next, none, refused, houseIn, formIn, nameLength, recordIn, isEntry, entryBy, noEntry, readEntry}
@@ -29,7 +29,7 @@ next-not-none : (n : ℕ) → next n ≡ none → ⊥
 next-not-none n e = let z : _≡_ {A = ℕ} 0 1 = cc in omega arith
 
 -- an entry is passed over, or the answer is 18 here
-entry-or-not : (told : Told) (s : List ℕ) (at : ℕ) (o : Onward) → entryBy told s at .onward ≡ o → (o ≡ next (at + size (nameLength s))) ⊎ (o ≡ refused 18 at)
+entry-or-not : (told : Recognised) (s : List ℕ) (at : ℕ) (o : Onward) → entryBy told s at .onward ≡ o → (o ≡ next (at + size (nameLength s))) ⊎ (o ≡ refused 18 at)
 unfolding entryBy noEntry
 entry-or-not Unknown s at o e = inr (sym e)
 entry-or-not (As f) s at o e = go (isEntry f s) e

@@ -10,7 +10,7 @@ use Rattle.lent.proofs.Bools.{or-either}
 use Rattle.zone.specs.Alphabet.{isDigit, isLetter, isFiller, isCharacter}
 use Rattle.zone.specs.declared.form.Form.{Form}
 use Rattle.zone.specs.declared.form.Form.the-variants.{Td1, Td2, Td3}
-use Rattle.zone.specs.declared.form.Told.the-variants.{As, Unknown}
+use Rattle.zone.specs.declared.form.Recognised.the-variants.{As, Unknown}
 use Rattle.zone.proofs.Classes.{digit-range, letter-range}
 use Rattle.field.specs.Letters.{sexRule}
 use Rattle.entry.specs.Codes.{formCode, formBy, sexCode, sexBy}

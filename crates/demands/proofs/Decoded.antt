@@ -11,7 +11,7 @@ use lib.ListN.{length, take, drop, length-append, take-append-drop}
 use lib.Pow.{pow-pos}
 use lib.Seq.{drop-at, length-take-le}
 use Rattle.lent.proofs.Bools.{and-both}
-use Rattle.zone.specs.declared.form.Told.the-variants.{As}
+use Rattle.zone.specs.declared.form.Recognised.the-variants.{As}
 use Rattle.zone.specs.declared.record.Record.{Record}
 use Rattle.zone.specs.Record.{trimmedLength, trimmed, padded}
 use Rattle.zone.proofs.Padded.{padded-exact, padded-trimmed}

@@ -12,8 +12,8 @@ use lib.ListN.{length, take, drop, getD, length-drop, take-append-drop}
 use lib.Seq.{take-at, take-all, length-take-le, drop-drop}
 use Rattle.lent.proofs.Bools.{and-both}
 use Rattle.zone.specs.declared.form.Form.{Form}
-use Rattle.zone.specs.declared.form.Told.{Told}
-use Rattle.zone.specs.declared.form.Told.the-variants.{As, Unknown}
+use Rattle.zone.specs.declared.form.Recognised.{Recognised}
+use Rattle.zone.specs.declared.form.Recognised.the-variants.{As, Unknown}
 use Rattle.zone.specs.declared.record.Record.{Record}
 use Rattle.zone.specs.Record.{padded, blank}
 use Rattle.zone.specs.Alphabet.{isCharacter, every}
@@ -175,7 +175,7 @@ module _ (w : List ℕ) (at n : ℕ) (small : areOctets w) (there : at ≤ lengt
         octets-passed = rw gap (octets-there f s told t (every-drop isOctet at w small));
       }
 
-  passed-by : (told : Told) → formIn (drop at w) ≡ told → entryBy told (drop at w) at .onward ≡ next n
+  passed-by : (told : Recognised) → formIn (drop at w) ≡ told → entryBy told (drop at w) at .onward ≡ next n
       → Passed w at n (entryBy told (drop at w) at .house) (entryBy told (drop at w) at .kept)
   unfolding entryBy noEntry
   passed-by Unknown p e = absurd (refused-not-next 18 at n e)

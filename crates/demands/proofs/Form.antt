@@ -7,7 +7,7 @@ use borrow.Author.Tests.{eqb-true}
 use lib.Dec.{eqb}
 use Rattle.zone.specs.declared.form.Form.{Form}
 use Rattle.zone.specs.declared.form.Form.the-variants.{Td1, Td2, Td3}
-use Rattle.zone.specs.declared.form.Told.the-variants.{As, Unknown}
+use Rattle.zone.specs.declared.form.Recognised.the-variants.{As, Unknown}
 use Rattle.zone.specs.Part.{code, state, number, numberCheck, birth, birthCheck, sex, expiry, expiryCheck, nationality, composite, name, rank, same}
 use Rattle.zone.specs.Form.{total, formOf, parts, partOf, layout}
 use Rattle.demands.specs.Accepted.{has, among}

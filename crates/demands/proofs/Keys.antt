@@ -10,7 +10,7 @@ use lib.ListN.{length, take}
 use lib.Seq.{take-at}
 use Rattle.refusal.specs.Outcome.{passed}
 use Rattle.zone.specs.declared.form.Form.{Form}
-use Rattle.zone.specs.declared.form.Told.the-variants.{As}
+use Rattle.zone.specs.declared.form.Recognised.the-variants.{As}
 use Rattle.zone.specs.declared.record.Record.{Record}
 use Rattle.zone.specs.Record.{trimmedLength, trimmed, padded}
 use Rattle.zone.proofs.Padded.{padded-exact, padded-trimmed}

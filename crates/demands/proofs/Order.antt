@@ -7,8 +7,8 @@ use mathlib.Core.Bool.{true}
 use lib.ListN.{length}
 use native.Mathlib.Omega.{arith}
 use Rattle.refusal.specs.Outcome.{Outcome, passed, refused, orElse}
-use Rattle.zone.specs.declared.form.Told.{Told}
-use Rattle.zone.specs.declared.form.Told.the-variants.{As, Unknown}
+use Rattle.zone.specs.declared.form.Recognised.{Recognised}
+use Rattle.zone.specs.declared.form.Recognised.the-variants.{As, Unknown}
 use Rattle.zone.specs.Part.{Part, optional, rank, same}
 use Rattle.zone.specs.Record.{blank}
 use Rattle.zone.specs.declared.form.Form.{Form}
@@ -51,7 +51,7 @@ unfolding answered
 answered-blank passed r n p e = absurd (never n p e)
 answered-blank (refused m q) r n p e = refl
 
-read-first-by : (told : Told) (t : List ℕ) → readBy told t .outcome ≡ firstOf (checksBy told t)
+read-first-by : (told : Recognised) (t : List ℕ) → readBy told t .outcome ≡ firstOf (checksBy told t)
 unfolding readBy checksBy verdictBy firstOf
 read-first-by Unknown t = answered-outcome (refused 1 0) _
 read-first-by (As f) t =
@@ -88,7 +88,7 @@ pub refused-blank : (t : List ℕ) (n p : ℕ) → readText t .outcome ≡ refus
 unfolding readText readBy
 refused-blank t n p e = by-told (formOf (length t)) e
   where
-    by-told : (told : Told) → readBy told t .outcome ≡ refused n p → readBy told t .kept ≡ blank
+    by-told : (told : Recognised) → readBy told t .outcome ≡ refused n p → readBy told t .kept ≡ blank
     by-told Unknown h = answered-blank (refused 1 0) blank n p h
     by-told (As f) h = answered-blank (verdictBy f t (spanOf f t)) (recordBy f t (spanOf f t)) n p h
 

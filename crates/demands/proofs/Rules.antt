@@ -10,8 +10,8 @@ use lib.Dec.{eqb}
 use Rattle.lent.proofs.Bools.{and-both}
 use Rattle.refusal.specs.Outcome.{passed, refused, orElse}
 use Rattle.zone.specs.declared.form.Form.{Form}
-use Rattle.zone.specs.declared.form.Told.{Told}
-use Rattle.zone.specs.declared.form.Told.the-variants.{As, Unknown}
+use Rattle.zone.specs.declared.form.Recognised.{Recognised}
+use Rattle.zone.specs.declared.form.Recognised.the-variants.{As, Unknown}
 use Rattle.zone.specs.Alphabet.{isCharacter, isFiller, isForeign, firstForeign}
 use Rattle.zone.proofs.Places.{first-none, none-first}
 use Rattle.zone.specs.Part.{Part, code, state, number, numberCheck, optional, birth, birthCheck, sex, expiry, expiryCheck, nationality, optional2, composite, name, personal, personalCheck}
@@ -183,7 +183,7 @@ pub read-as : (f : Form) (t : List ℕ) → length t ≡ total f → readText t 
 unfolding readText readBy
 read-as f t e = rw (told-by f (length t) e)
 
-accepted-by : (told : Told) (t : List ℕ) → readBy told t .outcome ≡ passed → (f : Form) × (told ≡ As f) × (verdictBy f t (spanOf f t) ≡ passed)
+accepted-by : (told : Recognised) (t : List ℕ) → readBy told t .outcome ≡ passed → (f : Form) × (told ≡ As f) × (verdictBy f t (spanOf f t) ≡ passed)
 unfolding readBy
 accepted-by Unknown t e = absurd (refused-not-passed (sym (answered-outcome (refused 1 0) _) ∙ e))
 accepted-by (As f) t e = (f, refl, sym (answered-outcome (verdictBy f t (spanOf f t)) (recordBy f t (spanOf f t))) ∙ e)

@@ -5,14 +5,14 @@ use mathlib.Core.Bool.{Bool, true, _&&_}
 use lib.Dec.{ltb}
 use lib.ListN.{length}
 use Rattle.refusal.specs.Outcome.{Outcome, passed, refused}
-use Rattle.zone.specs.declared.form.Told.{Told}
-use Rattle.zone.specs.declared.form.Told.the-variants.{As, Unknown}
+use Rattle.zone.specs.declared.form.Recognised.{Recognised}
+use Rattle.zone.specs.declared.form.Recognised.the-variants.{As, Unknown}
 use Rattle.zone.specs.Form.{formOf, parts}
 use Rattle.text.specs.Number.{spanOf}
 use Rattle.text.specs.Order.{characters, fieldCheck, digitCheck}
 
 -- 1, 2, then 3 to 8 by field in text order, then check digits in text order
-unfoldable pub checksBy : Told → List ℕ → List Outcome
+unfoldable pub checksBy : Recognised → List ℕ → List Outcome
 checksBy Unknown t = refused 1 0 ∷ []
 checksBy (As f) t = characters t ∷ (map (fieldCheck f t (spanOf f t)) (parts f) ++ map (digitCheck f t (spanOf f t)) (parts f))
 

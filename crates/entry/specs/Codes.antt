@@ -4,8 +4,8 @@ use mathlib.Core.Bool.{cond}
 use lib.Dec.{eqb}
 use Rattle.zone.specs.declared.form.Form.{Form}
 use Rattle.zone.specs.declared.form.Form.the-variants.{Td1, Td2, Td3}
-use Rattle.zone.specs.declared.form.Told.{Told}
-use Rattle.zone.specs.declared.form.Told.the-variants.{As, Unknown}
+use Rattle.zone.specs.declared.form.Recognised.{Recognised}
+use Rattle.zone.specs.declared.form.Recognised.the-variants.{As, Unknown}
 
 -- TD1 0, TD2 1, TD3 2
 unfoldable pub formCode : Form → ℕ
@@ -13,7 +13,7 @@ formCode Td1 = 0
 formCode Td2 = 1
 formCode Td3 = 2
 
-unfoldable pub formBy : ℕ → Told
+unfoldable pub formBy : ℕ → Recognised
 formBy n = cond (eqb n 0) (As Td1) (cond (eqb n 1) (As Td2) (cond (eqb n 2) (As Td3) Unknown))
 
 -- `<` 0, F 1, M 2

@@ -6,8 +6,8 @@ use lib.Dec.{eqb, leb, ltb}
 use lib.ListN.{length, drop}
 use Rattle.refusal.specs.Numbers.{numberOf}
 use Rattle.zone.specs.declared.form.Form.{Form}
-use Rattle.zone.specs.declared.form.Told.{Told}
-use Rattle.zone.specs.declared.form.Told.the-variants.{As, Unknown}
+use Rattle.zone.specs.declared.form.Recognised.{Recognised}
+use Rattle.zone.specs.declared.form.Recognised.the-variants.{As, Unknown}
 use Rattle.zone.specs.declared.record.Record.{Record}
 use Rattle.zone.specs.Record.{blank, trimmedLength, padded}
 use Rattle.sound.specs.Sound.{isSound}
@@ -48,7 +48,7 @@ charactersAt s k (suc n) = characterOf (number s k 6) ∷ charactersAt s (k + 6)
 unfoldable pub houseIn : List ℕ → ℕ
 houseIn s = number s 0 15
 
-unfoldable pub formIn : List ℕ → Told
+unfoldable pub formIn : List ℕ → Recognised
 formIn s = formBy (number s 15 3)
 
 unfoldable pub nameLength : List ℕ → ℕ
@@ -85,7 +85,7 @@ isEntry f s = isHouse (houseIn s) && (isWhole s && isSound (recordIn f s))
 unfoldable pub noEntry : ℕ → Answer
 noEntry at = record { onward = refused 18 at; house = 0; kept = blank }
 
-unfoldable pub entryBy : Told → List ℕ → ℕ → Answer
+unfoldable pub entryBy : Recognised → List ℕ → ℕ → Answer
 entryBy (As f) s at =
     cond (isEntry f s) (record { onward = next (at + size (nameLength s)); house = houseIn s; kept = recordIn f s }) (noEntry at)
 entryBy Unknown s at = noEntry at

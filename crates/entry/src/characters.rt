@@ -10,16 +10,16 @@ use crate::bits::six;
 use zone::alphabet::FILLER;
 use zone::codes::characters;
 use zone::form::Form;
-use zone::form::Told;
+use zone::form::Recognised;
 
-pub(crate) fn form_by(code: u32) -> Told
+pub(crate) fn form_by(code: u32) -> Recognised
     ensures { λ r. ⌜ r ≡ formBy code ⌝ }
 {
     match code {
-        0 => Told::As(Form::Td1),
-        1 => Told::As(Form::Td2),
-        2 => Told::As(Form::Td3),
-        _ => Told::Unknown,
+        0 => Recognised::As(Form::Td1),
+        1 => Recognised::As(Form::Td2),
+        2 => Recognised::As(Form::Td3),
+        _ => Recognised::Unknown,
     }
 }
 

@@ -3,7 +3,7 @@ ghost use mathlib.Core.Path.{_≡_};
 ghost use mathlib.Core.Bool.{true};
 ghost use Prim.Native.Nat.{_+_, _*_, _^_, _<_, _≤_};
 ghost use lib.ListN.{length};
-ghost use Rattle.zone.specs.declared.form.Told.the-variants.{As};
+ghost use Rattle.zone.specs.declared.form.Recognised.the-variants.{As};
 ghost use Rattle.entry.specs.Entry as E;
 ghost use Rattle.entry.specs.Run as R;
 use crate::bits::bits;
@@ -11,7 +11,7 @@ use crate::characters;
 use refusal::Cause;
 use refusal::Refusal;
 use zone::form::Form;
-use zone::form::Told;
+use zone::form::Recognised;
 use zone::record::Record;
 use zone::record::trimmed_length;
 
@@ -154,8 +154,8 @@ fn entry_at(s: &[u8], at: usize) -> Found
 {
     let told = characters::form_by(bits(s, 15, 3));
     match told {
-        Told::As(form) => entry_as(form, s, at),
-        Told::Unknown => no_entry(at),
+        Recognised::As(form) => entry_as(form, s, at),
+        Recognised::Unknown => no_entry(at),
     }
 }
 

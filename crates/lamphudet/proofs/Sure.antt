@@ -9,8 +9,8 @@ use lib.Dec.{eqb, ltb}
 use lib.ListN.{length, drop}
 use Rattle.lent.proofs.Bools.{and-both}
 use Rattle.refusal.specs.Length as length
-use Rattle.zone.specs.declared.form.Told.{Told}
-use Rattle.zone.specs.declared.form.Told.the-variants.{As, Unknown}
+use Rattle.zone.specs.declared.form.Recognised.{Recognised}
+use Rattle.zone.specs.declared.form.Recognised.the-variants.{As, Unknown}
 use Rattle.zone.specs.Record.{blank}
 use Rattle.sound.specs.Sound.{isSound}
 use Rattle.writing.specs.Answer.{keptAnswer, keptOut, textAnswer, textOut}
@@ -24,7 +24,7 @@ refused-not-next k p n e = let z : _≡_ {A = ℕ} 0 1 = cc in omega arith
 none-not-next : (n : ℕ) → none ≡ next n → ⊥
 none-not-next n e = let z : _≡_ {A = ℕ} 0 1 = cc in omega arith
 
-sound-entry : (told : Told) (s : List ℕ) (at n : ℕ) → entryBy told s at .onward ≡ next n → isSound (entryBy told s at .kept) ≡ true
+sound-entry : (told : Recognised) (s : List ℕ) (at n : ℕ) → entryBy told s at .onward ≡ next n → isSound (entryBy told s at .kept) ≡ true
 unfolding entryBy noEntry isEntry
 sound-entry Unknown s at n e = absurd (refused-not-next 18 at n e)
 sound-entry (As f) s at n e = go (isHouse (houseIn s) && (isWhole s && isSound (recordIn f s))) refl e

@@ -7,8 +7,8 @@ use Rattle.zone.specs.Part.{code, state, nationality, birth, sex, expiry, name}
 use Rattle.zone.specs.Form.{formOf, start, field}
 use Rattle.zone.specs.Record.{blank, trimmed, padded}
 use Rattle.zone.specs.declared.form.Form.{Form}
-use Rattle.zone.specs.declared.form.Told.{Told}
-use Rattle.zone.specs.declared.form.Told.the-variants.{As, Unknown}
+use Rattle.zone.specs.declared.form.Recognised.{Recognised}
+use Rattle.zone.specs.declared.form.Recognised.the-variants.{As, Unknown}
 use Rattle.zone.specs.declared.record.Record.{Record}
 use Rattle.text.specs.Number.{spanOf, numberBy}
 use Rattle.text.specs.Order.{verdictBy}
@@ -47,7 +47,7 @@ answered passed r = record { outcome = passed; kept = r }
 answered (refused number place) r = record { outcome = refused number place; kept = blank }
 
 -- 1: a text not 72, 88 or 90, at its start
-unfoldable pub readBy : Told → List ℕ → Answer
+unfoldable pub readBy : Recognised → List ℕ → Answer
 readBy (As f) t = answered (verdictBy f t (spanOf f t)) (recordBy f t (spanOf f t))
 readBy Unknown t = answered (refused 1 0) blank
 

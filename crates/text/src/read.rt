@@ -14,7 +14,7 @@ use refusal::Cause;
 use refusal::Refusal;
 use refusal::Verdict;
 use zone::form::Form;
-use zone::form::Told;
+use zone::form::Recognised;
 use zone::record::Record;
 
 // What a text was read as. The record is the blank one wherever the verdict is a refusal.
@@ -49,7 +49,7 @@ fn refuse(refusal: Refusal) -> Reading
 }
 
 fn read_by(form: Form, text: &[u8]) -> Reading
-    ensures { λ r. ⌜ answerOf r ≡ readBy (Told.As form) (now (text .entry)) ⌝ }
+    ensures { λ r. ⌜ answerOf r ≡ readBy (Recognised.As form) (now (text .entry)) ⌝ }
 {
     let span = span_of(form, text);
     match verdict_by(form, text, span) {
@@ -66,8 +66,8 @@ pub fn read(text: &[u8]) -> Reading
     ensures { λ r. ⌜ answerOf r ≡ readText (now (text .entry)) ⌝ }
 {
     match Form::of_length(text.len()) {
-        Told::As(form) => read_by(form, text),
-        Told::Unknown => refuse(Refusal {
+        Recognised::As(form) => read_by(form, text),
+        Recognised::Unknown => refuse(Refusal {
             cause: Cause::Length,
             place: 0,
         }),

@@ -5,7 +5,7 @@ use refusal::Refusal;
 use refusal::Verdict;
 use text::read::read;
 use zone::form::Form;
-use zone::form::Told;
+use zone::form::Recognised;
 use zone::record::Record;
 
 // The most that is shown of a text in one line. No line of a form is longer.
@@ -35,7 +35,7 @@ pub(crate) fn show(title: &[u8], text: &[u8]) {
 // A text of a form by its lines, any other in one.
 fn lines(text: &[u8], place: usize) {
     match Form::of_length(text.len()) {
-        Told::As(form) => match form {
+        Recognised::As(form) => match form {
             Form::Td1 => {
                 line(text, 0, 30, place);
                 line(text, 30, 30, place);
@@ -50,7 +50,7 @@ fn lines(text: &[u8], place: usize) {
                 line(text, 44, 44, place);
             }
         },
-        Told::Unknown => formless(text, place),
+        Recognised::Unknown => formless(text, place),
     }
 }
 

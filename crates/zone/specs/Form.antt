@@ -6,8 +6,8 @@ use lib.ListN.{take, drop, getD}
 use lib.Dec.{eqb}
 use Rattle.zone.specs.declared.form.Form.{Form}
 use Rattle.zone.specs.declared.form.Form.the-variants.{Td1, Td2, Td3}
-use Rattle.zone.specs.declared.form.Told.{Told}
-use Rattle.zone.specs.declared.form.Told.the-variants.{As, Unknown}
+use Rattle.zone.specs.declared.form.Recognised.{Recognised}
+use Rattle.zone.specs.declared.form.Recognised.the-variants.{As, Unknown}
 use Rattle.zone.specs.declared.form.Places.{Places}
 use Rattle.zone.specs.declared.form.Piece.{Piece}
 use Rattle.zone.specs.declared.form.Covered.{Covered}
@@ -61,7 +61,7 @@ total Td2 = 72
 total Td3 = 88
 
 -- which form a length tells
-unfoldable pub formOf : ℕ → Told
+unfoldable pub formOf : ℕ → Recognised
 formOf n = cond (eqb n (total Td1)) (As Td1) (cond (eqb n (total Td2)) (As Td2) (cond (eqb n (total Td3)) (As Td3) Unknown))
 
 -- Longest: TD1 22, TD2 14, TD3 9

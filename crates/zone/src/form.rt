@@ -11,7 +11,7 @@ pub enum Form {
 }
 
 // What a length tells.
-pub enum Told {
+pub enum Recognised {
     As(Form),
     Unknown,
 }
@@ -94,14 +94,14 @@ impl Form {
     pub const NAME: usize = 39;
 
     // Which form a text of this length is.
-    pub fn of_length(n: usize) -> Told
+    pub fn of_length(n: usize) -> Recognised
         ensures { λ r. ⌜ r ≡ formOf n ⌝ }
     {
         match n {
-            Form::TD1_TEXT => Told::As(Form::Td1),
-            Form::TD2_TEXT => Told::As(Form::Td2),
-            Form::TD3_TEXT => Told::As(Form::Td3),
-            _ => Told::Unknown,
+            Form::TD1_TEXT => Recognised::As(Form::Td1),
+            Form::TD2_TEXT => Recognised::As(Form::Td2),
+            Form::TD3_TEXT => Recognised::As(Form::Td3),
+            _ => Recognised::Unknown,
         }
     }
 
