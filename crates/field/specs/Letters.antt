@@ -1,5 +1,6 @@
 -- The fields of letters and fillers: document 01, "The text", Field rules, State, Sex and Name.
 use Prim.Native.Nat.{ℕ}
+use Prim.Native.Char.{code}
 use mathlib.Core.Bool.{Bool, cond, _&&_, _||_}
 use mathlib.Core.List.{List}
 use lib.ListN.{getD}
@@ -15,7 +16,7 @@ stateRule s = lettersThenFillers (getD s 0 0) (getD s 1 0) (getD s 2 0)
 
 -- M, F or `<`
 unfoldable pub sexRule : ℕ → Bool
-sexRule c = eqb c 77 || eqb c 70 || isFiller c
+sexRule c = eqb c (code "M") || eqb c (code "F") || isFiller c
 
 -- letters and fillers
 unfoldable pub isNameCharacter : ℕ → Bool

@@ -5,49 +5,30 @@ use zone::alphabet::FILLER;
 use zone::alphabet::is_letter;
 use zone::form::Form;
 
-// What a card's code may begin with: A, C or I.
+// What a card's code may begin with.
 fn is_card_letter(a: u8) -> bool
     ensures { λ r. ⌜ r ≡ isCardLetter a ⌝ }
 {
-    match a {
-        65 => true,
-        67 => true,
-        73 => true,
-        _ => false,
-    }
+    (a == b'A') | (a == b'C') | (a == b'I')
 }
 
 // What may stand second in any code.
 fn is_second(b: u8) -> bool
     ensures { λ r. ⌜ r ≡ isSecond b ⌝ }
 {
-    if is_letter(b) { true } else { b == FILLER }
+    is_letter(b) | (b == FILLER)
 }
 
 fn is_card(a: u8, b: u8) -> bool
     ensures { λ r. ⌜ r ≡ cardRule a b ⌝ }
 {
-    if is_card_letter(a) {
-        if is_second(b) {
-            if b == 86 {
-                return false;
-            }
-            if a == 65 {
-                return b != 67;
-            }
-            true
-        } else {
-            false
-        }
-    } else {
-        false
-    }
+    is_card_letter(a) & (is_second(b) & ((b != b'V') & !((a == b'A') & (b == b'C'))))
 }
 
 fn is_passport(a: u8, b: u8) -> bool
     ensures { λ r. ⌜ r ≡ passportRule a b ⌝ }
 {
-    if a == 80 { is_second(b) } else { false }
+    (a == b'P') & is_second(b)
 }
 
 pub fn is_code(form: Form, s: &[u8]) -> bool

@@ -1,8 +1,9 @@
 // Dates: pairs of digits, or of fillers where a birth is not known whole.
 ghost use mathlib.Core.Path.{_≡_};
-ghost use Rattle.field.specs.Date.{pairOf, yearOf, monthOf, dayOf, isLeap, daysIn, monthRule, dayRule, yearRule, isKnown, birthRule, expiryRule};
+ghost use Prim.Native.Nat.{_+_, _<_};
+ghost use lib.ListN.{getD};
+ghost use Rattle.field.specs.Date.{pairOf, isLeap, daysIn, monthRule, dayRule, yearRule, isKnown, birthRule, expiryRule};
 use zone::alphabet::FILLER;
-use zone::alphabet::is_digit;
 
 // What two characters of a date say.
 pub enum Pair {
@@ -14,41 +15,24 @@ pub enum Pair {
 fn pair_of(a: u8, b: u8) -> Pair
     ensures { λ r. ⌜ r ≡ pairOf a b ⌝ }
 {
-    if is_digit(a) {
-        if is_digit(b) {
-            Pair::Known((a - 48) * 10 + (b - 48))
-        } else {
-            Pair::Neither
-        }
-    } else {
-        if a == FILLER {
-            if b == FILLER {
-                Pair::Unknown
-            } else {
-                Pair::Neither
-            }
-        } else {
-            Pair::Neither
-        }
+    if (a == FILLER) & (b == FILLER) {
+        return Pair::Unknown;
+    }
+    match a {
+        b'0'..=b'9' => match b {
+            b'0'..=b'9' => Pair::Known((a - b'0') * 10 + (b - b'0')),
+            _ => Pair::Neither,
+        },
+        _ => Pair::Neither,
     }
 }
 
-fn year(s: &[u8]) -> Pair
-    ensures { λ r. ⌜ r ≡ yearOf (now (s .entry)) ⌝ }
+// The pair at a place.
+fn pair_at(s: &[u8], at: usize) -> Pair
+    requires { ⌜ at < 6 ⌝ }
+    ensures { λ r. ⌜ r ≡ pairOf (getD (now (s .entry)) at 0) (getD (now (s .entry)) (at + 1) 0) ⌝ }
 {
-    pair_of(lent::octet(s, 0), lent::octet(s, 1))
-}
-
-fn month(s: &[u8]) -> Pair
-    ensures { λ r. ⌜ r ≡ monthOf (now (s .entry)) ⌝ }
-{
-    pair_of(lent::octet(s, 2), lent::octet(s, 3))
-}
-
-fn day(s: &[u8]) -> Pair
-    ensures { λ r. ⌜ r ≡ dayOf (now (s .entry)) ⌝ }
-{
-    pair_of(lent::octet(s, 4), lent::octet(s, 5))
+    pair_of(lent::octet(s, at), lent::octet(s, at + 1))
 }
 
 fn is_leap(year: Pair) -> bool
@@ -83,7 +67,7 @@ fn is_month(month: Pair) -> bool
     ensures { λ r. ⌜ r ≡ monthRule month ⌝ }
 {
     match month {
-        Pair::Known(n) => { if 1 <= n { n <= 12 } else { false } }
+        Pair::Known(n) => (1 <= n) & (n <= 12),
         Pair::Unknown => true,
         Pair::Neither => false,
     }
@@ -93,7 +77,7 @@ fn is_day(last: u8, day: Pair) -> bool
     ensures { λ r. ⌜ r ≡ dayRule last day ⌝ }
 {
     match day {
-        Pair::Known(n) => { if 1 <= n { n <= last } else { false } }
+        Pair::Known(n) => (1 <= n) & (n <= last),
         Pair::Unknown => true,
         Pair::Neither => false,
     }
@@ -122,30 +106,14 @@ fn is_known(pair: Pair) -> bool
 pub fn is_birth(s: &[u8]) -> bool
     ensures { λ r. ⌜ r ≡ birthRule (now (s .entry)) ⌝ }
 {
-    let y = year(s);
-    let m = month(s);
-    let d = day(s);
-    if is_year(y) {
-        if is_month(m) {
-            is_day(days_in(y, m), d)
-        } else {
-            false
-        }
-    } else {
-        false
-    }
+    let year = pair_at(s, 0);
+    let month = pair_at(s, 2);
+    let day = pair_at(s, 4);
+    is_year(year) & (is_month(month) & is_day(days_in(year, month), day))
 }
 
 pub fn is_expiry(s: &[u8]) -> bool
     ensures { λ r. ⌜ r ≡ expiryRule (now (s .entry)) ⌝ }
 {
-    if is_known(year(s)) {
-        if is_known(month(s)) {
-            if is_known(day(s)) { is_birth(s) } else { false }
-        } else {
-            false
-        }
-    } else {
-        false
-    }
+    is_known(pair_at(s, 0)) & (is_known(pair_at(s, 2)) & is_known(pair_at(s, 4))) & is_birth(s)
 }

@@ -8,14 +8,10 @@ use zone::alphabet::is_letter;
 fn letters_then_fillers(a: u8, b: u8, c: u8) -> bool
     ensures { λ r. ⌜ r ≡ lettersThenFillers a b c ⌝ }
 {
-    if is_letter(a) {
-        if is_letter(b) {
-            if is_letter(c) { true } else { c == FILLER }
-        } else {
-            if b == FILLER { c == FILLER } else { false }
-        }
+    if is_letter(b) {
+        is_letter(a) & (is_letter(c) | (c == FILLER))
     } else {
-        false
+        is_letter(a) & ((b == FILLER) & (c == FILLER))
     }
 }
 
@@ -29,17 +25,13 @@ pub fn is_state(s: &[u8]) -> bool
 pub fn is_sex(c: u8) -> bool
     ensures { λ r. ⌜ r ≡ sexRule c ⌝ }
 {
-    match c {
-        77 => true,
-        70 => true,
-        _ => c == FILLER,
-    }
+    (c == b'M') | (c == b'F') | (c == FILLER)
 }
 
 fn is_name_character(c: u8) -> bool
     ensures { λ r. ⌜ r ≡ isNameCharacter c ⌝ }
 {
-    if is_letter(c) { true } else { c == FILLER }
+    is_letter(c) | (c == FILLER)
 }
 
 fn all_name_characters(s: &[u8]) -> bool
@@ -61,9 +53,5 @@ fn all_name_characters(s: &[u8]) -> bool
 pub fn is_name(s: &[u8]) -> bool
     ensures { λ r. ⌜ r ≡ nameRule (now (s .entry)) ⌝ }
 {
-    if is_letter(lent::octet(s, 0)) {
-        all_name_characters(s)
-    } else {
-        false
-    }
+    is_letter(lent::octet(s, 0)) & all_name_characters(s)
 }
