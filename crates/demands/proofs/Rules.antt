@@ -13,7 +13,7 @@ use Rattle.zone.specs.declared.form.Form.{Form}
 use Rattle.zone.specs.declared.form.Recognised.{Recognised}
 use Rattle.zone.specs.declared.form.Recognised.the-variants.{As, Unknown}
 use Rattle.zone.specs.Alphabet.{isCharacter, isFiller, isForeign, firstForeign}
-use Rattle.zone.proofs.Places.{first-none, none-first}
+use Rattle.zone.proofs.First.{first-none, none-first}
 use Rattle.zone.specs.Part.{Part, code, state, number, numberCheck, optional, birth, birthCheck, sex, expiry, expiryCheck, nationality, optional2, composite, name, personal, personalCheck}
 use Rattle.zone.specs.Form.{formOf, parts, start, width, total, field, covered}
 use Rattle.digit.specs.Check.{digitOf}

@@ -6,7 +6,7 @@ use borrow.Author.Needs.{needs}
 use borrow.Author.Tests.{eq-eqb, ne-eqb}
 use denote.Ref.{now}
 use lib.ListN.{length, drop}
-use Rattle.zone.proofs.Places.{first-miss, first-hit, first-end}
+use Rattle.zone.proofs.First.{first-miss, first-hit, first-end}
 use Rattle.zone.specs.Alphabet.{isFiller, first, firstFiller}
 use Rattle.zone.proofs.alphabet.first_filler.Statement.{statement}
 use Rattle.zone.proofs.alphabet.first_filler.Tie as tie

@@ -7,7 +7,7 @@ use mathlib.Core.Path.{ap}
 use mathlib.Core.Bool.{not}
 use denote.Ref.{now}
 use lib.ListN.{length, drop}
-use Rattle.zone.proofs.Places.{first-miss, first-hit, first-end}
+use Rattle.zone.proofs.First.{first-miss, first-hit, first-end}
 use Rattle.zone.specs.Alphabet.{isForeign, first, firstForeign}
 use Rattle.zone.proofs.alphabet.first_foreign.Statement.{statement}
 use Rattle.zone.proofs.alphabet.first_foreign.Tie as tie
