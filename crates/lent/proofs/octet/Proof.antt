@@ -4,20 +4,9 @@ use lib.ListN.{List·getD-eq-default}
 use borrow.Author.Needs.{needs}
 use Rattle.lent.proofs.octet.Statement.{statement}
 use Rattle.lent.proofs.octet.Tie as tie
-use Rattle.lent.proofs.octet.Reads as reads
-use Rattle.lent.proofs.octet.Lts as lts
-
--- src/lib.rt:10:23
-shared-slice-read-result : tie.Need-shared-slice-read-result
-shared-slice-read-result c = search needs
-
--- src/lib.rt:7:1
-returns : tie.Need-returns
-returns c = search needs
-
--- src/lib.rt:7:1
-returns-2 : tie.Need-returns-2
-returns-2 c = sym (List·getD-eq-default (now (c .before .args .s)) 0 (c .if1 .left))
 
 pub octet-spec : {M : Type 1} → statement M
-octet-spec = tie.close (tie.spec shared-slice-read-result returns returns-2)
+octet-spec = tie.close (tie.spec
+    (λ c. search needs)
+    (λ c. search needs)
+    (λ c. sym (List·getD-eq-default (now (c .before .args .s)) 0 (c .if1 .left))))

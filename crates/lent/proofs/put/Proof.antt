@@ -5,17 +5,9 @@ use borrow.Author.Needs.{needs}
 use Rattle.lent.proofs.put.Statement.{statement}
 use Rattle.lent.proofs.put.Tie as tie
 
-slice-write-to : tie.Need-slice-write-to
-slice-write-to c = search needs
-
-same-length : tie.Need-same-length
-same-length c = search needs
-
-returns : tie.Need-returns
-returns c = search needs
-
-returns-2 : tie.Need-returns-2
-returns-2 c = sym (set-out (c .before .args .to .now) (c .before .args .at) (c .before .args .c) (c .if1 .left))
-
 pub put-spec : {M : Type 1} → statement M
-put-spec = tie.close (tie.spec slice-write-to same-length returns returns-2)
+put-spec = tie.close (tie.spec
+    (λ c. search needs)
+    (λ c. search needs)
+    (λ c. search needs)
+    (λ c. sym (set-out (c .before .args .to .now) (c .before .args .at) (c .before .args .c) (c .if1 .left))))

@@ -3,17 +3,9 @@ use borrow.Author.Needs.{needs}
 use Rattle.refusal.proofs.Verdict.or_else.Statement.{statement}
 use Rattle.refusal.proofs.Verdict.or_else.Tie as tie
 
-enum-told : tie.Need-enum-told
-enum-told c = search needs
-
-enum-known-self : tie.Need-enum-known-self
-enum-known-self c = search needs
-
-returns : tie.Need-returns
-returns c = simp (c .enum-told .given .1)
-
-returns-2 : tie.Need-returns-2
-returns-2 c = simp (c .before .self .given .1)
-
 pub or-else-spec : {M : Type 1} → statement M
-or-else-spec = tie.close (tie.spec enum-told enum-known-self returns returns-2)
+or-else-spec = tie.close (tie.spec
+    (λ c. search needs)
+    (λ c. search needs)
+    (λ c. simp (c .enum-told .given .1))
+    (λ c. simp (c .before .self .given .1)))
