@@ -15,7 +15,7 @@ use Rattle.entry.specs.Entry.{puts}
 use Rattle.entry.specs.Run.{charactersAt}
 use Rattle.demands.proofs.Endings.{every-drop}
 use Rattle.demands.proofs.Places.{bitsOf, worth, number-place, worth-put, drop-put, isBit, put-bits, bits-of, put-worth, put-followed}
-use Rattle.demands.proofs.Characters.{isTold, code-tells, tells-code}
+use Rattle.zone.proofs.Coding.{isTold, code-tells, tells-code}
 
 -- ---- characters put
 

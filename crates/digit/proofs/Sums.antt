@@ -1,5 +1,6 @@
 -- The laws of a weighted sum: its parts are small, one more character, and pieces joined.
 use Prim.Native.Nat.{ℕ, zero, suc, _+_, _*_, _-_, _%_, _≤_, _<_}
+use Prim.Native.Char.{code}
 use mathlib.Core.Path.{_≡_, refl}
 use mathlib.Core.Bool.{Bool, true, false, cond}
 use mathlib.Core.List.{List, [], _∷_, _++_}
@@ -18,7 +19,7 @@ pub value-le : (c : ℕ) → value c ≤ 35
 unfolding value
 value-le c = go (isDigit c) refl (isLetter c) refl
   where
-    go : (d : Bool) → isDigit c ≡ d → (l : Bool) → isLetter c ≡ l → cond d (c - 48) (cond l (c - 55) 0) ≤ 35
+    go : (d : Bool) → isDigit c ≡ d → (l : Bool) → isLetter c ≡ l → cond d (c - code "0") (cond l (c - code "A" + 10) 0) ≤ 35
     go true p l q = omega (arith, digit-range c p .1)
     go false p true q = omega (arith, letter-range c q .1)
     go false p false q = omega arith

@@ -1,5 +1,6 @@
 -- The check digit: document 01, "The text" (Doc 9303-3, 4.9).
 use Prim.Native.Nat.{ℕ, suc, _+_, _*_, _-_, _%_}
+use Prim.Native.Char.{code}
 use mathlib.Core.Bool.{cond}
 use mathlib.Core.List.{List, [], _∷_}
 use lib.ListN.{length, getD}
@@ -8,7 +9,7 @@ use Rattle.digit.specs.declared.Tally.{Tally}
 
 -- digits count as themselves, A to Z as 10 to 35, `<` as 0
 unfoldable pub value : ℕ → ℕ
-value c = cond (isDigit c) (c - 48) (cond (isLetter c) (c - 55) 0)
+value c = cond (isDigit c) (c - code "0") (cond (isLetter c) (c - code "A" + 10) 0)
 
 -- weights 7, 3, 1 repeat
 unfoldable pub weight : ℕ → ℕ
@@ -25,11 +26,11 @@ checkOf s = sumFrom 0 s % 10
 
 -- written as a digit
 unfoldable pub digitOf : List ℕ → ℕ
-digitOf s = 48 + checkOf s
+digitOf s = code "0" + checkOf s
 
 -- no words of the paper: a sum under way goes on over further characters, with the weights where they stopped
 unfoldable pub Tally·over : Tally → List ℕ → Tally
 Tally·over t s = record { turn = (t .turn + length s) % 3; sum = (t .sum + sumFrom (t .turn) s) % 10 }
 
 unfoldable pub Tally·digit : Tally → ℕ
-Tally·digit t = 48 + t .sum % 10
+Tally·digit t = code "0" + t .sum % 10

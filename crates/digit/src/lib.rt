@@ -9,8 +9,8 @@ pub fn value(c: u8) -> usize
     ensures { λ r. ⌜ r ≡ value c ⌝ }
 {
     match c {
-        48..=57 => (c - 48) as usize,
-        65..=90 => (c - 55) as usize,
+        b'0'..=b'9' => (c - b'0') as usize,
+        b'A'..=b'Z' => (c - b'A' + 10) as usize,
         _ => 0,
     }
 }
@@ -59,7 +59,7 @@ impl Tally {
     pub fn digit(self) -> u8
         ensures { λ r. ⌜ r ≡ Tally·digit self ⌝ }
     {
-        48 + (self.sum % 10) as u8
+        b'0' + (self.sum % 10) as u8
     }
 }
 

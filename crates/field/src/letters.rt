@@ -37,16 +37,13 @@ fn is_name_character(c: u8) -> bool
 fn all_name_characters(s: &[u8]) -> bool
     ensures { λ r. ⌜ r ≡ every isNameCharacter (now (s .entry)) ⌝ }
 {
+    let mut fine = true;
     let mut i = 0;
     while i < s.len() {
-        let c = s[i];
-        if is_name_character(c) {
-            i += 1;
-        } else {
-            return false;
-        }
+        fine = fine & is_name_character(s[i]);
+        i += 1;
     }
-    true
+    fine
 }
 
 // Letters and fillers, the first a letter.

@@ -11,7 +11,7 @@ use lib.ListN.{length, take, drop, replicate, length-replicate, length-take, len
 use lib.Seq.{take-all}
 use Rattle.lent.specs.Copied.{copied, copiedAt}
 use Rattle.lent.proofs.Bools.{and-both}
-use Rattle.zone.specs.Alphabet.{isFiller}
+use Rattle.zone.specs.Alphabet.{filler, isFiller}
 use Rattle.zone.specs.Record.{trimmedLength, trimmed, padded}
 
 suc-sub : (n m : ℕ) → suc n - suc m ≡ n - m
@@ -23,7 +23,7 @@ drop-replicate (suc k) zero x = let e : 0 - suc k ≡ 0 = omega arith in rw e
 drop-replicate (suc k) (suc n) x = rw (suc-sub n k) (drop-replicate k n x)
 
 -- a copy over fillers
-pub copied-padded : (n : ℕ) (s : List ℕ) → copied (replicate n 60) s ≡ padded n s
+pub copied-padded : (n : ℕ) (s : List ℕ) → copied (replicate n filler) s ≡ padded n s
 unfolding padded
 copied-padded n s = rw (length-replicate, drop-replicate)
 
@@ -32,7 +32,7 @@ pub padded-cons : (n c : ℕ) (s : List ℕ) → padded (suc n) (c ∷ s) ≡ c 
 unfolding padded
 padded-cons n c s = rw (suc-sub n (length s))
 
-pub padded-nil : (n : ℕ) → padded n [] ≡ replicate n 60
+pub padded-nil : (n : ℕ) → padded n [] ≡ replicate n filler
 unfolding padded
 padded-nil zero = refl
 padded-nil (suc n) = rw (sub-zero (suc n))
@@ -63,7 +63,7 @@ take-padded zero (c ∷ a) = rw (padded-zero (c ∷ a))
 take-padded (suc n) [] = refl
 take-padded (suc n) (c ∷ a) = rw (padded-cons n c a, take-padded n a)
 
-pub drop-padded : (n : ℕ) (a : List ℕ) → drop (length a) (padded n a) ≡ replicate (n - length a) 60
+pub drop-padded : (n : ℕ) (a : List ℕ) → drop (length a) (padded n a) ≡ replicate (n - length a) filler
 drop-padded zero [] = padded-zero []
 drop-padded zero (c ∷ a) = let k : 0 - suc (length a) ≡ 0 = omega arith in rw (padded-zero (c ∷ a), k)
 drop-padded (suc n) [] = rw (padded-nil (suc n), sub-zero (suc n))
@@ -74,13 +74,13 @@ pub copied-behind : (n : ℕ) (a b : List ℕ) → copiedAt (padded n a) (length
 copied-behind n a b = rw (take-padded n a, drop-padded n a, copied-padded (n - length a) b, padded-append n a b)
 
 -- a list with room to spare
-pub padded-spare : (n : ℕ) (s : List ℕ) → length s ≤ n → padded n s ≡ s ++ replicate (n - length s) 60
+pub padded-spare : (n : ℕ) (s : List ℕ) → length s ≤ n → padded n s ≡ s ++ replicate (n - length s) filler
 unfolding padded
 padded-spare n s h = rw (take-all n s h)
 
 pub length-padded : (n : ℕ) (s : List ℕ) → length (padded n s) ≡ n
 unfolding padded
-length-padded n s = rw (length-append (take n s) (replicate (n - length s) 60), length-replicate, length-take) (omega arith)
+length-padded n s = rw (length-append (take n s) (replicate (n - length s) filler), length-replicate, length-take) (omega arith)
 
 -- the trimmed list is no longer than the list
 pub trimmed-le : (s : List ℕ) → trimmedLength s ≤ length s
@@ -102,10 +102,10 @@ padded-fillers : (n c : ℕ) (s : List ℕ) → isFiller c && eqb (trimmedLength
 unfolding isFiller
 padded-fillers n c s e h =
     let p = and-both (isFiller c) (eqb (trimmedLength s) 0) e in
-    let filler : c ≡ 60 = eqb-true c 60 (p .0) in
+    let same : c ≡ filler = eqb-true c filler (p .0) in
     let none : trimmedLength s ≡ 0 = eqb-true (trimmedLength s) 0 (p .1) in
     let rest : padded n [] ≡ padded n s = rw none at h in
-    rw (padded-cons n c s, ← rest, filler, padded-nil (suc n), padded-nil n)
+    rw (padded-cons n c s, ← rest, same, padded-nil (suc n), padded-nil n)
 
 -- trailing fillers make no difference
 pub padded-trimmed : (n : ℕ) (s : List ℕ) → padded n (trimmed s) ≡ padded n s

@@ -1,20 +1,23 @@
 -- The characters of the zone (document 01, "Refusal numbers", 2; Doc 9303-3, 4.3): A-Z, 0-9 and the filler `<`.
 use Prim.Native.Nat.{ℕ, suc}
+use Prim.Native.Char.{code}
 use mathlib.Core.Bool.{Bool, true, cond, not, _&&_, _||_}
 use mathlib.Core.List.{List, [], _∷_}
 use lib.Dec.{leb, eqb}
 
 -- 0 to 9
 unfoldable pub isDigit : ℕ → Bool
-isDigit c = leb 48 c && leb c 57
+isDigit c = leb (code "0") c && leb c (code "9")
 
 -- A to Z
 unfoldable pub isLetter : ℕ → Bool
-isLetter c = leb 65 c && leb c 90
+isLetter c = leb (code "A") c && leb c (code "Z")
 
--- `<`
+abbrev pub filler : ℕ
+filler = code "<"
+
 unfoldable pub isFiller : ℕ → Bool
-isFiller c = eqb c 60
+isFiller c = eqb c filler
 
 unfoldable pub isCharacter : ℕ → Bool
 isCharacter c = isDigit c || (isLetter c || isFiller c)

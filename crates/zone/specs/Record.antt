@@ -7,7 +7,7 @@ use lib.ListN.{length, take, replicate}
 use lib.Dec.{eqb}
 use Rattle.zone.specs.declared.form.Form.the-variants.{Td1}
 use Rattle.zone.specs.declared.record.Record.{Record}
-use Rattle.zone.specs.Alphabet.{isFiller}
+use Rattle.zone.specs.Alphabet.{filler, isFiller}
 use Rattle.zone.specs.Rooms.{codeRoom, stateRoom, dateRoom, numberRoom, nameRoom}
 
 -- the length without trailing fillers
@@ -21,19 +21,19 @@ trimmed s = take (trimmedLength s) s
 
 -- filled up with fillers to n places
 unfoldable pub padded : ℕ → List ℕ → List ℕ
-padded n s = take n s ++ replicate (n - length s) 60
+padded n s = take n s ++ replicate (n - length s) filler
 
 unfoldable pub blank : Record
 blank = record {
   form = Td1;
-  code = replicate codeRoom 60;
-  state = replicate stateRoom 60;
-  number = replicate numberRoom 60;
+  code = replicate codeRoom filler;
+  state = replicate stateRoom filler;
+  number = replicate numberRoom filler;
   «number_len» = 0;
-  nationality = replicate stateRoom 60;
-  birth = replicate dateRoom 60;
-  sex = 60;
-  expiry = replicate dateRoom 60;
-  name = replicate nameRoom 60;
+  nationality = replicate stateRoom filler;
+  birth = replicate dateRoom filler;
+  sex = filler;
+  expiry = replicate dateRoom filler;
+  name = replicate nameRoom filler;
   «name_len» = 0;
 }

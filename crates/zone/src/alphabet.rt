@@ -1,44 +1,47 @@
 // What a character of the zone is.
 ghost use mathlib.Core.Path.{_≡_};
-ghost use Rattle.zone.specs.Alphabet.{isDigit, isLetter, isCharacter, firstForeign, firstFiller};
+ghost use Rattle.zone.specs.Alphabet.{isDigit, isLetter, isCharacter, every, firstForeign, firstFiller};
 
-// The filler, `<`.
-pub const FILLER: u8 = 60;
+pub const FILLER: u8 = b'<';
 
 pub fn is_digit(c: u8) -> bool
     ensures { λ r. ⌜ r ≡ isDigit c ⌝ }
 {
-    match c {
-        48..=57 => true,
-        _ => false,
-    }
+    (b'0' <= c) & (c <= b'9')
 }
 
 pub fn is_letter(c: u8) -> bool
     ensures { λ r. ⌜ r ≡ isLetter c ⌝ }
 {
-    match c {
-        65..=90 => true,
-        _ => false,
-    }
+    (b'A' <= c) & (c <= b'Z')
 }
 
 pub fn is_character(c: u8) -> bool
     ensures { λ r. ⌜ r ≡ isCharacter c ⌝ }
 {
-    if is_digit(c) {
-        return true;
-    }
-    if is_letter(c) {
-        return true;
-    }
-    c == FILLER
+    is_digit(c) | (is_letter(c) | (c == FILLER))
 }
 
-// The place of the first octet outside the alphabet, or the length where there is none.
+// No octet outside the alphabet. The loop goes to the end in any case: so the compiler takes many characters at a time.
+pub fn all_characters(s: &[u8]) -> bool
+    ensures { λ r. ⌜ r ≡ every isCharacter (now (s .entry)) ⌝ }
+{
+    let mut fine = true;
+    let mut i = 0;
+    while i < s.len() {
+        fine = fine & is_character(s[i]);
+        i += 1;
+    }
+    fine
+}
+
+// The place of the first octet outside the alphabet, or the length where there is none, as nearly always.
 pub fn first_foreign(s: &[u8]) -> usize
     ensures { λ r. ⌜ r ≡ firstForeign (now (s .entry)) ⌝ }
 {
+    if all_characters(s) {
+        return s.len();
+    }
     let mut i = 0;
     while i < s.len() {
         let c = s[i];

@@ -13,8 +13,8 @@ pub fn code_of(c: u8) -> u8
     ensures { λ r. ⌜ (r ≡ codeOf c) × (r < 64) ⌝ }
 {
     match c {
-        48..=57 => c - 47,
-        65..=90 => c - 54,
+        b'0'..=b'9' => c - b'0' + 1,
+        b'A'..=b'Z' => c - b'A' + 11,
         _ => 0,
     }
 }

@@ -4,15 +4,9 @@ use Rattle.digit.specs.Check.{Tally·digit}
 use Rattle.digit.proofs.Tally.digit.Statement.{statement}
 use Rattle.digit.proofs.Tally.digit.Tie as tie
 
-cast-result : tie.Need-cast-result
-cast-result c = search needs
-
-add-result : tie.Need-add-result
-add-result c = search needs
-
-returns : tie.Need-returns
-unfolding Tally·digit
-returns c = search needs
-
 pub digit-spec : {M : Type 1} → statement M
-digit-spec = tie.close (tie.spec cast-result add-result returns)
+unfolding Tally·digit
+digit-spec = tie.close (tie.spec
+    (λ c. search needs)
+    (λ c. search needs)
+    (λ c. search needs))

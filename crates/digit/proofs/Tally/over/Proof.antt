@@ -25,15 +25,6 @@ abbrev μ-loop : tie.MeasureT-loop
 loop-holds : tie.Need-loop-holds Inv-loop μ-loop
 loop-holds c = (search needs, search needs, search needs, simp add-zero)
 
-shared-slice-read-value : tie.Need-shared-slice-read-value Inv-loop μ-loop
-shared-slice-read-value c = search needs
-
-value-requires : tie.Need-value-requires Inv-loop μ-loop
-value-requires c κs = search needs
-
-weight-requires : tie.Need-weight-requires Inv-loop μ-loop
-weight-requires c κs = search needs
-
 mul-sum : tie.Need-mul-sum Inv-loop μ-loop
 mul-sum c =
     let l = c .before .before .before .before .loop in
@@ -45,15 +36,6 @@ add-sum c =
     let l = c .before .before .before .before .loop in
     let s = now (c .before .before .before .before .before .before .before .before .args .s) in
     rw (c .before .value .ensures, c .weight .ensures) (omega (arith, weighed-le (getD s (l .i) 0) (l .turn)))
-
-add-turn : tie.Need-add-turn Inv-loop μ-loop
-add-turn c = search needs
-
-add-i : tie.Need-add-i Inv-loop μ-loop
-add-i c = search needs
-
-loop-less : tie.Need-loop-less Inv-loop μ-loop
-loop-less c = search needs
 
 loop-again : tie.Need-loop-again Inv-loop μ-loop
 loop-again c =
@@ -81,13 +63,13 @@ over-spec =
     Inv-loop
     μ-loop
     loop-holds
-    shared-slice-read-value
-    value-requires
-    weight-requires
+    (λ c. search needs)
+    (λ c κs. search needs)
+    (λ c κs. search needs)
     mul-sum
     add-sum
-    add-turn
-    add-i
-    loop-less
+    (λ c. search needs)
+    (λ c. search needs)
+    (λ c. search needs)
     loop-again
     returns)

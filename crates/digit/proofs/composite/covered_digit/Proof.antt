@@ -8,29 +8,18 @@ use Rattle.digit.proofs.Sums.{over-over, over-digit}
 use Rattle.digit.proofs.composite.covered_digit.Statement.{statement}
 use Rattle.digit.proofs.composite.covered_digit.Tie as tie
 
-covered-requires : tie.Need-covered-requires
-covered-requires c κs = search needs
-
-new-requires : tie.Need-new-requires
-new-requires c κs = search needs
-
-over-piece-requires : tie.Need-over-piece-requires
-over-piece-requires c κs = search needs
-
-over-piece-requires-2 : tie.Need-over-piece-requires-2
-over-piece-requires-2 c κs = search needs
-
-over-piece-requires-3 : tie.Need-over-piece-requires-3
-over-piece-requires-3 c κs = search needs
-
-over-piece-requires-4 : tie.Need-over-piece-requires-4
-over-piece-requires-4 c κs = search needs
-
-digit-requires : tie.Need-digit-requires
-digit-requires c κs = search needs
-
-returns : tie.Need-returns
-returns c =
+pub covered-digit-spec : {M : Type 1} → statement M
+covered-digit-spec =
+    tie.close
+    (tie.spec
+    (λ c κs. search needs)
+    (λ c κs. search needs)
+    (λ c κs. search needs)
+    (λ c κs. search needs)
+    (λ c κs. search needs)
+    (λ c κs. search needs)
+    (λ c κs. search needs)
+    (λ c.
     let t = now (c .before .before .before .before .before .before .before .before .args .text) in
     let f = coveredOf (c .before .before .before .before .before .before .before .before .args .form) in
     let new = c .before .before .before .before .before .new in
@@ -46,17 +35,4 @@ returns c =
       over-over,
       covered-four,
     )
-    (over-digit (new .result) (cut t (f .first) ++ (cut t (f .second) ++ (cut t (f .third) ++ cut t (f .fourth)))) (new .ensures .0) (new .ensures .1))
-
-pub covered-digit-spec : {M : Type 1} → statement M
-covered-digit-spec =
-    tie.close
-    (tie.spec
-    covered-requires
-    new-requires
-    over-piece-requires
-    over-piece-requires-2
-    over-piece-requires-3
-    over-piece-requires-4
-    digit-requires
-    returns)
+    (over-digit (new .result) (cut t (f .first) ++ (cut t (f .second) ++ (cut t (f .third) ++ cut t (f .fourth)))) (new .ensures .0) (new .ensures .1))))

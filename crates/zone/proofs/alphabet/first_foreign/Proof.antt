@@ -1,14 +1,14 @@
--- What is left from i on gives the same first foreign octet as the whole.
+-- Where every octet is a character there is none outside; else what is left from i on gives the same first one as the whole.
 use Prim.Native.Nat.{_+_, _≤_, _-_}
-use mathlib.Core.Path.{_≡_, sym, _∙_}
+use mathlib.Core.Path.{_≡_, ap, sym, _∙_}
+use mathlib.Core.Bool.{not}
 use native.Mathlib.Nat.{zero-add}
 use borrow.Author.Needs.{needs}
-use mathlib.Core.Path.{ap}
-use mathlib.Core.Bool.{not}
 use denote.Ref.{now}
 use lib.ListN.{length, drop}
+use Rattle.zone.specs.Alphabet.{isCharacter, isForeign, first, firstForeign}
+use Rattle.zone.proofs.Every.{every-first}
 use Rattle.zone.proofs.First.{first-miss, first-hit, first-end}
-use Rattle.zone.specs.Alphabet.{isForeign, first, firstForeign}
 use Rattle.zone.proofs.alphabet.first_foreign.Statement.{statement}
 use Rattle.zone.proofs.alphabet.first_foreign.Tie as tie
 
@@ -18,43 +18,37 @@ Inv-loop s i₀ i = (i ≤ length s) × (i + first isForeign (drop i s) ≡ firs
 abbrev μ-loop : tie.MeasureT-loop
 μ-loop s i₀ i = length s - i
 
+returns : tie.Need-returns Inv-loop μ-loop
+unfolding isForeign firstForeign
+returns c =
+    let s = now (c .before .before .before .args .s) in
+    sym (every-first isCharacter s (sym (c .before .all-characters .ensures) ∙ c .if1 .taken))
+
 loop-holds : tie.Need-loop-holds Inv-loop μ-loop
 unfolding firstForeign
-loop-holds c = (search needs, zero-add (firstForeign (now (c .before .args .s))))
-
-shared-slice-read-c : tie.Need-shared-slice-read-c Inv-loop μ-loop
-shared-slice-read-c c = search needs
-
-is-character-requires : tie.Need-is-character-requires Inv-loop μ-loop
-is-character-requires c κs = search needs
-
-add-i : tie.Need-add-i Inv-loop μ-loop
-add-i c = search needs
-
-loop-less : tie.Need-loop-less Inv-loop μ-loop
-loop-less c = search needs
+loop-holds c = (search needs, zero-add (firstForeign (now (c .before .before .before .args .s))))
 
 loop-again : tie.Need-loop-again Inv-loop μ-loop
 unfolding isForeign
 loop-again c =
-    let a = c .before .before .before .before .before .before .args in
-    let l = c .before .before .before .before .loop in (
-      search needs,
-      first-miss isForeign (now (a .s)) (l .i) (firstForeign (now (a .s))) (l .inv .1) (search needs) (ap not (sym (c .before .is-character .ensures) ∙ c .if1 .taken)),
-    )
-
-returns : tie.Need-returns Inv-loop μ-loop
-unfolding isForeign
-returns c =
-    let a = c .before .before .before .before .before .before .args in
     let l = c .before .before .before .before .loop in
-    first-hit isForeign (now (a .s)) (l .i) (firstForeign (now (a .s))) (l .inv .1) (search needs) (ap not (sym (c .before .is-character .ensures) ∙ c .if1 .left))
+    let s = now (c .before .before .before .before .before .before .before .before .args .s) in
+    let fine = ap not (sym (c .before .is-character .ensures) ∙ c .if2 .taken) in
+    (search needs, first-miss isForeign s (l .i) (firstForeign s) (l .inv .1) (search needs) fine)
 
 returns-2 : tie.Need-returns-2 Inv-loop μ-loop
+unfolding isForeign
 returns-2 c =
-    let a = c .before .before .before .args in
+    let l = c .before .before .before .before .loop in
+    let s = now (c .before .before .before .before .before .before .before .before .args .s) in
+    let foreign = ap not (sym (c .before .is-character .ensures) ∙ c .if2 .left) in
+    first-hit isForeign s (l .i) (firstForeign s) (l .inv .1) (search needs) foreign
+
+returns-3 : tie.Need-returns-3 Inv-loop μ-loop
+returns-3 c =
     let l = c .before .loop in
-    first-end isForeign (now (a .s)) (l .i) (firstForeign (now (a .s))) (l .inv .1) (c .loop-test .left)
+    let s = now (c .before .before .before .before .before .args .s) in
+    first-end isForeign s (l .i) (firstForeign s) (l .inv .1) (c .loop-test .left)
 
 pub first-foreign-spec : {M : Type 1} → statement M
 first-foreign-spec =
@@ -62,11 +56,13 @@ first-foreign-spec =
     (tie.spec
     Inv-loop
     μ-loop
-    loop-holds
-    shared-slice-read-c
-    is-character-requires
-    add-i
-    loop-less
-    loop-again
+    (λ c κs. search needs)
     returns
-    returns-2)
+    loop-holds
+    (λ c. search needs)
+    (λ c κs. search needs)
+    (λ c. search needs)
+    (λ c. search needs)
+    loop-again
+    returns-2
+    returns-3)

@@ -4,9 +4,7 @@ use Rattle.zone.proofs.Coding.{byCode, by-code}
 use Rattle.zone.proofs.codes.characters.Statement.{statement}
 use Rattle.zone.proofs.codes.characters.Tie as tie
 
-returns : tie.Need-returns
-unfolding characterOf byCode
-returns c = by-code
-
 pub characters-spec : {M : Type 1} → statement M
-characters-spec = tie.close (tie.spec returns)
+unfolding characterOf byCode
+characters-spec = tie.close (tie.spec
+    (λ c. by-code))

@@ -3,43 +3,16 @@ use borrow.Author.Needs.{needs}
 use Rattle.zone.proofs.form.Form.covered.Statement.{statement}
 use Rattle.zone.proofs.form.Form.covered.Tie as tie
 
-enum-told : tie.Need-enum-told
-enum-told c = search needs
-
-td1-covered-requires : tie.Need-td1-covered-requires
-td1-covered-requires c κs = search needs
-
-enum-told-2 : tie.Need-enum-told-2
-enum-told-2 c = search needs
-
-td2-covered-requires : tie.Need-td2-covered-requires
-td2-covered-requires c κs = search needs
-
-enum-told-3 : tie.Need-enum-told-3
-enum-told-3 c = search needs
-
-td3-covered-requires : tie.Need-td3-covered-requires
-td3-covered-requires c κs = search needs
-
-returns : tie.Need-returns
-returns c = simp (← c .td1-covered .ensures, c .before .enum-told .given .1)
-
-returns-2 : tie.Need-returns-2
-returns-2 c = simp (← c .td2-covered .ensures, c .before .enum-told2 .given .1)
-
-returns-3 : tie.Need-returns-3
-returns-3 c = simp (← c .td3-covered .ensures, c .before .enum-told3 .given .1)
-
 pub covered-spec : {M : Type 1} → statement M
 covered-spec =
     tie.close
     (tie.spec
-    enum-told
-    td1-covered-requires
-    enum-told-2
-    td2-covered-requires
-    enum-told-3
-    td3-covered-requires
-    returns
-    returns-2
-    returns-3)
+    (λ c. search needs)
+    (λ c κs. search needs)
+    (λ c. search needs)
+    (λ c κs. search needs)
+    (λ c. search needs)
+    (λ c κs. search needs)
+    (λ c. simp (← c .td1-covered .ensures, c .before .enum-told .given .1))
+    (λ c. simp (← c .td2-covered .ensures, c .before .enum-told2 .given .1))
+    (λ c. simp (← c .td3-covered .ensures, c .before .enum-told3 .given .1)))
