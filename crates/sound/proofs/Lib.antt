@@ -1,1 +1,1 @@
-pub mod Solid
+pub mod Rooms

@@ -1,0 +1,43 @@
+-- What was passed and what is left decide for the whole.
+use Prim.Native.Nat.{_≤_, _-_}
+use mathlib.Core.Path.{_≡_, refl}
+use mathlib.Core.Bool.{_&&_}
+use borrow.Author.Needs.{needs}
+use denote.Ref.{now}
+use lib.ListN.{length, drop}
+use Rattle.zone.specs.Alphabet.{every, isFiller}
+use Rattle.zone.proofs.Every.{every-step, every-done}
+use Rattle.sound.specs.Sound.{isSolid}
+use Rattle.sound.proofs.fields.all_solid.Statement.{statement}
+use Rattle.sound.proofs.fields.all_solid.Tie as tie
+
+abbrev Inv-loop : tie.InvT-loop
+Inv-loop s fine₀ i₀ fine i = (i ≤ length s) × (fine && every isSolid (drop i s) ≡ every isSolid s)
+
+abbrev μ-loop : tie.MeasureT-loop
+μ-loop s fine₀ i₀ fine i = length s - i
+
+loop-again : tie.Need-loop-again Inv-loop μ-loop
+unfolding isSolid isFiller
+loop-again c =
+    let l = c .before .before .loop in
+    let s = now (c .before .before .before .args .s) in
+    (search needs, every-step isSolid s (l .i) (l .fine) (l .inv .1) (search needs))
+
+returns : tie.Need-returns Inv-loop μ-loop
+returns c =
+    let l = c .before .loop in
+    every-done isSolid (now (c .before .before .args .s)) (l .i) (l .fine) (l .inv .1) (c .loop-test .left)
+
+pub all-solid-spec : {M : Type 1} → statement M
+all-solid-spec =
+    tie.close
+    (tie.spec
+    Inv-loop
+    μ-loop
+    (λ c. (search needs, refl))
+    (λ c. search needs)
+    (λ c. search needs)
+    (λ c. search needs)
+    loop-again
+    returns)
