@@ -12,7 +12,8 @@ use lib.ListN.{length, drop, getD, length-append, drop-of-length-le}
 use lib.Seq.{drop-cons}
 use Rattle.zone.specs.Alphabet.{isDigit, isLetter}
 use Rattle.zone.proofs.Classes.{digit-range, letter-range}
-use Rattle.digit.specs.Check.{value, weight, sumFrom, checkOf, digitOf, Tally·over, Tally·digit}
+use Rattle.digit.specs.Check.{value, weight, sumFrom, checkOf, digitOf}
+use Rattle.digit.specs.Inner.Tally.{Tally·over, Tally·digit}
 use Rattle.digit.specs.declared.Tally.{Tally}
 
 pub value-le : (c : ℕ) → value c ≤ 35

@@ -3,9 +3,8 @@ use Prim.Native.Nat.{ℕ, suc, _+_, _*_, _-_, _%_}
 use Prim.Native.Char.{code}
 use mathlib.Core.Bool.{cond}
 use mathlib.Core.List.{List, [], _∷_}
-use lib.ListN.{length, getD}
+use lib.ListN.{getD}
 use Rattle.zone.specs.Alphabet.{isDigit, isLetter}
-use Rattle.digit.specs.declared.Tally.{Tally}
 
 -- digits count as themselves, A to Z as 10 to 35, `<` as 0
 unfoldable pub value : ℕ → ℕ
@@ -27,10 +26,3 @@ checkOf s = sumFrom 0 s % 10
 -- written as a digit
 unfoldable pub digitOf : List ℕ → ℕ
 digitOf s = code "0" + checkOf s
-
--- no words of the paper: a sum under way goes on over further characters, with the weights where they stopped
-unfoldable pub Tally·over : Tally → List ℕ → Tally
-Tally·over t s = record { turn = (t .turn + length s) % 3; sum = (t .sum + sumFrom (t .turn) s) % 10 }
-
-unfoldable pub Tally·digit : Tally → ℕ
-Tally·digit t = code "0" + t .sum % 10

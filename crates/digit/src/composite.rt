@@ -1,7 +1,8 @@
 // The composite digit: of several pieces of a text, joined as its form says.
 ghost use mathlib.Core.Path.{_≡_};
 ghost use Rattle.zone.specs.Form.{cut, covered};
-ghost use Rattle.digit.specs.Check.{digitOf, Tally·over};
+ghost use Rattle.digit.specs.Check.{digitOf};
+ghost use Rattle.digit.specs.Inner.Tally.{Tally·over};
 use crate::Tally;
 use zone::form::Form;
 use zone::form::Piece;

@@ -1,6 +1,7 @@
 // The check digit of Doc 9303-3: weights 7, 3, 1 over a field, or over several pieces as if they were joined.
 ghost use mathlib.Core.Path.{_≡_};
-ghost use Rattle.digit.specs.Check.{value, weight, digitOf, Tally·over, Tally·digit};
+ghost use Rattle.digit.specs.Check.{value, weight, digitOf};
+ghost use Rattle.digit.specs.Inner.Tally.{Tally·over, Tally·digit};
 
 pub mod composite;
 

@@ -4,7 +4,8 @@ use mathlib.Core.Path.{_≡_, refl}
 use mathlib.Core.List.{List, _++_, append-nil}
 use Rattle.zone.specs.declared.form.Form.{Form}
 use Rattle.zone.specs.declared.form.Form.the-variants.{Td1, Td2, Td3}
-use Rattle.zone.specs.Form.{covered, joinedCuts, pieces, pieceOf, covers, line, cut, coveredOf, pieceAt}
+use Rattle.zone.specs.Form.{covered, joinedCuts, pieces, pieceOf, covers, line, cut}
+use Rattle.zone.specs.Inner.Pieces.{coveredOf, pieceAt}
 
 pub covered-four : (f : Form) (t : List ℕ)
     → covered f t

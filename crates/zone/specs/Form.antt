@@ -2,7 +2,7 @@
 use Prim.Native.Nat.{ℕ, _+_, _-_, _*_}
 use mathlib.Core.Bool.{cond}
 use mathlib.Core.List.{List, [], _∷_, _++_, map}
-use lib.ListN.{take, drop, getD}
+use lib.ListN.{take, drop}
 use lib.Dec.{eqb}
 use Rattle.zone.specs.declared.form.Form.{Form}
 use Rattle.zone.specs.declared.form.Form.the-variants.{Td1, Td2, Td3}
@@ -10,7 +10,6 @@ use Rattle.zone.specs.declared.form.Recognised.{Recognised}
 use Rattle.zone.specs.declared.form.Recognised.the-variants.{As, Unknown}
 use Rattle.zone.specs.declared.form.Places.{Places}
 use Rattle.zone.specs.declared.form.Piece.{Piece}
-use Rattle.zone.specs.declared.form.Covered.{Covered}
 use Rattle.zone.specs.Part.{Part, code, state, number, numberCheck, optional, birth, birthCheck, sex, expiry, expiryCheck, nationality, optional2, composite, name, personal, personalCheck, same}
 
 infix 70 _of_
@@ -126,10 +125,3 @@ placesOf f = record {
   composite = start f composite;
   name = start f name;
 }
-
--- the i-th piece that the composite covers, empty where there are fewer
-unfoldable pub pieceAt : Form → ℕ → Piece
-pieceAt f i = getD (pieces f) i (record { start = 0; width = 0 })
-
-unfoldable pub coveredOf : Form → Covered
-coveredOf f = record { first = pieceAt f 0; second = pieceAt f 1; third = pieceAt f 2; fourth = pieceAt f 3 }

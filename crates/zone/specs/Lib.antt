@@ -4,3 +4,4 @@ pub mod Part
 pub mod Form
 pub mod Rooms
 pub mod Record
+pub mod Inner

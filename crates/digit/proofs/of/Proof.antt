@@ -3,7 +3,7 @@ use borrow.Author.Needs.{needs}
 use denote.Ref.{now}
 use mathlib.Core.Path.{_∙_, ap}
 use Rattle.digit.proofs.Sums.{over-digit}
-use Rattle.digit.specs.Check.{Tally·digit}
+use Rattle.digit.specs.Inner.Tally.{Tally·digit}
 use Rattle.digit.proofs.of.Statement.{statement}
 use Rattle.digit.proofs.of.Tie as tie
 

@@ -1,6 +1,6 @@
 -- A number below 10 fits an octet.
 use borrow.Author.Needs.{needs}
-use Rattle.digit.specs.Check.{Tally·digit}
+use Rattle.digit.specs.Inner.Tally.{Tally·digit}
 use Rattle.digit.proofs.Tally.digit.Statement.{statement}
 use Rattle.digit.proofs.Tally.digit.Tie as tie
 

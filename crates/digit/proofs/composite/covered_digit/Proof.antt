@@ -2,7 +2,8 @@
 use borrow.Author.Needs.{needs}
 use denote.Ref.{now}
 use mathlib.Core.List.{_++_}
-use Rattle.zone.specs.Form.{cut, coveredOf}
+use Rattle.zone.specs.Form.{cut}
+use Rattle.zone.specs.Inner.Pieces.{coveredOf}
 use Rattle.zone.proofs.Covers.{covered-four}
 use Rattle.digit.proofs.Sums.{over-over, over-digit}
 use Rattle.digit.proofs.composite.covered_digit.Statement.{statement}

@@ -1,6 +1,7 @@
 -- The pieces that the paper gives as places of lines.
 use mathlib.Core.Path.{refl}
-use Rattle.zone.specs.Form.{coveredOf, pieceAt, pieces, pieceOf, covers, line}
+use Rattle.zone.specs.Form.{pieces, pieceOf, covers, line}
+use Rattle.zone.specs.Inner.Pieces.{coveredOf, pieceAt}
 use Rattle.zone.proofs.form.td1_covered.Statement.{statement}
 use Rattle.zone.proofs.form.td1_covered.Tie as tie
 
