@@ -1,1 +1,1 @@
-pub mod Sums
+pub mod Sums  -- the weighted sum: its bounds, one character more, and pieces joined

@@ -36,8 +36,8 @@ weight-le i = go (i % 3) (mod-lt i (lit< tt))
     go (suc (suc (suc k))) h = omega arith
 
 -- what one character adds
-pub weighed-le : (c i : ℕ) → value c * weight i ≤ 245
-weighed-le c i = mul-le-mul (value-le c) (weight-le i)
+pub weighed-le : {a b : ℕ} (c i : ℕ) → a ≡ value c → b ≡ weight i → a * b ≤ 245
+weighed-le c i p q = rw (p, q) (mul-le-mul (value-le c) (weight-le i))
 
 -- weights repeat
 pub weight-mod : (i : ℕ) → weight (i % 3) ≡ weight i
@@ -69,13 +69,17 @@ sum-append i (c ∷ a) b =
     rw (k, sum-append (suc i) a b) (omega arith)
 
 -- where the loop ends: nothing is left, and the sum is below 10
-pub sum-ends : (t : Tally) (s : List ℕ) (i turn sum : ℕ) → length s ≤ i → i ≤ length s → sum < 10 → turn ≡ (t .turn % 3 + i) % 3
+pub sum-ends : (t : Tally) (s : List ℕ) (i turn sum : ℕ) → length s ≤ i → i ≤ length s → sum < 10
+    → turn ≡ (t .turn % 3 + i) % 3
     → (sum + sumFrom (t .turn % 3 + i) (drop i s)) % 10 ≡ (t .sum % 10 + sumFrom (t .turn % 3) s) % 10
-    → turn ≡ Tally·over t s .turn × sum ≡ Tally·over t s .sum
+    → _≡_ {A = Tally} (record { turn = turn; sum = sum }) (Tally·over t s)
 unfolding Tally·over sumFrom
 sum-ends t s i turn sum h k l e f =
     let g : (sum + 0) % 10 ≡ (t .sum % 10 + sumFrom (t .turn % 3) s) % 10 = rw (drop-of-length-le s h) at f in
-    (omega arith, omega (arith, g, sum-mod (t .turn % 3) (t .turn) s (mod-mod (t .turn) 3)))
+    let turns : turn ≡ (t .turn + length s) % 3 = omega arith in
+    let sums : sum ≡ (t .sum + sumFrom (t .turn) s) % 10 =
+    omega (arith, g, sum-mod (t .turn % 3) (t .turn) s (mod-mod (t .turn) 3)) in
+    λ j. record { turn = turns j; sum = sums j }
 
 -- pieces joined: the sum over the one and then the other is the sum over both
 pub over-over : (t : Tally) (a b : List ℕ) → Tally·over (Tally·over t a) b ≡ Tally·over t (a ++ b)
@@ -85,8 +89,11 @@ over-over t a b = λ i. record { turn = turns i; sum = sums i }
     turns : ((t .turn + length a) % 3 + length b) % 3 ≡ (t .turn + length (a ++ b)) % 3
     turns = rw (length-append a b) (omega arith)
 
-    sums : ((t .sum + sumFrom (t .turn) a) % 10 + sumFrom ((t .turn + length a) % 3) b) % 10 ≡ (t .sum + sumFrom (t .turn) (a ++ b)) % 10
-    sums = rw (sum-append (t .turn) a b, sum-mod ((t .turn + length a) % 3) (t .turn + length a) b (mod-mod (t .turn + length a) 3)) (omega arith)
+    sums : ((t .sum + sumFrom (t .turn) a) % 10 + sumFrom ((t .turn + length a) % 3) b) % 10
+        ≡ (t .sum + sumFrom (t .turn) (a ++ b)) % 10
+    sums =
+        let k = t .turn + length a in
+        rw (sum-append (t .turn) a b, sum-mod (k % 3) k b (mod-mod k 3)) (omega arith)
 
 -- a sum from nothing, written as a digit, is the check digit
 pub over-digit : (t : Tally) (s : List ℕ) → t .turn ≡ 0 → t .sum ≡ 0 → Tally·digit (Tally·over t s) ≡ digitOf s

@@ -1,18 +1,18 @@
 -- A sum from nothing.
 use borrow.Author.Needs.{needs}
 use denote.Ref.{now}
-use mathlib.Core.Path.{_∙_, ap}
 use Rattle.digit.proofs.Sums.{over-digit}
-use Rattle.digit.specs.Inner.Tally.{Tally·digit}
 use Rattle.digit.proofs.of.Statement.{statement}
 use Rattle.digit.proofs.of.Tie as tie
 
 pub of-spec : {M : Type 1} → statement M
-of-spec = tie.close (tie.spec
+of-spec =
+    tie.close
+    (tie.spec
     (λ c κs. search needs)
     (λ c κs. search needs)
     (λ c κs. search needs)
     (λ c.
     let t = c .before .before .new in
-    c .digit .ensures
-    ∙ (ap Tally·digit (c .before .over .ensures) ∙ over-digit (t .result) (now (c .before .before .before .before .args .s)) (t .ensures .0) (t .ensures .1))))
+    let s = now (c .before .before .before .before .args .s) in
+    rw (c .digit .ensures, c .before .over .ensures) (over-digit (t .result) s (t .ensures .0) (t .ensures .1))))

@@ -6,9 +6,9 @@ use native.Mathlib.Omega.{arith}
 use borrow.Author.Needs.{needs}
 use denote.Ref.{now}
 use lib.Dec.{lit<}
-use lib.ListN.{length, drop, getD}
+use lib.ListN.{length, drop}
 use Rattle.digit.proofs.Sums.{weighed-le, weight-mod, sum-more, sum-ends}
-use Rattle.digit.specs.Check.{value, weight, sumFrom}
+use Rattle.digit.specs.Check.{sumFrom}
 use Rattle.digit.proofs.Tally.over.Statement.{statement}
 use Rattle.digit.proofs.Tally.over.Tie as tie
 
@@ -22,39 +22,24 @@ Inv-loop s turn₀ sum₀ i₀ turn sum i =
 abbrev μ-loop : tie.MeasureT-loop
 μ-loop s turn₀ sum₀ i₀ turn sum i = length s - i
 
-loop-holds : tie.Need-loop-holds Inv-loop μ-loop
-loop-holds c = (search needs, search needs, search needs, simp add-zero)
-
-mul-sum : tie.Need-mul-sum Inv-loop μ-loop
-mul-sum c =
-    let l = c .before .before .before .before .loop in
-    let s = now (c .before .before .before .before .before .before .before .before .args .s) in
-    rw (c .before .value .ensures, c .weight .ensures) (omega (arith, weighed-le (getD s (l .i) 0) (l .turn)))
-
-add-sum : tie.Need-add-sum Inv-loop μ-loop
-add-sum c =
-    let l = c .before .before .before .before .loop in
-    let s = now (c .before .before .before .before .before .before .before .before .args .s) in
-    rw (c .before .value .ensures, c .weight .ensures) (omega (arith, weighed-le (getD s (l .i) 0) (l .turn)))
-
 loop-again : tie.Need-loop-again Inv-loop μ-loop
 loop-again c =
     let l = c .before .before .before .before .loop in
     let a = c .before .before .before .before .before .before .before .before .args in
-    let s = now (a .s) in
-    let h : l .i < length s = omega arith in (
+    let h : l .i < length (now (a .s)) = omega arith in
+    let more = sum-more (a .self .turn % 3) (l .sum) (l .i) (now (a .s)) h ∙ l .inv .3 in (
       search needs,
       omega arith,
       mod-lt _ (lit< tt),
-      rw (c .before .value .ensures, c .weight .ensures, l .inv .1, weight-mod) (sum-more (a .self .turn % 3) (l .sum) (l .i) s h ∙ l .inv .3),
+      rw (c .before .value .ensures, c .weight .ensures, l .inv .1, weight-mod) more,
     )
 
 returns : tie.Need-returns Inv-loop μ-loop
 returns c =
     let l = c .before .loop in
     let a = c .before .before .before .before .before .args in
-    let e = sum-ends (a .self) (now (a .s)) (l .i) (l .turn) (l .sum) (c .loop-test .left) (l .inv .0) (l .inv .2) (l .inv .1) (l .inv .3) in
-    λ i. record { turn = e .0 i; sum = e .1 i }
+    sum-ends (a .self) (now (a .s)) (l .i) (l .turn) (l .sum) (c .loop-test .left)
+    (l .inv .0) (l .inv .2) (l .inv .1) (l .inv .3)
 
 pub over-spec : {M : Type 1} → statement M
 over-spec =
@@ -62,12 +47,12 @@ over-spec =
     (tie.spec
     Inv-loop
     μ-loop
-    loop-holds
+    (λ c. (search needs, search needs, search needs, simp add-zero))
     (λ c. search needs)
     (λ c κs. search needs)
     (λ c κs. search needs)
-    mul-sum
-    add-sum
+    (λ c. omega (arith, weighed-le _ _ (c .before .value .ensures) (c .weight .ensures)))
+    (λ c. omega (arith, weighed-le _ _ (c .before .value .ensures) (c .weight .ensures)))
     (λ c. search needs)
     (λ c. search needs)
     (λ c. search needs)

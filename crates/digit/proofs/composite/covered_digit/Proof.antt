@@ -1,9 +1,7 @@
 -- A sum that goes on over four pieces is the sum over all of them joined.
 use borrow.Author.Needs.{needs}
 use denote.Ref.{now}
-use mathlib.Core.List.{_++_}
-use Rattle.zone.specs.Form.{cut}
-use Rattle.zone.specs.Inner.Pieces.{coveredOf}
+use Rattle.zone.specs.Form.{covered}
 use Rattle.zone.proofs.Covers.{covered-four}
 use Rattle.digit.proofs.Sums.{over-over, over-digit}
 use Rattle.digit.proofs.composite.covered_digit.Statement.{statement}
@@ -21,8 +19,7 @@ covered-digit-spec =
     (λ c κs. search needs)
     (λ c κs. search needs)
     (λ c.
-    let t = now (c .before .before .before .before .before .before .before .before .args .text) in
-    let f = coveredOf (c .before .before .before .before .before .before .before .before .args .form) in
+    let a = c .before .before .before .before .before .before .before .before .args in
     let new = c .before .before .before .before .before .new in
     rw (
       c .digit .ensures,
@@ -34,6 +31,6 @@ covered-digit-spec =
       over-over,
       over-over,
       over-over,
-      covered-four,
+      ← covered-four,
     )
-    (over-digit (new .result) (cut t (f .first) ++ (cut t (f .second) ++ (cut t (f .third) ++ cut t (f .fourth)))) (new .ensures .0) (new .ensures .1))))
+    (over-digit (new .result) (covered (a .form) (now (a .text))) (new .ensures .0) (new .ensures .1))))
