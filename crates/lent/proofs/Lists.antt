@@ -3,7 +3,7 @@ use mathlib.Core.Path.{_≡_, refl, sym, _∙_}
 use mathlib.Core.List.{List, [], _++_, append-nil}
 use mathlib.Core.Logic.{_⊎_, inl, inr}
 use Prim.Native.Nat.{ℕ, zero, suc, _+_, _-_, _≤_, _<_}
-use native.Mathlib.Nat.{zero-add}
+use native.Mathlib.Nat.{zero-add, le-of-eq}
 use native.Mathlib.Numerals.{add-one}
 use native.Mathlib.Omega.{arith}
 use lib.ListN.{length, take, drop, getD, set, length-drop, drop-of-length-le, replicate}
@@ -14,14 +14,14 @@ use lib.Seq.{drop-nil, take-all, paste-suc, take-length, drop-length}
 pub copy-more : (to from : List ℕ) (i : ℕ) → i < length to → i < length from
     → set (take i from ++ drop i to) i (getD from i 0) ≡ take (i + 1) from ++ drop (i + 1) to
 copy-more to from i ht hf =
-    simp (add-one, zero-add) (simp zero-add at (paste-suc to 0 from i 0 (simp zero-add ht) hf))
+    simp add-one (simp zero-add at (paste-suc to 0 from i 0 (simp zero-add ht) hf))
 
--- a part that ends past the end is all that is left
+-- a part up to the end is all that is left, and so is one that ends past it
+pub rest-all : (s : List ℕ) (at : ℕ) → take (length s - at) (drop at s) ≡ drop at s
+rest-all s at = take-all (length s - at) (drop at s) (le-of-eq (length-drop at s))
+
 pub take-rest : (n at : ℕ) (s : List ℕ) → length s - at ≤ n → take (length s - at) (drop at s) ≡ take n (drop at s)
-take-rest n at s h =
-    let le : length (drop at s) ≤ n = rw length-drop h in
-    let le′ : length (drop at s) ≤ length s - at = rw length-drop (omega arith) in
-    take-all (length s - at) (drop at s) le′ ∙ sym (take-all n (drop at s) le)
+take-rest n at s h = rest-all s at ∙ sym (take-all n (drop at s) (rw length-drop h))
 
 pub take-none : (n at : ℕ) (s : List ℕ) → length s ≤ at → [] ≡ take n (drop at s)
 take-none zero at s h = refl
@@ -51,9 +51,7 @@ pub copy-into : (to : List ℕ) (at : ℕ) (from back : List ℕ)
     → back ≡ copied (take (length to - at) (drop at to)) from
     → take at to ++ (back ++ drop (length to - at) (drop at to)) ≡ copiedAt to at from
 copy-into to at from back e =
-    let k : length (drop at to) ≤ length to - at = rw length-drop (omega arith) in
-    let w : take (length to - at) (drop at to) ≡ drop at to = take-all (length to - at) (drop at to) k in
-    rw (e, w, drop-of-length-le (drop at to) k, append-nil)
+    rw (e, rest-all to at, drop-of-length-le (drop at to) (le-of-eq (length-drop at to)), append-nil)
 
 -- a range filled to its end
 pub fill-ends : (to : List ℕ) (c i : ℕ) → length to ≤ i → i ≤ length to → replicate i c ++ drop i to ≡ replicate (length to) c

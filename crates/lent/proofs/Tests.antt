@@ -1,4 +1,5 @@
--- The lemmas that close a leaf function of tests: each turns what a branch showed into the definition's own test. Every crate above cites the set.
+-- The lemmas that close a leaf function of tests: each turns what a branch showed into the definition's own test. Every crate
+-- above cites the set.
 use Prim.Native.Nat.{ℕ, _<_}
 use lib.Dec.{T, leb, leb→le}
 use native.Mathlib.Nat.{lt-of-lt-of-le}

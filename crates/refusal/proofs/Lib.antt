@@ -1,1 +1,1 @@
-pub mod Outcomes
+pub mod Outcomes  -- `orElse`: what stands in what order decides

@@ -1,1 +1,1 @@
-pub mod Rooms
+pub mod Rooms  -- the room of each field, and the characters behind the ninth

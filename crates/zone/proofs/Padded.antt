@@ -1,4 +1,5 @@
--- The laws of `padded`: a copy over fillers is one, two copies one behind the other are one, and trailing fillers make no difference.
+-- The laws of `padded`: a copy over fillers is one, two copies one behind the other are one, and trailing fillers make no
+-- difference.
 use Prim.Native.Nat.{ℕ, zero, suc, _+_, _-_, _≤_}
 use mathlib.Core.Path.{_≡_, refl}
 use mathlib.Core.Bool.{Bool, true, false, cond, _&&_}
@@ -97,7 +98,8 @@ unfolding trimmed
 trimmed-length s = rw length-take (omega (arith, trimmed-le s))
 
 -- a filler before nothing but fillers
-padded-fillers : (n c : ℕ) (s : List ℕ) → isFiller c && eqb (trimmedLength s) 0 ≡ true → padded n (take (trimmedLength s) s) ≡ padded n s
+padded-fillers : (n c : ℕ) (s : List ℕ) → isFiller c && eqb (trimmedLength s) 0 ≡ true
+    → padded n (take (trimmedLength s) s) ≡ padded n s
     → padded (suc n) [] ≡ padded (suc n) (c ∷ s)
 unfolding isFiller
 padded-fillers n c s e h =

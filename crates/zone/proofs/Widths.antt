@@ -4,25 +4,27 @@ use mathlib.Core.Path.{_≡_, refl}
 use mathlib.Core.Bool.{Bool, true, false, cond}
 use mathlib.Core.List.{List, [], _∷_}
 use native.Mathlib.Omega.{arith}
+use borrow.Author.Needs.{needs}
 use Rattle.zone.specs.declared.form.Form.{Form}
 use Rattle.zone.specs.declared.form.Form.the-variants.{Td1, Td2, Td3}
 use Rattle.zone.specs.Part.{Part, code, state, number, birth, sex, expiry, nationality, rank, same}
+use Rattle.zone.specs.Rooms.{codeRoom, stateRoom, dateRoom, nine}
 use Rattle.zone.specs.Form.{Cell, _of_, layout, startIn, start, widthIn, width, total}
 
 pub record Fixed (f : Form) : Type 0 where
-  pub code-width : width f code ≡ 2
-  pub state-width : width f state ≡ 3
-  pub number-width : width f number ≡ 9
-  pub nationality-width : width f nationality ≡ 3
-  pub birth-width : width f birth ≡ 6
+  pub code-width : width f code ≡ codeRoom
+  pub state-width : width f state ≡ stateRoom
+  pub number-width : width f number ≡ nine
+  pub nationality-width : width f nationality ≡ stateRoom
+  pub birth-width : width f birth ≡ dateRoom
   pub sex-width : width f sex ≡ 1
-  pub expiry-width : width f expiry ≡ 6
+  pub expiry-width : width f expiry ≡ dateRoom
 
 pub fixed : (f : Form) → Fixed f
 unfolding layout width widthIn rank same
-fixed Td1 = record { code-width = refl; state-width = refl; number-width = refl; nationality-width = refl; birth-width = refl; sex-width = refl; expiry-width = refl }
-fixed Td2 = record { code-width = refl; state-width = refl; number-width = refl; nationality-width = refl; birth-width = refl; sex-width = refl; expiry-width = refl }
-fixed Td3 = record { code-width = refl; state-width = refl; number-width = refl; nationality-width = refl; birth-width = refl; sex-width = refl; expiry-width = refl }
+fixed Td1 = search needs
+fixed Td2 = search needs
+fixed Td3 = search needs
 
 totalIn : List Cell → ℕ
 totalIn [] = 0

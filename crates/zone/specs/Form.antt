@@ -10,7 +10,8 @@ use Rattle.zone.specs.declared.form.Recognised.{Recognised}
 use Rattle.zone.specs.declared.form.Recognised.the-variants.{As, Unknown}
 use Rattle.zone.specs.declared.form.Places.{Places}
 use Rattle.zone.specs.declared.form.Piece.{Piece}
-use Rattle.zone.specs.Part.{Part, code, state, number, numberCheck, optional, birth, birthCheck, sex, expiry, expiryCheck, nationality, optional2, composite, name, personal, personalCheck, same}
+use Rattle.zone.specs.Part.{Part, code, state, number, numberCheck, optional, birth, birthCheck, sex, expiry, expiryCheck}
+use Rattle.zone.specs.Part.{nationality, optional2, composite, name, personal, personalCheck, same}
 
 infix 70 _of_
 -- a part and its width in characters
@@ -20,14 +21,18 @@ pub data Cell : Type 0 where
 unfoldable pub layout : Form → List Cell
 layout Td1 =
     code of 2 ∷ state of 3 ∷ number of 9 ∷ numberCheck of 1 ∷ optional of 15
-    ∷ birth of 6 ∷ birthCheck of 1 ∷ sex of 1 ∷ expiry of 6 ∷ expiryCheck of 1 ∷ nationality of 3 ∷ optional2 of 11 ∷ composite of 1
+    ∷ birth of 6 ∷ birthCheck of 1 ∷ sex of 1 ∷ expiry of 6 ∷ expiryCheck of 1
+    ∷ nationality of 3 ∷ optional2 of 11 ∷ composite of 1
     ∷ name of 30 ∷ []
 layout Td2 =
     code of 2 ∷ state of 3 ∷ name of 31
-    ∷ number of 9 ∷ numberCheck of 1 ∷ nationality of 3 ∷ birth of 6 ∷ birthCheck of 1 ∷ sex of 1 ∷ expiry of 6 ∷ expiryCheck of 1 ∷ optional of 7 ∷ composite of 1 ∷ []
+    ∷ number of 9 ∷ numberCheck of 1 ∷ nationality of 3
+    ∷ birth of 6 ∷ birthCheck of 1 ∷ sex of 1 ∷ expiry of 6 ∷ expiryCheck of 1
+    ∷ optional of 7 ∷ composite of 1 ∷ []
 layout Td3 =
     code of 2 ∷ state of 3 ∷ name of 39
-    ∷ number of 9 ∷ numberCheck of 1 ∷ nationality of 3 ∷ birth of 6 ∷ birthCheck of 1 ∷ sex of 1 ∷ expiry of 6 ∷ expiryCheck of 1
+    ∷ number of 9 ∷ numberCheck of 1 ∷ nationality of 3
+    ∷ birth of 6 ∷ birthCheck of 1 ∷ sex of 1 ∷ expiry of 6 ∷ expiryCheck of 1
     ∷ personal of 14 ∷ personalCheck of 1 ∷ composite of 1 ∷ []
 
 -- the parts in text order

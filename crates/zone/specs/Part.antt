@@ -4,7 +4,8 @@ use mathlib.Core.Bool.{Bool}
 use lib.Dec.{eqb}
 
 pub data Part : Type 0 where
-  code state number numberCheck optional birth birthCheck sex expiry expiryCheck nationality optional2 composite name personal personalCheck : Part
+  code state number numberCheck optional birth birthCheck sex expiry expiryCheck nationality : Part
+  optional2 composite name personal personalCheck : Part
 
 -- a number for each, by which two are compared
 unfoldable pub rank : Part → ℕ

@@ -1,5 +1,5 @@
--- The record: document 01, "A record holds form, code, state, number, nationality, birth, sex, expiry, name", and the blank record of
--- "Refusal numbers" (TD1, fillers, lengths 0).
+-- The record: document 01, "A record holds form, code, state, number, nationality, birth, sex, expiry, name", and the blank
+-- record of "Refusal numbers" (TD1, fillers, lengths 0).
 use Prim.Native.Nat.{ℕ, suc, _-_}
 use mathlib.Core.Bool.{cond, _&&_}
 use mathlib.Core.List.{List, [], _∷_, _++_}

@@ -1,5 +1,5 @@
--- The room that a record has for each field: the width that every form gives it in its layout, and of the number and the name the most that
--- any form allows.
+-- The room that a record has for each field: the width that every form gives it in its layout, and of the number and the name
+-- the most that any form allows.
 use Prim.Native.Nat.{ℕ}
 
 abbrev pub codeRoom : ℕ

@@ -1,3 +1,4 @@
+-- What was copied stands before what the range had.
 use denote.Ref.{now}
 use mathlib.Core.Logic.{inl, inr}
 use Prim.Native.Nat.{_≤_, _<_, _-_, _+_}

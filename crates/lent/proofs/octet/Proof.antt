@@ -1,3 +1,4 @@
+-- Past the end `getD` gives 0 too.
 use mathlib.Core.Path.{sym}
 use denote.Ref.{now}
 use lib.ListN.{List·getD-eq-default}

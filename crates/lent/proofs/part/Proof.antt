@@ -1,3 +1,4 @@
+-- A part within the slice, at its end, or past it.
 use denote.Ref.{now}
 use native.Mathlib.Nat.{add-sub-cancel-left}
 use native.Mathlib.Omega.{arith}

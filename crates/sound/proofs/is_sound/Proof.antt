@@ -14,5 +14,6 @@ is-sound-spec =
     (λ c κs. search needs)
     (λ c.
     let r = c .before .before .args .r in
-    let fits = shaped r (search needs) (search needs) (search needs) (search needs) (search needs) (search needs) (search needs) in
+    let first = shaped r (search needs) (search needs) (search needs) in
+    let fits = first (search needs) (search needs) (search needs) (search needs) in
     rw (c .is-holder .ensures, c .before .is-document .ensures, fits)))

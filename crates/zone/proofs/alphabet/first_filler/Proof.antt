@@ -24,9 +24,10 @@ loop-holds c = (search needs, zero-add (firstFiller (now (c .args .s))))
 loop-again : tie.Need-loop-again Inv-loop μ-loop
 unfolding isFiller
 loop-again c =
-    let a = c .before .before .before .before .args in
+    let s = now (c .before .before .before .before .args .s) in
     let l = c .before .before .before .loop in
-    (search needs, first-miss isFiller (now (a .s)) (l .i) (firstFiller (now (a .s))) (l .inv .1) (search needs) (ne-eqb _ _ (c .if2 .left)))
+    let other = ne-eqb _ _ (c .if2 .left) in
+    (search needs, first-miss isFiller s (l .i) (firstFiller s) (l .inv .1) (search needs) other)
 
 returns : tie.Need-returns Inv-loop μ-loop
 returns c =
