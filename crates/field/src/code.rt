@@ -1,8 +1,7 @@
 // The document code: two characters, by form.
 ghost use mathlib.Core.Path.{_≡_};
-ghost use Rattle.field.specs.Code.{codeRule, cardRule, passportRule, isCardLetter, isSecond};
-use zone::alphabet::FILLER;
-use zone::alphabet::is_letter;
+ghost use Rattle.field.specs.Code.{codeRule, cardRule, passportRule, isCardLetter};
+use crate::letters::is_letter_or_filler;
 use zone::form::Form;
 
 // What a card's code may begin with.
@@ -12,23 +11,16 @@ fn is_card_letter(a: u8) -> bool
     (a == b'A') | (a == b'C') | (a == b'I')
 }
 
-// What may stand second in any code.
-fn is_second(b: u8) -> bool
-    ensures { λ r. ⌜ r ≡ isSecond b ⌝ }
-{
-    is_letter(b) | (b == FILLER)
-}
-
 fn is_card(a: u8, b: u8) -> bool
     ensures { λ r. ⌜ r ≡ cardRule a b ⌝ }
 {
-    is_card_letter(a) & (is_second(b) & ((b != b'V') & !((a == b'A') & (b == b'C'))))
+    is_card_letter(a) & (is_letter_or_filler(b) & ((b != b'V') & !((a == b'A') & (b == b'C'))))
 }
 
 fn is_passport(a: u8, b: u8) -> bool
     ensures { λ r. ⌜ r ≡ passportRule a b ⌝ }
 {
-    (a == b'P') & is_second(b)
+    (a == b'P') & is_letter_or_filler(b)
 }
 
 pub fn is_code(form: Form, s: &[u8]) -> bool

@@ -1,15 +1,22 @@
 // The fields of letters and fillers: state and nationality, sex, name.
 ghost use mathlib.Core.Path.{_≡_};
 ghost use Rattle.field.specs.Letters.{stateRule, lettersThenFillers, sexRule, nameRule, isNameCharacter};
-ghost use Rattle.zone.specs.Alphabet.{every};
+ghost use mathlib.Core.Bool.{_||_};
+ghost use Rattle.zone.specs.Alphabet.{isLetter, isFiller, every};
 use zone::alphabet::FILLER;
 use zone::alphabet::is_letter;
+
+pub(crate) fn is_letter_or_filler(c: u8) -> bool
+    ensures { λ r. ⌜ r ≡ isLetter c || isFiller c ⌝ }
+{
+    is_letter(c) | (c == FILLER)
+}
 
 fn letters_then_fillers(a: u8, b: u8, c: u8) -> bool
     ensures { λ r. ⌜ r ≡ lettersThenFillers a b c ⌝ }
 {
     if is_letter(b) {
-        is_letter(a) & (is_letter(c) | (c == FILLER))
+        is_letter(a) & is_letter_or_filler(c)
     } else {
         is_letter(a) & ((b == FILLER) & (c == FILLER))
     }
@@ -28,19 +35,13 @@ pub fn is_sex(c: u8) -> bool
     (c == b'M') | (c == b'F') | (c == FILLER)
 }
 
-fn is_name_character(c: u8) -> bool
-    ensures { λ r. ⌜ r ≡ isNameCharacter c ⌝ }
-{
-    is_letter(c) | (c == FILLER)
-}
-
 fn all_name_characters(s: &[u8]) -> bool
     ensures { λ r. ⌜ r ≡ every isNameCharacter (now (s .entry)) ⌝ }
 {
     let mut fine = true;
     let mut i = 0;
     while i < s.len() {
-        fine = fine & is_name_character(s[i]);
+        fine = fine & is_letter_or_filler(s[i]);
         i += 1;
     }
     fine

@@ -18,10 +18,11 @@ abbrev μ-loop : tie.MeasureT-loop
 μ-loop s fine₀ i₀ fine i = length s - i
 
 loop-again : tie.Need-loop-again Inv-loop μ-loop
+unfolding isNameCharacter
 loop-again c =
     let l = c .before .before .before .loop in
     let s = now (c .before .before .before .before .before .args .s) in
-    (search needs, rw (c .is-name-character .ensures) (every-step isNameCharacter s (l .i) (l .fine) (l .inv .1) (search needs)))
+    (search needs, rw (c .is-letter-or-filler .ensures) (every-step isNameCharacter s (l .i) (l .fine) (l .inv .1) (search needs)))
 
 returns : tie.Need-returns Inv-loop μ-loop
 returns c =

@@ -15,9 +15,9 @@ letters-then-fillers-spec =
     (λ c κs. search needs)
     (λ c κs. search needs)
     (λ c. simp (
-      ← c .is-letter3 .ensures,
+      ← c .is-letter-or-filler .ensures,
       ← c .before .is-letter2 .ensures,
       c .before .before .if1 .taken,
       ← c .before .before .before .is-letter .ensures,
     ))
-    (λ c. simp (← c .is-letter4 .ensures, c .before .if1 .left, ← c .before .before .is-letter .ensures)))
+    (λ c. simp (← c .is-letter3 .ensures, c .before .if1 .left, ← c .before .before .is-letter .ensures)))
