@@ -3,7 +3,7 @@ use mathlib.Core.Path.{_≡_, refl, sym, _∙_}
 use mathlib.Core.List.{List, [], _++_, append-nil}
 use mathlib.Core.Logic.{_⊎_, inl, inr}
 use Prim.Native.Nat.{ℕ, zero, suc, _+_, _-_, _≤_, _<_}
-use native.Mathlib.Nat.{zero-add, le-of-eq}
+use native.Mathlib.Nat.{zero-add, le-of-eq, sub-zero, suc-sub-suc}
 use native.Mathlib.Numerals.{add-one}
 use native.Mathlib.Omega.{arith}
 use lib.ListN.{length, take, drop, getD, set, length-drop, drop-of-length-le, replicate}
@@ -58,3 +58,9 @@ pub fill-ends : (to : List ℕ) (c i : ℕ) → length to ≤ i → i ≤ length
 fill-ends to c i h k =
     let e : i ≡ length to = omega arith in
     rw (e, drop-length to, append-nil)
+
+-- what is left of a run of one octet
+pub drop-replicate : (k n c : ℕ) → drop k (replicate n c) ≡ replicate (n - k) c
+drop-replicate zero n c = rw (sub-zero n)
+drop-replicate (suc k) zero c = let e : 0 - suc k ≡ 0 = omega arith in rw e
+drop-replicate (suc k) (suc n) c = rw (suc-sub-suc n k) (drop-replicate k n c)

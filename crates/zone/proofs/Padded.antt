@@ -4,7 +4,7 @@ use Prim.Native.Nat.{ℕ, zero, suc, _+_, _-_, _≤_}
 use mathlib.Core.Path.{_≡_, refl}
 use mathlib.Core.Bool.{Bool, true, false, cond, _&&_}
 use mathlib.Core.List.{List, [], _∷_, _++_, append-nil}
-use native.Mathlib.Nat.{sub-zero}
+use native.Mathlib.Nat.{sub-zero, suc-sub-suc}
 use native.Mathlib.Omega.{arith}
 use borrow.Author.Tests.{eqb-true}
 use lib.Dec.{eqb}
@@ -12,16 +12,9 @@ use lib.ListN.{length, take, drop, replicate, length-replicate, length-take, len
 use lib.Seq.{take-all}
 use Rattle.lent.specs.Copied.{copied, copiedAt}
 use Rattle.lent.proofs.Bools.{and-both}
+use Rattle.lent.proofs.Lists.{drop-replicate}
 use Rattle.zone.specs.Alphabet.{filler, isFiller}
 use Rattle.zone.specs.Record.{trimmedLength, trimmed, padded}
-
-suc-sub : (n m : ℕ) → suc n - suc m ≡ n - m
-suc-sub n m = omega arith
-
-drop-replicate : (k n x : ℕ) → drop k (replicate n x) ≡ replicate (n - k) x
-drop-replicate zero n x = rw (sub-zero n)
-drop-replicate (suc k) zero x = let e : 0 - suc k ≡ 0 = omega arith in rw e
-drop-replicate (suc k) (suc n) x = rw (suc-sub n k) (drop-replicate k n x)
 
 -- a copy over fillers
 pub copied-padded : (n : ℕ) (s : List ℕ) → copied (replicate n filler) s ≡ padded n s
@@ -31,7 +24,7 @@ copied-padded n s = rw (length-replicate, drop-replicate)
 -- step by step
 pub padded-cons : (n c : ℕ) (s : List ℕ) → padded (suc n) (c ∷ s) ≡ c ∷ padded n s
 unfolding padded
-padded-cons n c s = rw (suc-sub n (length s))
+padded-cons n c s = rw (suc-sub-suc n (length s))
 
 pub padded-nil : (n : ℕ) → padded n [] ≡ replicate n filler
 unfolding padded
@@ -56,7 +49,7 @@ padded-append zero a b =
     let k : 0 - length a ≡ 0 = omega arith in
     rw (k, padded-zero b, padded-zero (a ++ b))
 padded-append (suc n) [] b = rw (sub-zero (suc n))
-padded-append (suc n) (c ∷ a) b = rw (padded-cons n c (a ++ b), suc-sub n (length a), padded-append n a b)
+padded-append (suc n) (c ∷ a) b = rw (padded-cons n c (a ++ b), suc-sub-suc n (length a), padded-append n a b)
 
 pub take-padded : (n : ℕ) (a : List ℕ) → take (length a) (padded n a) ≡ take n a
 take-padded zero [] = refl
@@ -68,7 +61,7 @@ pub drop-padded : (n : ℕ) (a : List ℕ) → drop (length a) (padded n a) ≡ 
 drop-padded zero [] = padded-zero []
 drop-padded zero (c ∷ a) = let k : 0 - suc (length a) ≡ 0 = omega arith in rw (padded-zero (c ∷ a), k)
 drop-padded (suc n) [] = rw (padded-nil (suc n), sub-zero (suc n))
-drop-padded (suc n) (c ∷ a) = rw (padded-cons n c a, suc-sub n (length a)) (drop-padded n a)
+drop-padded (suc n) (c ∷ a) = rw (padded-cons n c a, suc-sub-suc n (length a)) (drop-padded n a)
 
 -- a copy over fillers, and another behind it
 pub copied-behind : (n : ℕ) (a b : List ℕ) → copiedAt (padded n a) (length a) b ≡ padded n (a ++ b)
