@@ -1,5 +1,6 @@
 -- Dates: document 01, "The text", Field rules, Birth and Expiry.
 use Prim.Native.Nat.{ℕ, _+_, _*_, _-_, _%_}
+use Prim.Native.Char.{code}
 use mathlib.Core.Bool.{Bool, true, false, cond, _&&_, _||_}
 use mathlib.Core.List.{List}
 use lib.ListN.{getD}
@@ -11,7 +12,7 @@ use Rattle.field.specs.declared.date.Pair.the-variants.{Known, Unknown, 
 -- two digits, or `<<`, or neither
 unfoldable pub pairOf : ℕ → ℕ → Pair
 pairOf a b =
-    cond (isDigit a) (cond (isDigit b) (Known ((a - 48) * 10 + (b - 48))) Neither)
+    cond (isDigit a) (cond (isDigit b) (Known ((a - code "0") * 10 + (b - code "0"))) Neither)
     (cond (isFiller a && isFiller b) Unknown Neither)
 
 -- year, month, day

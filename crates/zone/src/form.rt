@@ -197,8 +197,8 @@ fn td1_places() -> Places
         nationality: 45,
         composite: 59,
         name: 60,
-        personal: 90,
-        personal_check: 90,
+        personal: Form::TD1_TEXT,
+        personal_check: Form::TD1_TEXT,
     }
 }
 
@@ -219,8 +219,8 @@ fn td2_places() -> Places
         expiry_check: 63,
         optional: 64,
         composite: 71,
-        personal: 72,
-        personal_check: 72,
+        personal: Form::TD2_TEXT,
+        personal_check: Form::TD2_TEXT,
     }
 }
 
@@ -242,7 +242,7 @@ fn td3_places() -> Places
         personal: 72,
         personal_check: 86,
         composite: 87,
-        optional: 88,
+        optional: Form::TD3_TEXT,
     }
 }
 

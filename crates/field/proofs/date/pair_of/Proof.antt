@@ -1,9 +1,10 @@
 -- The tests that led to each `return` are those of `pairOf`; a filler is no digit.
+use Prim.Native.Char.{code}
 use lib.Dec.{eqb}
 use borrow.Author.Tests.{eqb-true, le-leb, lt-leb}
 use Rattle.lent.proofs.Tests.{tests}
 use Rattle.lent.proofs.Bools.{and-both}
-use Rattle.zone.specs.Alphabet.{isDigit, isFiller}
+use Rattle.zone.specs.Alphabet.{isDigit, filler, isFiller}
 use Rattle.field.specs.Date.{pairOf}
 use Rattle.field.proofs.date.pair_of.Statement.{statement}
 use Rattle.field.proofs.date.pair_of.Tie as tie
@@ -15,12 +16,12 @@ pair-of-spec =
     (tie.spec
     (λ c.
     let a = c .before .args in
-    let p = and-both (eqb (a .a) 60) (eqb (a .b) 60) (c .if1 .taken) in
-    rw (eqb-true (a .a) 60 (p .0), p .1))
+    let p = and-both (eqb (a .a) filler) (eqb (a .b) filler) (c .if1 .taken) in
+    rw (eqb-true (a .a) filler (p .0), p .1))
     (λ c. search tests)
     (λ c. search tests)
     (λ c. search tests)
     (λ c. search tests)
     (λ c. search tests)
     (λ c. simp (lt-leb _ _ (c .if2 .taken), c .before .if1 .left))
-    (λ c. simp (le-leb _ _ (c .before .if2 .left), lt-leb _ 57 (c .if3 .left), c .before .before .if1 .left)))
+    (λ c. simp (le-leb _ _ (c .before .if2 .left), lt-leb _ (code "9") (c .if3 .left), c .before .before .if1 .left)))
