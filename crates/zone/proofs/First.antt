@@ -10,20 +10,19 @@ use lib.ListN.{length, drop, getD, drop-of-length-le}
 use lib.Seq.{drop-cons}
 use Rattle.zone.specs.Alphabet.{first}
 
-module _ (p : ℕ → Bool) (s : List ℕ) (i e : ℕ) (left : i + first p (drop i s) ≡ e) where
+module _ (p : ℕ → Bool) (s : List ℕ) (i : ℕ) (left : i + first p (drop i s) ≡ first p s) where
   -- an octet that fails the test: the search goes on behind it
-  pub first-miss : i < length s → p (getD s i 0) ≡ false → (i + 1) + first p (drop (i + 1) s) ≡ e
+  pub first-miss : i < length s → p (getD s i 0) ≡ false → (i + 1) + first p (drop (i + 1) s) ≡ first p s
   unfolding first
-  first-miss h t =
-      rw (add-one i) (omega (arith, rw (drop-cons s i 0 h, t) at left))
+  first-miss h t = rw (add-one i) (omega (arith, rw (drop-cons s i 0 h, t) at left))
 
   -- one that passes it is the first
-  pub first-hit : i < length s → p (getD s i 0) ≡ true → i ≡ e
+  pub first-hit : i < length s → p (getD s i 0) ≡ true → i ≡ first p s
   unfolding first
   first-hit h t = sym (add-zero i) ∙ (rw (drop-cons s i 0 h, t) at left)
 
   -- none is left
-  pub first-end : length s ≤ i → i ≡ e
+  pub first-end : length s ≤ i → i ≡ first p s
   unfolding first
   first-end h = sym (add-zero i) ∙ (rw (drop-of-length-le s h) at left)
 

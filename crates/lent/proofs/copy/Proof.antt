@@ -18,31 +18,6 @@ Inv-loop to₀ from i₀ to i =
 abbrev μ-loop : tie.MeasureT-loop
 μ-loop to₀ from i₀ to i = length to₀ - i
 
-returns : tie.Need-returns Inv-loop μ-loop
-returns c =
-    let a = c .before .before .before .args in
-    let l = c .before .before .loop in
-    l .inv .3 ∙ copy-ends (a .to .now) (now (a .from)) (l .i) (l .inv .0) (l .inv .1) (inl (c .if1 .taken))
-
-loop-again : tie.Need-loop-again Inv-loop μ-loop
-loop-again c =
-    let a = c .before .before .before .before .args in
-    let l = c .before .before .before .loop in
-    let ht : l .i < length (a .to .now) = omega arith in
-    let hf : l .i < length (now (a .from)) = omega arith in (
-      search needs,
-      search needs,
-      search needs,
-      rw (l .inv .3) (copy-more (a .to .now) (now (a .from)) (l .i) ht hf),
-    )
-
-returns-2 : tie.Need-returns-2 Inv-loop μ-loop
-returns-2 c =
-    let a = c .before .before .args in
-    let l = c .before .loop in
-    let h : length (a .to .now) ≤ l .i = omega arith in
-    l .inv .3 ∙ copy-ends (a .to .now) (now (a .from)) (l .i) (l .inv .0) (l .inv .1) (inr h)
-
 pub copy-spec : {M : Type 1} → statement M
 copy-spec =
     tie.close
@@ -51,11 +26,30 @@ copy-spec =
     μ-loop
     (λ c. search needs)
     (λ c. search needs)
-    returns
+    -- nothing is left to copy
+    (λ c.
+    let a = c .before .before .before .args in
+    let l = c .before .before .loop in
+    l .inv .3 ∙ copy-ends (a .to .now) (now (a .from)) (l .i) (l .inv .0) (l .inv .1) (inl (c .if1 .taken)))
     (λ c. search needs)
     (λ c. search needs)
     (λ c. search needs)
     (λ c. search needs)
-    loop-again
+    -- one octet more
+    (λ c.
+    let a = c .before .before .before .before .args in
+    let l = c .before .before .before .loop in
+    let ht : l .i < length (a .to .now) = omega arith in
+    let hf : l .i < length (now (a .from)) = omega arith in (
+      search needs,
+      search needs,
+      search needs,
+      rw (l .inv .3) (copy-more (a .to .now) (now (a .from)) (l .i) ht hf),
+    ))
     (λ c. search needs)
-    returns-2)
+    -- the range is full
+    (λ c.
+    let a = c .before .before .args in
+    let l = c .before .loop in
+    let h : length (a .to .now) ≤ l .i = omega arith in
+    l .inv .3 ∙ copy-ends (a .to .now) (now (a .from)) (l .i) (l .inv .0) (l .inv .1) (inr h)))

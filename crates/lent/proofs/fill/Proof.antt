@@ -16,35 +16,28 @@ Inv-loop to₀ c i₀ to i = (i ≤ length to₀) × (length to ≡ length to₀
 abbrev μ-loop : tie.MeasureT-loop
 μ-loop to₀ c i₀ to i = length to₀ - i
 
-loop-holds : tie.Need-loop-holds Inv-loop μ-loop
-loop-holds c = (search needs, refl, refl)
-
-loop-again : tie.Need-loop-again Inv-loop μ-loop
-loop-again c =
-    let a = c .before .before .args in
-    let l = c .before .loop in
-    let h : l .i < length (a .to .now) = omega arith in (
-      search needs,
-      simp length-set (search needs),
-      ap (λ s. set s (l .i) (a .c)) (l .inv .2) ∙ fill-more (l .i) (a .c) (a .to .now) h,
-    )
-
-returns : tie.Need-returns Inv-loop μ-loop
-returns c =
-    let a = c .before .before .args in
-    let l = c .before .loop in
-    l .inv .2 ∙ fill-ends (a .to .now) (a .c) (l .i) (omega (arith, c .loop-test .left, l .inv .0, l .inv .1)) (l .inv .0)
-
 pub fill-spec : {M : Type 1} → statement M
 fill-spec =
     tie.close
     (tie.spec
     Inv-loop
     μ-loop
-    loop-holds
+    (λ c. (search needs, refl, refl))
     (λ c. search needs)
     (λ c. search needs)
     (λ c. search needs)
-    loop-again
+    -- one octet more
+    (λ c.
+    let a = c .before .before .args in
+    let l = c .before .loop in
+    let h : l .i < length (a .to .now) = omega arith in (
+      search needs,
+      simp length-set (search needs),
+      ap (λ s. set s (l .i) (a .c)) (l .inv .2) ∙ fill-more (l .i) (a .c) (a .to .now) h,
+    ))
     (λ c. search needs)
-    returns)
+    -- the range is full
+    (λ c.
+    let a = c .before .before .args in
+    let l = c .before .loop in
+    l .inv .2 ∙ fill-ends (a .to .now) (a .c) (l .i) (omega (arith, c .loop-test .left, l .inv .0, l .inv .1)) (l .inv .0)))

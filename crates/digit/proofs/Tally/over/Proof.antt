@@ -22,25 +22,6 @@ Inv-loop s turn₀ sum₀ i₀ turn sum i =
 abbrev μ-loop : tie.MeasureT-loop
 μ-loop s turn₀ sum₀ i₀ turn sum i = length s - i
 
-loop-again : tie.Need-loop-again Inv-loop μ-loop
-loop-again c =
-    let l = c .before .before .before .before .loop in
-    let a = c .before .before .before .before .before .before .before .before .args in
-    let h : l .i < length (now (a .s)) = omega arith in
-    let more = sum-more (a .self .turn % 3) (l .sum) (l .i) (now (a .s)) h ∙ l .inv .3 in (
-      search needs,
-      omega arith,
-      mod-lt _ (lit< tt),
-      rw (c .before .value .ensures, c .weight .ensures, l .inv .1, weight-mod) more,
-    )
-
-returns : tie.Need-returns Inv-loop μ-loop
-returns c =
-    let l = c .before .loop in
-    let a = c .before .before .before .before .before .args in
-    sum-ends (a .self) (now (a .s)) (l .i) (l .turn) (l .sum) (c .loop-test .left)
-    (l .inv .0) (l .inv .2) (l .inv .1) (l .inv .3)
-
 pub over-spec : {M : Type 1} → statement M
 over-spec =
     tie.close
@@ -56,5 +37,20 @@ over-spec =
     (λ c. search needs)
     (λ c. search needs)
     (λ c. search needs)
-    loop-again
-    returns)
+    -- one character more
+    (λ c.
+    let l = c .before .before .before .before .loop in
+    let a = c .before .before .before .before .before .before .before .before .args in
+    let h : l .i < length (now (a .s)) = omega arith in
+    let more = sum-more (a .self .turn % 3) (l .sum) (l .i) (now (a .s)) h ∙ l .inv .3 in (
+      search needs,
+      omega arith,
+      mod-lt _ (lit< tt),
+      rw (c .before .value .ensures, c .weight .ensures, l .inv .1, weight-mod) more,
+    ))
+    -- the end
+    (λ c.
+    let l = c .before .loop in
+    let a = c .before .before .before .before .before .args in
+    sum-ends (a .self) (now (a .s)) (l .i) (l .turn) (l .sum) (c .loop-test .left)
+    (l .inv .0) (l .inv .2) (l .inv .1) (l .inv .3)))

@@ -17,19 +17,8 @@ Inv-loop s fine₀ i₀ fine i = (i ≤ length s) × (fine && every isNameCharac
 abbrev μ-loop : tie.MeasureT-loop
 μ-loop s fine₀ i₀ fine i = length s - i
 
-loop-again : tie.Need-loop-again Inv-loop μ-loop
-unfolding isNameCharacter
-loop-again c =
-    let l = c .before .before .before .loop in
-    let s = now (c .before .before .before .before .before .args .s) in
-    (search needs, rw (c .is-letter-or-filler .ensures) (every-step isNameCharacter s (l .i) (l .fine) (l .inv .1) (search needs)))
-
-returns : tie.Need-returns Inv-loop μ-loop
-returns c =
-    let l = c .before .loop in
-    every-done isNameCharacter (now (c .before .before .before .args .s)) (l .i) (l .fine) (l .inv .1) (c .loop-test .left)
-
 pub all-name-characters-spec : {M : Type 1} → statement M
+unfolding isNameCharacter
 all-name-characters-spec =
     tie.close
     (tie.spec
@@ -40,5 +29,13 @@ all-name-characters-spec =
     (λ c κs. search needs)
     (λ c. search needs)
     (λ c. search needs)
-    loop-again
-    returns)
+    -- one character more
+    (λ c.
+    let l = c .before .before .before .loop in
+    let s = now (c .before .before .before .before .before .args .s) in
+    let step = every-step isNameCharacter s (l .i) (l .fine) (l .inv .1) in
+    (search needs, rw (c .is-letter-or-filler .ensures) (step (search needs))))
+    -- the end
+    (λ c.
+    let l = c .before .loop in
+    every-done isNameCharacter (now (c .before .before .before .args .s)) (l .i) (l .fine) (l .inv .1) (c .loop-test .left)))

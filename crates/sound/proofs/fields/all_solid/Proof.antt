@@ -17,19 +17,8 @@ Inv-loop s fine₀ i₀ fine i = (i ≤ length s) × (fine && every isSolid (dro
 abbrev μ-loop : tie.MeasureT-loop
 μ-loop s fine₀ i₀ fine i = length s - i
 
-loop-again : tie.Need-loop-again Inv-loop μ-loop
-unfolding isSolid isFiller
-loop-again c =
-    let l = c .before .before .loop in
-    let s = now (c .before .before .before .args .s) in
-    (search needs, every-step isSolid s (l .i) (l .fine) (l .inv .1) (search needs))
-
-returns : tie.Need-returns Inv-loop μ-loop
-returns c =
-    let l = c .before .loop in
-    every-done isSolid (now (c .before .before .args .s)) (l .i) (l .fine) (l .inv .1) (c .loop-test .left)
-
 pub all-solid-spec : {M : Type 1} → statement M
+unfolding isSolid isFiller
 all-solid-spec =
     tie.close
     (tie.spec
@@ -39,5 +28,12 @@ all-solid-spec =
     (λ c. search needs)
     (λ c. search needs)
     (λ c. search needs)
-    loop-again
-    returns)
+    -- one character more
+    (λ c.
+    let l = c .before .before .loop in
+    let s = now (c .before .before .before .args .s) in
+    (search needs, every-step isSolid s (l .i) (l .fine) (l .inv .1) (search needs)))
+    -- the end
+    (λ c.
+    let l = c .before .loop in
+    every-done isSolid (now (c .before .before .args .s)) (l .i) (l .fine) (l .inv .1) (c .loop-test .left)))

@@ -16,17 +16,6 @@ Inv-loop s fine₀ i₀ fine i = (i ≤ length s) × (fine && every isCharacter 
 abbrev μ-loop : tie.MeasureT-loop
 μ-loop s fine₀ i₀ fine i = length s - i
 
-loop-again : tie.Need-loop-again Inv-loop μ-loop
-loop-again c =
-    let l = c .before .before .before .loop in
-    let s = now (c .before .before .before .before .before .args .s) in
-    (search needs, rw (c .is-character .ensures) (every-step isCharacter s (l .i) (l .fine) (l .inv .1) (search needs)))
-
-returns : tie.Need-returns Inv-loop μ-loop
-returns c =
-    let l = c .before .loop in
-    every-done isCharacter (now (c .before .before .before .args .s)) (l .i) (l .fine) (l .inv .1) (c .loop-test .left)
-
 pub all-characters-spec : {M : Type 1} → statement M
 all-characters-spec =
     tie.close
@@ -38,5 +27,12 @@ all-characters-spec =
     (λ c κs. search needs)
     (λ c. search needs)
     (λ c. search needs)
-    loop-again
-    returns)
+    -- one character more
+    (λ c.
+    let l = c .before .before .before .loop in
+    let s = now (c .before .before .before .before .before .args .s) in
+    (search needs, rw (c .is-character .ensures) (every-step isCharacter s (l .i) (l .fine) (l .inv .1) (search needs))))
+    -- the end
+    (λ c.
+    let l = c .before .loop in
+    every-done isCharacter (now (c .before .before .before .args .s)) (l .i) (l .fine) (l .inv .1) (c .loop-test .left)))

@@ -13,56 +13,42 @@ use Rattle.zone.proofs.alphabet.first_foreign.Statement.{statement}
 use Rattle.zone.proofs.alphabet.first_foreign.Tie as tie
 
 abbrev Inv-loop : tie.InvT-loop
-Inv-loop s i₀ i = (i ≤ length s) × (i + first isForeign (drop i s) ≡ firstForeign s)
+Inv-loop s i₀ i = (i ≤ length s) × (i + first isForeign (drop i s) ≡ first isForeign s)
 
 abbrev μ-loop : tie.MeasureT-loop
 μ-loop s i₀ i = length s - i
 
-returns : tie.Need-returns Inv-loop μ-loop
-unfolding isForeign firstForeign
-returns c =
-    let s = now (c .before .before .before .args .s) in
-    sym (every-first isCharacter s (sym (c .before .all-characters .ensures) ∙ c .if1 .taken))
-
-loop-holds : tie.Need-loop-holds Inv-loop μ-loop
-unfolding firstForeign
-loop-holds c = (search needs, zero-add (firstForeign (now (c .before .before .before .args .s))))
-
-loop-again : tie.Need-loop-again Inv-loop μ-loop
-unfolding isForeign
-loop-again c =
-    let l = c .before .before .before .before .loop in
-    let s = now (c .before .before .before .before .before .before .before .before .args .s) in
-    let fine = ap not (sym (c .before .is-character .ensures) ∙ c .if2 .taken) in
-    (search needs, first-miss isForeign s (l .i) (firstForeign s) (l .inv .1) (search needs) fine)
-
-returns-2 : tie.Need-returns-2 Inv-loop μ-loop
-unfolding isForeign
-returns-2 c =
-    let l = c .before .before .before .before .loop in
-    let s = now (c .before .before .before .before .before .before .before .before .args .s) in
-    let foreign = ap not (sym (c .before .is-character .ensures) ∙ c .if2 .left) in
-    first-hit isForeign s (l .i) (firstForeign s) (l .inv .1) (search needs) foreign
-
-returns-3 : tie.Need-returns-3 Inv-loop μ-loop
-returns-3 c =
-    let l = c .before .loop in
-    let s = now (c .before .before .before .before .before .args .s) in
-    first-end isForeign s (l .i) (firstForeign s) (l .inv .1) (c .loop-test .left)
-
 pub first-foreign-spec : {M : Type 1} → statement M
+unfolding isForeign firstForeign
 first-foreign-spec =
     tie.close
     (tie.spec
     Inv-loop
     μ-loop
     (λ c κs. search needs)
-    returns
-    loop-holds
+    -- every octet is a character
+    (λ c.
+    let s = now (c .before .before .before .args .s) in
+    sym (every-first isCharacter s (sym (c .before .all-characters .ensures) ∙ c .if1 .taken)))
+    (λ c. (search needs, zero-add _))
     (λ c. search needs)
     (λ c κs. search needs)
     (λ c. search needs)
     (λ c. search needs)
-    loop-again
-    returns-2
-    returns-3)
+    -- a character: the search goes on
+    (λ c.
+    let l = c .before .before .before .before .loop in
+    let s = now (c .before .before .before .before .before .before .before .before .args .s) in
+    let fine = ap not (sym (c .before .is-character .ensures) ∙ c .if2 .taken) in
+    (search needs, first-miss isForeign s (l .i) (l .inv .1) (search needs) fine))
+    -- the first that is none
+    (λ c.
+    let l = c .before .before .before .before .loop in
+    let s = now (c .before .before .before .before .before .before .before .before .args .s) in
+    let foreign = ap not (sym (c .before .is-character .ensures) ∙ c .if2 .left) in
+    first-hit isForeign s (l .i) (l .inv .1) (search needs) foreign)
+    -- the end
+    (λ c.
+    let l = c .before .loop in
+    let s = now (c .before .before .before .before .before .args .s) in
+    first-end isForeign s (l .i) (l .inv .1) (c .loop-test .left)))

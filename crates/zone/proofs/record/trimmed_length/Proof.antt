@@ -20,36 +20,28 @@ Inv-loop s n₀ i₀ n i = (i ≤ length s) × (n ≡ trimmedLength (take i s))
 abbrev μ-loop : tie.MeasureT-loop
 μ-loop s n₀ i₀ n i = length s - i
 
-loop-holds : tie.Need-loop-holds Inv-loop μ-loop
-unfolding trimmedLength
-loop-holds c = search needs
-
-loop-again : tie.Need-loop-again Inv-loop μ-loop
-unfolding isFiller
-loop-again c =
+pub trimmed-length-spec : {M : Type 1} → statement M
+unfolding trimmedLength isFiller
+trimmed-length-spec =
+    tie.close
+    (tie.spec
+    Inv-loop
+    μ-loop
+    (λ c. search needs)
+    (λ c. search needs)
+    (λ c. search needs)
+    (λ c. search needs)
+    (λ c. search needs)
+    -- a character that counts, or a filler
+    (λ c.
     let s = now (c .before .before .before .before .args .s) in
     let l = c .before .before .before .loop in
     let h : l .i < length s = omega arith in (
       search needs,
       ⊎-elim (λ w. w .1 ∙ sym (trimmed-other s (l .i) h (ne-eqb _ _ (w .0 .taken))))
           (λ w. w .1 ∙ (l .inv .1 ∙ sym (trimmed-filler s (l .i) h (eq-eqb _ _ (w .0 .left))))) (c .if1 .came),
-    )
-
-returns : tie.Need-returns Inv-loop μ-loop
-returns c =
+    ))
+    -- all are passed
+    (λ c.
     let s = now (c .before .before .args .s) in
-    c .before .loop .inv .1 ∙ ap trimmedLength (take-all (c .before .loop .i) s (search needs))
-
-pub trimmed-length-spec : {M : Type 1} → statement M
-trimmed-length-spec =
-    tie.close
-    (tie.spec
-    Inv-loop
-    μ-loop
-    loop-holds
-    (λ c. search needs)
-    (λ c. search needs)
-    (λ c. search needs)
-    (λ c. search needs)
-    loop-again
-    returns)
+    c .before .loop .inv .1 ∙ ap trimmedLength (take-all (c .before .loop .i) s (search needs))))
