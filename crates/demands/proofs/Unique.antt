@@ -20,7 +20,6 @@ use Rattle.text.specs.declared.read.Reading.{Reading}
 use Rattle.text.specs.Read.{Answer, answerOf, readText}
 use Rattle.writing.specs.Answer as text
 use Rattle.entry.specs.Entry.{Writes}
-use Rattle.entry.specs.Kept.{WritesKept}
 use Rattle.entry.specs.Run as run
 use Rattle.entry.specs.declared.run.Step.{Step}
 use Rattle.entry.specs.declared.run.Step.the-variants.{Next, End, Refused as Stopped}
@@ -94,19 +93,13 @@ only-digest input out a b r s p q = (length-tells r s (p .answer ∙ sym (q .ans
 pub only-reading : (t : List ℕ) (r s : Reading) → answerOf r ≡ readText t → answerOf s ≡ readText t → r ≡ s
 only-reading t r s p q = answer-tells r s (p ∙ sym q)
 
--- ---- what writes a text or an entry, of any record or of one known to be sound
+-- ---- what writes a text or an entry
 
 pub only-text : (r : Record) (out a b : List ℕ) (v w : Written) → text.Writes r out a v → text.Writes r out b w → (v ≡ w) × (a ≡ b)
 only-text r out a b v w p q = (length-tells v w (p .answer ∙ sym (q .answer)), p .output ∙ sym (q .output))
 
-pub only-kept-text : (r : Record) (out a b : List ℕ) (v w : Written) → text.WritesKept r out a v → text.WritesKept r out b w → (v ≡ w) × (a ≡ b)
-only-kept-text r out a b v w p q = (length-tells v w (p .answer ∙ sym (q .answer)), p .output ∙ sym (q .output))
-
 pub only-entry : (house : ℕ) (r : Record) (out a b : List ℕ) (v w : Written) → Writes house r out a v → Writes house r out b w → (v ≡ w) × (a ≡ b)
 only-entry house r out a b v w p q = (length-tells v w (p .answer ∙ sym (q .answer)), p .output ∙ sym (q .output))
-
-pub only-kept-entry : (house : ℕ) (r : Record) (out a b : List ℕ) (v w : Written) → WritesKept house r out a v → WritesKept house r out b w → (v ≡ w) × (a ≡ b)
-only-kept-entry house r out a b v w p q = (length-tells v w (p .answer ∙ sym (q .answer)), p .output ∙ sym (q .output))
 
 -- ---- the run reader
 

@@ -1,13 +1,12 @@
--- For a sound record the tests that are left are those of the whole promise.
+-- The name of a sound record fits its room.
 use Prim.Native.Nat.{ℕ, _≤_}
 use mathlib.Core.Path.{_≡_}
-use mathlib.Core.Bool.{Bool, true, false, _&&_, and-false}
+use mathlib.Core.Bool.{Bool, true, _&&_}
 use mathlib.Core.List.{List}
 use native.Mathlib.Omega.{arith}
-use borrow.Author.Tests.{leb-true, le-leb}
+use borrow.Author.Tests.{leb-true}
 use lib.Dec.{leb, eqb}
 use Rattle.lent.proofs.Bools.{and-both}
-use Rattle.refusal.specs.Length.{refused}
 use Rattle.zone.specs.declared.form.Form.{Form}
 use Rattle.zone.specs.declared.form.Form.the-variants.{Td1, Td2, Td3}
 use Rattle.zone.specs.declared.record.Record.{Record}
@@ -17,8 +16,7 @@ use Rattle.zone.specs.Record.{trimmedLength}
 use Rattle.field.specs.Letters.{stateRule, sexRule, nameRule}
 use Rattle.field.specs.Date.{birthRule, expiryRule}
 use Rattle.sound.specs.Sound.{isSound, isShaped, isDocument, isHolder, isHeld}
-use Rattle.entry.specs.Entry.{isHouse, entryAnswer, entryOut}
-use Rattle.entry.specs.Kept.{keptAnswer, keptOut}
+use Rattle.entry.specs.Entry.{isHouse}
 
 name-width : (f : Form) → width f name ≤ 39
 unfolding layout width widthIn rank same
@@ -45,7 +43,7 @@ holder-name r e =
     (isHeld (width (r .form) name) (r .name) (r .«name_len»)) (nameRule (r .name)) e
 
 -- a sound record's name fits its room
-pub name-fits : (r : Record) → isSound r ≡ true → r .«name_len» ≤ 39
+name-fits : (r : Record) → isSound r ≡ true → r .«name_len» ≤ 39
 unfolding isSound
 name-fits r e =
     let h = holder-name r (and-both (isDocument r) (isHolder r) (and-both (isShaped r) (isDocument r && isHolder r) e .1) .1) in
@@ -53,19 +51,9 @@ name-fits r e =
     let w : width (r .form) name ≤ 39 = name-width (r .form) in
     omega arith
 
-module _ (house : ℕ) (r : Record) (out : List ℕ) where
-  pub sure-answer : isSound r ≡ true → keptAnswer house r out ≡ entryAnswer house r out
-  unfolding keptAnswer entryAnswer
-  sure-answer e = rw (le-leb (r .«name_len») 39 (name-fits r e), e)
-
-  pub sure-out : isSound r ≡ true → keptOut house r out ≡ entryOut house r out
-  unfolding keptOut entryOut
-  sure-out e = rw (le-leb (r .«name_len») 39 (name-fits r e), e)
-
-  pub unsound-answer : isSound r ≡ false → refused 17 0 ≡ entryAnswer house r out
-  unfolding entryAnswer
-  unsound-answer e = rw (e, and-false (isHouse house))
-
-  pub unsound-out : isSound r ≡ false → out ≡ entryOut house r out
-  unfolding entryOut
-  unsound-out e = rw (e, and-false (isHouse house))
+-- what may be entered has a house of fifteen bits, and a name that fits its room
+pub kept-fits : (house : ℕ) (r : Record) → isHouse house && isSound r ≡ true → (house ≤ 32767) × (r .«name_len» ≤ 39)
+unfolding isHouse
+kept-fits house r e =
+    let h = and-both (leb 1 house && leb house 32767) (isSound r) e in
+    (leb-true house 32767 (and-both (leb 1 house) (leb house 32767) (h .0) .1), name-fits r (h .1))

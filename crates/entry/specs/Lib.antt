@@ -2,5 +2,4 @@ pub mod Bits
 pub mod Codes
 pub mod Entry
 pub mod Ink
-pub mod Kept
 pub mod Run

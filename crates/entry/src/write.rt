@@ -6,10 +6,10 @@ ghost use Rattle.entry.specs.Bits.{put};
 ghost use Rattle.entry.specs.Codes.{formCode};
 ghost use Rattle.entry.specs.Entry.{putKey, putRest, entryOf, Writes};
 ghost use Rattle.entry.specs.Ink.{Ready, Wrote};
-ghost use Rattle.entry.specs.Kept.{WritesKept};
 use crate::codes;
 use crate::pen;
 use crate::pen::Pen;
+use crate::run::is_house;
 use crate::run::size;
 use refusal::Cause;
 use refusal::Refusal;
@@ -81,34 +81,18 @@ fn write_bits(house: u32, r: Record, out: &mut [u8])
     pen::finish(out, all);
 }
 
-// The entry of a record that is known to be sound. Of the record it tests only that the name fits its room.
-pub fn write_kept(house: u32, r: Record, out: &mut [u8]) -> Written
-    ensures { λ w. ⌜ WritesKept house r (now (out .entry)) (now (out .exit)) w ⌝ }
-{
-    let n = r.name_len;
-    if house < 1 {
-        return Written::Refused(UNSOUND);
-    }
-    if 32767 < house {
-        return Written::Refused(UNSOUND);
-    }
-    if Form::NAME < n {
-        return Written::Refused(UNSOUND);
-    }
-    let octets = size(n);
-    if out.len() < octets {
-        return Written::Refused(TOO_SHORT);
-    }
-    write_bits(house, r, out);
-    Written::Octets(octets)
-}
-
 // The entry of a record: 17 for a house or a record that is not sound, then 16 for an output that is too short.
 pub fn write(house: u32, r: Record, out: &mut [u8]) -> Written
     ensures { λ w. ⌜ Writes house r (now (out .entry)) (now (out .exit)) w ⌝ }
 {
-    if sound::is_sound(r) {
-        write_kept(house, r, out)
+    if is_house(house) & sound::is_sound(r) {
+        let octets = size(r.name_len);
+        if octets <= out.len() {
+            write_bits(house, r, out);
+            Written::Octets(octets)
+        } else {
+            Written::Refused(TOO_SHORT)
+        }
     } else {
         Written::Refused(UNSOUND)
     }

@@ -1,10 +1,9 @@
 // A record that passes as its entry: what was read is entered under a house, and the one entry that is lent is written as a text.
 ghost use mathlib.Core.Path.{_≡_};
-ghost use mathlib.Core.Bool.{true};
 ghost use Rattle.refusal.specs.Length.{lengthOf};
-ghost use Rattle.refusal.specs.Outcome.{outcomeOf, passed};
-ghost use Rattle.sound.specs.Sound.{isSound};
-ghost use Rattle.lamphudet.specs.Calls.{enteredAnswer, enteredOut, writtenAnswer, writtenOut};
+ghost use Rattle.refusal.specs.Outcome.{outcomeOf};
+ghost use Rattle.entry.specs.Run.{onwardOf};
+ghost use Rattle.lamphudet.specs.Calls.{enteredAnswer, enteredOut, isOnly, writtenAnswer, writtenOut};
 use entry::run::Step;
 use refusal::Cause;
 use refusal::Refusal;
@@ -17,19 +16,28 @@ const NOT_ONE_ENTRY: Refusal = Refusal {
     place: 0,
 };
 
-// What a reader passed is sound, so that only the house and the output are left to test.
+// What a reader passed is entered; its refusals are handed on.
 pub(crate) fn enter(verdict: Verdict, kept: Record, house: u32, out: &mut [u8]) -> Written
-    requires { ⌜ (outcomeOf verdict ≡ passed → isSound kept ≡ true) ⌝ }
     ensures { λ w. ⌜ lengthOf w ≡ enteredAnswer (outcomeOf verdict) house kept (now (out .entry)) ⌝ }
     ensures { λ _. ⌜ now (out .exit) ≡ enteredOut (outcomeOf verdict) house kept (now (out .entry)) ⌝ }
 {
     match verdict {
-        Verdict::Passed => entry::write::write_kept(house, kept, out),
+        Verdict::Passed => entry::write::write(house, kept, out),
         Verdict::Refused(refusal) => Written::Refused(refusal),
     }
 }
 
-// So is what an entry holds.
+// Whether a run of n octets is one entry: it goes on at its own end.
+fn is_only(step: Step, n: usize) -> bool
+    ensures { λ r. ⌜ r ≡ isOnly (onwardOf step) n ⌝ }
+{
+    match step {
+        Step::Next(offset) => offset == n,
+        Step::End => false,
+        Step::Refused(_) => false,
+    }
+}
+
 pub(crate) fn write_only(only: &[u8], out: &mut [u8]) -> Written
     ensures { λ w. ⌜ lengthOf w ≡ writtenAnswer (now (only .entry)) (now (out .entry)) ⌝ }
     ensures { λ _. ⌜ now (out .exit) ≡ writtenOut (now (only .entry)) (now (out .entry)) ⌝ }
@@ -37,15 +45,9 @@ pub(crate) fn write_only(only: &[u8], out: &mut [u8]) -> Written
     let found = entry::run::next(only, 0);
     let kept = found.kept;
     let step = found.step;
-    match step {
-        Step::Next(offset) => {
-            if offset == only.len() {
-                writing::write::write_kept(kept, out)
-            } else {
-                Written::Refused(NOT_ONE_ENTRY)
-            }
-        }
-        Step::End => Written::Refused(NOT_ONE_ENTRY),
-        Step::Refused(_) => Written::Refused(NOT_ONE_ENTRY),
+    if is_only(step, only.len()) {
+        writing::write::write(kept, out)
+    } else {
+        Written::Refused(NOT_ONE_ENTRY)
     }
 }

@@ -12,26 +12,16 @@ use Rattle.zone.specs.declared.record.Record.{Record}
 use Rattle.sound.specs.Sound.{isSound}
 use Rattle.writing.specs.Text.{textOf}
 
--- no words of the paper: what is left to decide once a record is known to be sound. 16 for an output that is too short.
-unfoldable pub keptAnswer : Record → List ℕ → Length
-keptAnswer r out = cond (leb (total (r .form)) (length out)) (written (total (r .form))) (refused 16 0)
-
-unfoldable pub keptOut : Record → List ℕ → List ℕ
-keptOut r out = cond (leb (total (r .form)) (length out)) (textOf r ++ drop (total (r .form)) out) out
-
 -- 17 for a record that is not sound, then 16; else 72, 88 or 90 octets are written
 unfoldable pub textAnswer : Record → List ℕ → Length
-textAnswer r out = cond (isSound r) (keptAnswer r out) (refused 17 0)
+textAnswer r out =
+    cond (isSound r) (cond (leb (total (r .form)) (length out)) (written (total (r .form))) (refused 16 0)) (refused 17 0)
 
 -- a refusal changes no octet, a success those of the text and no others
 unfoldable pub textOut : Record → List ℕ → List ℕ
-textOut r out = cond (isSound r) (keptOut r out) out
+textOut r out = cond (isSound r) (cond (leb (total (r .form)) (length out)) (textOf r ++ drop (total (r .form)) out) out) out
 
--- the whole promise, of each: the answer, and what the output holds afterwards
-pub record WritesKept (r : Record) (out after : List ℕ) (w : Written) : Type 0 where
-  pub answer : lengthOf w ≡ keptAnswer r out
-  pub output : after ≡ keptOut r out
-
+-- the whole promise: the answer, and what the output holds afterwards
 pub record Writes (r : Record) (out after : List ℕ) (w : Written) : Type 0 where
   pub answer : lengthOf w ≡ textAnswer r out
   pub output : after ≡ textOut r out

@@ -1,5 +1,5 @@
 // Writing a text into a lent range: 17 for a record that is not sound, then 16 for a range that is too short.
-ghost use Rattle.writing.specs.Answer.{WritesKept, Writes};
+ghost use Rattle.writing.specs.Answer.{Writes};
 use crate::whole::put_all;
 use refusal::Cause;
 use refusal::Refusal;
@@ -16,26 +16,19 @@ const TOO_SHORT: Refusal = Refusal {
     place: 0,
 };
 
-// The text of a record that the caller knows to be sound.
-pub fn write_kept(r: Record, out: &mut [u8]) -> Written
-    ensures { λ w. ⌜ WritesKept r (now (out .entry)) (now (out .exit)) w ⌝ }
-{
-    let form = r.form;
-    let n = form.text_length();
-    if n <= out.len() {
-        put_all(&mut out[..n], r);
-        Written::Octets(n)
-    } else {
-        Written::Refused(TOO_SHORT)
-    }
-}
-
 // The text of any record at all.
 pub fn write(r: Record, out: &mut [u8]) -> Written
     ensures { λ w. ⌜ Writes r (now (out .entry)) (now (out .exit)) w ⌝ }
 {
+    let form = r.form;
+    let n = form.text_length();
     if sound::is_sound(r) {
-        write_kept(r, out)
+        if n <= out.len() {
+            put_all(&mut out[..n], r);
+            Written::Octets(n)
+        } else {
+            Written::Refused(TOO_SHORT)
+        }
     } else {
         Written::Refused(UNSOUND)
     }

@@ -1,12 +1,6 @@
--- The record of an accepted presentation is sound (demand 2), so that it can be entered as it is.
+-- What was read is entered, told in numbers.
 use borrow.Author.Needs.{needs}
-use mathlib.Core.Path.{ap, refl, sym, _∙_}
-use denote.Ref.{now}
-use Rattle.text.specs.Read.{Answer, answerOf}
-use Rattle.sound.specs.Sound.{isSound}
-use Rattle.chip.specs.Presentation.{readPresentation}
-use Rattle.demands.specs.Answered.{of-presentation}
-use Rattle.demands.proofs.Answered.{accepted-sound}
+use Rattle.text.specs.Read.{answerOf}
 use Rattle.lamphudet.specs.Calls.{readAnswer, readOut}
 use Rattle.lamphudet.proofs.lamphudet_read_presentation.Statement.{statement}
 use Rattle.lamphudet.proofs.lamphudet_read_presentation.Tie as tie
@@ -15,8 +9,7 @@ read-requires : tie.Need-read-requires
 read-requires c κs = search needs
 
 enter-requires : tie.Need-enter-requires
-unfolding answerOf readAnswer readOut
-enter-requires c κs = λ e. let w = now (c .before .before .before .before .before .args .presentation) in let told = sym (ap (λ (a : Answer). a .outcome) (c .before .before .read .ensures)) ∙ e in ap (λ (a : Answer). isSound (a .kept)) (c .before .before .read .ensures) ∙ accepted-sound (readPresentation w) (of-presentation w refl told)
+enter-requires c κs = search needs
 
 in-c-requires : tie.Need-in-c-requires
 in-c-requires c κs = search needs

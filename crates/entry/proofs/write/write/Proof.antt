@@ -1,37 +1,73 @@
--- A sound record, so the tests that are left are all (`sure-answer`, `sure-out`); or one that is not.
-use mathlib.Core.Path.{_∙_, sym}
+-- What may be entered fits (`kept-fits`), and its entry has the size that was tested (`length-entry`).
+use mathlib.Core.Path.{_∙_}
 use denote.Ref.{now}
+use borrow.Author.Tests.{le-leb, lt-leb}
 use borrow.Author.Needs.{needs}
-use Rattle.entry.proofs.Fits.{sure-answer, sure-out, unsound-answer, unsound-out}
+use Rattle.entry.specs.Entry.{entryOf, size, entryAnswer, entryOut}
+use Rattle.entry.proofs.Fits.{kept-fits}
+use Rattle.entry.proofs.Gather.{length-entry}
+use Rattle.entry.proofs.Ink.{sets-front}
 use Rattle.entry.proofs.write.write.Statement.{statement}
 use Rattle.entry.proofs.write.write.Tie as tie
+
+is-house-requires : tie.Need-is-house-requires
+is-house-requires c κs = search needs
 
 is-sound-requires : tie.Need-is-sound-requires
 is-sound-requires c κs = search needs
 
-write-kept-requires : tie.Need-write-kept-requires
-write-kept-requires c κs = search needs
+size-requires : tie.Need-size-requires
+size-requires c κs =
+    let kept = rw (c .before .is-sound .ensures, c .before .before .is-house .ensures) at (c .if1 .taken) in
+    let fits = kept-fits (c .before .before .before .before .args .house) (c .before .before .before .before .args .r) kept in
+    search needs
+
+write-bits-requires : tie.Need-write-bits-requires
+write-bits-requires c κs =
+    let kept = rw (c .before .before .before .before .is-sound .ensures, c .before .before .before .before .before .is-house .ensures) at (c .before .before .before .if1 .taken) in
+    kept-fits (c .before .before .before .before .before .before .before .args .house) (c .before .before .before .before .before .before .before .args .r) kept
 
 same-length : tie.Need-same-length
 same-length c = search needs
 
 returns : tie.Need-returns
-returns c = let a = c .before .before .before .before .before .before .before .args in
-    let w = c .before .before .write-kept .ensures in
-    let e = sym (c .before .before .before .before .before .is-sound .ensures) ∙ c .before .before .before .before .if1 .taken in
+unfolding entryAnswer entryOut
+returns c =
+    let a = c .before .before .before .before .before .before .before .before .before .before .args in
+    let s = c .before .before .before .before .before .size .ensures .0 in
+    let kept = rw (c .before .before .before .before .before .before .before .is-sound .ensures, c .before .before .before .before .before .before .before .before .is-house .ensures) at (c .before .before .before .before .before .before .if1 .taken) in
+    let room = rw s at (c .before .before .before .before .if2 .taken) in
+    let h = le-leb _ _ room in
+    let n =
+    length-entry (a .house) (a .r) (search needs) (search needs) (search needs) (search needs) (search needs) (search needs) (search needs)
+    (kept-fits (a .house) (a .r) kept .1) in
     record {
-      answer = w .answer ∙ sure-answer (a .house) (a .r) (now (a .out)) e;
-      output = w .output ∙ sure-out (a .house) (a .r) (now (a .out)) e;
+      answer = rw (kept, h, s);
+      output = rw (kept, h) (c .before .before .write-bits .ensures ∙ sets-front (now (a .out)) (entryOf (a .house) (a .r)) (size (a .r .«name_len»)) n room);
     }
 
 returns-2 : tie.Need-returns-2
-returns-2 c = let a = c .before .before .before .args in
-    let e = sym (c .before .is-sound .ensures) ∙ c .if1 .left in
-    record {
-      answer = unsound-answer (a .house) (a .r) (now (a .out)) e;
-      output = unsound-out (a .house) (a .r) (now (a .out)) e;
-    }
+unfolding entryAnswer entryOut
+returns-2 c =
+    let kept = rw (c .before .before .before .is-sound .ensures, c .before .before .before .before .is-house .ensures) at (c .before .before .if1 .taken) in
+    let h = rw (c .before .size .ensures .0) at (lt-leb _ _ (c .if2 .left)) in
+    record { answer = rw (kept, h); output = rw (kept, h) }
+
+returns-3 : tie.Need-returns-3
+unfolding entryAnswer entryOut
+returns-3 c =
+    let kept = rw (c .before .is-sound .ensures, c .before .before .is-house .ensures) at (c .if1 .left) in
+    record { answer = rw kept; output = rw kept }
 
 pub write-spec : {M : Type 1} → statement M
 write-spec =
-    tie.close (tie.spec is-sound-requires write-kept-requires same-length returns returns-2)
+    tie.close
+    (tie.spec
+    is-house-requires
+    is-sound-requires
+    size-requires
+    write-bits-requires
+    same-length
+    returns
+    returns-2
+    returns-3)

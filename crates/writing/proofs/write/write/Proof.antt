@@ -1,15 +1,27 @@
--- A record that is not sound is refused; the rest is decided for sound ones.
+-- The range is as long as the text, or longer; what lies behind the text stays.
 use mathlib.Core.Path.{sym, _∙_}
+use denote.Ref.{now}
 use borrow.Author.Needs.{needs}
+use borrow.Author.Tests.{le-leb, lt-leb}
 use Rattle.writing.specs.Answer.{textAnswer, textOut}
+use Rattle.writing.proofs.Fitted.{front-length, fitted}
 use Rattle.writing.proofs.write.write.Statement.{statement}
 use Rattle.writing.proofs.write.write.Tie as tie
+
+text-length-requires : tie.Need-text-length-requires
+text-length-requires c κs = search needs
 
 is-sound-requires : tie.Need-is-sound-requires
 is-sound-requires c κs = search needs
 
-write-kept-requires : tie.Need-write-kept-requires
-write-kept-requires c κs = search needs
+slice-relend-prefix-put-all : tie.Need-slice-relend-prefix-put-all
+slice-relend-prefix-put-all c = search needs
+
+slice-aggregate-put-all : tie.Need-slice-aggregate-put-all
+slice-aggregate-put-all c = front-length (c .before .before .before .before .text-length .result) (now (c .before .before .before .before .before .before .args .out)) (c .before .if2 .taken)
+
+put-all-requires : tie.Need-put-all-requires
+put-all-requires c κs = search needs
 
 same-length : tie.Need-same-length
 same-length c = search needs
@@ -17,16 +29,40 @@ same-length c = search needs
 returns : tie.Need-returns
 unfolding textAnswer textOut
 returns c =
-    let e = sym (c .before .before .before .before .before .is-sound .ensures) ∙ c .before .before .before .before .if1 .taken in
-    let w = c .before .before .write-kept .ensures in
-    record { answer = rw e (w .answer); output = rw e (w .output) }
+    let a = c .before .before .before .before .before .before .before .before .before .args in
+    let n = c .before .before .before .before .before .before .before .text-length in
+    let h = c .before .before .before .before .if2 .taken in
+    let sound = sym (c .before .before .before .before .before .before .is-sound .ensures) ∙ c .before .before .before .before .before .if1 .taken in
+    let fits = rw (n .ensures) at (le-leb _ _ h) in
+    let put = c .before .before .put-all in
+    record {
+      answer = rw (sound, fits, n .ensures);
+      output = rw (sound, fits) (fitted (a .r) (n .result) (now (a .out)) (put .last .0) (n .ensures) h (put .ensures));
+    }
 
 returns-2 : tie.Need-returns-2
 unfolding textAnswer textOut
 returns-2 c =
+    let sound = sym (c .before .before .is-sound .ensures) ∙ c .before .if1 .taken in
+    let e = rw (c .before .before .before .text-length .ensures) at (lt-leb _ _ (c .if2 .left)) in
+    record { answer = rw (sound, e); output = rw (sound, e) }
+
+returns-3 : tie.Need-returns-3
+unfolding textAnswer textOut
+returns-3 c =
     let e = sym (c .before .is-sound .ensures) ∙ c .if1 .left in
     record { answer = rw e; output = rw e }
 
 pub write-spec : {M : Type 1} → statement M
 write-spec =
-    tie.close (tie.spec is-sound-requires write-kept-requires same-length returns returns-2)
+    tie.close
+    (tie.spec
+    text-length-requires
+    is-sound-requires
+    slice-relend-prefix-put-all
+    slice-aggregate-put-all
+    put-all-requires
+    same-length
+    returns
+    returns-2
+    returns-3)
