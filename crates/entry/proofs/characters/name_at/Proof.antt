@@ -6,16 +6,13 @@ use Rattle.entry.specs.Run.{charactersAt}
 use Rattle.entry.proofs.characters.name_at.Statement.{statement}
 use Rattle.entry.proofs.characters.name_at.Tie as tie
 
-slice-aggregate-unpack : tie.Need-slice-aggregate-unpack
-slice-aggregate-unpack c = search needs
-
-unpack-requires : tie.Need-unpack-requires
-unpack-requires c κs = search needs
-
 returns : tie.Need-returns
 returns c =
     let a = c .before .before .before .before .args in
     rw (c .before .unpack .ensures) (copied-padded 39 (charactersAt (now (a .s)) (a .at) (a .n)))
 
 pub name-at-spec : {M : Type 1} → statement M
-name-at-spec = tie.close (tie.spec slice-aggregate-unpack unpack-requires returns)
+name-at-spec = tie.close (tie.spec
+    (λ c. search needs)
+    (λ c κs. search needs)
+    returns)

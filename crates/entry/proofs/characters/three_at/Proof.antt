@@ -5,16 +5,13 @@ use Rattle.entry.proofs.Fields.{characters-fill}
 use Rattle.entry.proofs.characters.three_at.Statement.{statement}
 use Rattle.entry.proofs.characters.three_at.Tie as tie
 
-slice-aggregate-unpack : tie.Need-slice-aggregate-unpack
-slice-aggregate-unpack c = search needs
-
-unpack-requires : tie.Need-unpack-requires
-unpack-requires c κs = search needs
-
 returns : tie.Need-returns
 returns c =
     let a = c .before .before .before .before .args in
     rw (c .before .unpack .ensures) (characters-fill (now (a .s)) (a .at) 3)
 
 pub three-at-spec : {M : Type 1} → statement M
-three-at-spec = tie.close (tie.spec slice-aggregate-unpack unpack-requires returns)
+three-at-spec = tie.close (tie.spec
+    (λ c. search needs)
+    (λ c κs. search needs)
+    returns)

@@ -18,44 +18,14 @@ Inv-loop to₀ s at n table i₀ to i = (i ≤ length to₀) × (i ≤ n) × (le
 abbrev μ-loop : tie.MeasureT-loop
 μ-loop to₀ s at n table i₀ to i = length to₀ - i
 
-characters-requires : tie.Need-characters-requires Inv-loop μ-loop
-characters-requires c κs = search needs
-
-loop-holds : tie.Need-loop-holds Inv-loop μ-loop
-loop-holds c = search needs
-
-same-length : tie.Need-same-length Inv-loop μ-loop
-same-length c = search needs
-
 returns : tie.Need-returns Inv-loop μ-loop
 returns c =
     let a = c .before .before .before .before .before .before .args in
     let l = c .before .before .loop in
     l .inv .3 ∙ unpack-ends (a .to .now) (now (a .s)) (a .at) (a .n) (l .i) (l .inv .0) (l .inv .1) (inl (c .if1 .taken))
 
-mul-six : tie.Need-mul-six Inv-loop μ-loop
-mul-six c = search needs
-
-add-six : tie.Need-add-six Inv-loop μ-loop
-add-six c = search needs
-
 six-requires : tie.Need-six-requires Inv-loop μ-loop
 six-requires c κs = (omega arith, omega arith, omega arith)
-
-cast-to : tie.Need-cast-to Inv-loop μ-loop
-cast-to c = search needs
-
-array-read-to : tie.Need-array-read-to Inv-loop μ-loop
-array-read-to c = search needs
-
-slice-write-to : tie.Need-slice-write-to Inv-loop μ-loop
-slice-write-to c = search needs
-
-add-i : tie.Need-add-i Inv-loop μ-loop
-add-i c = search needs
-
-loop-less : tie.Need-loop-less Inv-loop μ-loop
-loop-less c = search needs
 
 loop-again : tie.Need-loop-again Inv-loop μ-loop
 loop-again c =
@@ -70,9 +40,6 @@ loop-again c =
           (unpack-more (a .to .now) (now (a .s)) (a .at) (a .n) (l .i) ht hn),
     )
 
-same-length-2 : tie.Need-same-length-2 Inv-loop μ-loop
-same-length-2 c = search needs
-
 returns-2 : tie.Need-returns-2 Inv-loop μ-loop
 returns-2 c =
     let a = c .before .before .before .before .before .args in
@@ -86,18 +53,18 @@ unpack-spec =
     (tie.spec
     Inv-loop
     μ-loop
-    characters-requires
-    loop-holds
-    same-length
+    (λ c κs. search needs)
+    (λ c. search needs)
+    (λ c. search needs)
     returns
-    mul-six
-    add-six
+    (λ c. search needs)
+    (λ c. search needs)
     six-requires
-    cast-to
-    array-read-to
-    slice-write-to
-    add-i
-    loop-less
+    (λ c. search needs)
+    (λ c. search needs)
+    (λ c. search needs)
+    (λ c. search needs)
+    (λ c. search needs)
     loop-again
-    same-length-2
+    (λ c. search needs)
     returns-2)

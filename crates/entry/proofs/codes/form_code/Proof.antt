@@ -7,12 +7,6 @@ use Rattle.entry.proofs.codes.form_code.Tie as tie
 enum-told : tie.Need-enum-told
 enum-told c = search needs
 
-enum-told-2 : tie.Need-enum-told-2
-enum-told-2 c = search needs
-
-enum-told-3 : tie.Need-enum-told-3
-enum-told-3 c = search needs
-
 returns : tie.Need-returns
 unfolding formCode
 returns c = (rw (c .enum-told .given .1), search needs)
@@ -26,4 +20,10 @@ unfolding formCode
 returns-3 c = (rw (c .enum-told3 .given .1), search needs)
 
 pub form-code-spec : {M : Type 1} → statement M
-form-code-spec = tie.close (tie.spec enum-told enum-told-2 enum-told-3 returns returns-2 returns-3)
+form-code-spec = tie.close (tie.spec
+    enum-told
+    (λ c. search needs)
+    (λ c. search needs)
+    returns
+    returns-2
+    returns-3)

@@ -8,20 +8,11 @@ use Rattle.entry.proofs.pen.finish.Tie as tie
 returns : tie.Need-returns
 returns c = let a = c .before .before .before .args in finish-none (now (a .out)) (a .pen) (c .if1 .taken)
 
-sub-raised : tie.Need-sub-raised
-sub-raised c = search needs
-
 raised-requires : tie.Need-raised-requires
 raised-requires c κs = let s = c .before .before .before .before in (held-octet (s .args .pen) (s .pre), search needs)
 
 cast-octet : tie.Need-cast-octet
 cast-octet c = let s = c .before .before .before .before .before in record { fits = rw (c .raised .ensures) (finished-octet (s .args .pen) (s .pre)) }
-
-store-requires : tie.Need-store-requires
-store-requires c κs = search needs
-
-same-length : tie.Need-same-length
-same-length c = search needs
 
 returns-2 : tie.Need-returns-2
 returns-2 c = let a = c .before .before .before .before .before .before .before .before .before .args in
@@ -30,4 +21,11 @@ returns-2 c = let a = c .before .before .before .before .before .before .before 
 pub finish-spec : {M : Type 1} → statement M
 finish-spec =
     tie.close
-    (tie.spec returns sub-raised raised-requires cast-octet store-requires same-length returns-2)
+    (tie.spec
+    returns
+    (λ c. search needs)
+    raised-requires
+    cast-octet
+    (λ c κs. search needs)
+    (λ c. search needs)
+    returns-2)

@@ -11,9 +11,6 @@ raised-requires c κs = let s = c .before in (held-octet (s .args .pen) (s .pre 
 add-held : tie.Need-add-held
 add-held c = let s = c .before .before in record { fits = rw (c .raised .ensures) (pushed-word (s .args .pen) (s .args .width) (s .args .value) (s .pre .0) (s .pre .1) (s .pre .2)) }
 
-add-count : tie.Need-add-count
-add-count c = search needs
-
 returns : tie.Need-returns
 returns c = let s = c .before .before .before .before in
     rw (c .before .before .raised .ensures) (push-within (now (s .args .out)) (s .args .pen) (s .args .width) (s .args .value) (s .pre .0) (s .pre .2) (c .if1 .taken))
@@ -21,15 +18,6 @@ returns c = let s = c .before .before .before .before in
 high-requires : tie.Need-high-requires
 high-requires c κs = let s = c .before .before .before .before in
     (rw (c .before .before .raised .ensures) (pushed-over (s .args .pen) (s .args .width) (s .args .value) (s .pre .0) (s .pre .2) (c .if1 .left)), search needs)
-
-store-requires : tie.Need-store-requires
-store-requires c κs = search needs
-
-low-requires : tie.Need-low-requires
-low-requires c κs = search needs
-
-same-length : tie.Need-same-length
-same-length c = search needs
 
 returns-2 : tie.Need-returns-2
 returns-2 c = let s = c .before .before .before .before .before .before .before .before .before .before in
@@ -42,10 +30,10 @@ push-spec =
     (tie.spec
     raised-requires
     add-held
-    add-count
+    (λ c. search needs)
     returns
     high-requires
-    store-requires
-    low-requires
-    same-length
+    (λ c κs. search needs)
+    (λ c κs. search needs)
+    (λ c. search needs)
     returns-2)

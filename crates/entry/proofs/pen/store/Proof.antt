@@ -8,15 +8,6 @@ use Rattle.entry.specs.Ink.{within, past}
 use Rattle.entry.proofs.pen.store.Statement.{statement}
 use Rattle.entry.proofs.pen.store.Tie as tie
 
-slice-write-out : tie.Need-slice-write-out
-slice-write-out c = search needs
-
-add-result : tie.Need-add-result
-add-result c = search needs
-
-same-length : tie.Need-same-length
-same-length c = search needs
-
 returns : tie.Need-returns
 returns c = (refl, within refl)
 
@@ -24,4 +15,9 @@ returns-2 : tie.Need-returns-2
 returns-2 c = let a = c .before .args in (sym (set-out (now (a .out)) (a .at) (a .octet) (c .if1 .left)), past (omega arith) (c .if1 .left))
 
 pub store-spec : {M : Type 1} → statement M
-store-spec = tie.close (tie.spec slice-write-out add-result same-length returns returns-2)
+store-spec = tie.close (tie.spec
+    (λ c. search needs)
+    (λ c. search needs)
+    (λ c. search needs)
+    returns
+    returns-2)

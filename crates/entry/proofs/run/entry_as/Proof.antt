@@ -5,30 +5,12 @@ use Rattle.entry.specs.Run.{houseIn, isEntry, entryBy}
 use Rattle.entry.proofs.run.entry_as.Statement.{statement}
 use Rattle.entry.proofs.run.entry_as.Tie as tie
 
-bits-requires : tie.Need-bits-requires
-bits-requires c κs = search needs
-
-name-length-requires : tie.Need-name-length-requires
-name-length-requires c κs = search needs
-
-is-house-requires : tie.Need-is-house-requires
-is-house-requires c κs = search needs
-
-is-whole-requires : tie.Need-is-whole-requires
-is-whole-requires c κs = search needs
-
 sound-entry-requires : tie.Need-sound-entry-requires
 unfolding houseIn
 sound-entry-requires c κs =
     let house = sym (c .before .before .before .is-house .ensures) ∙ c .before .before .if1 .taken in
     let whole = sym (c .before .is-whole .ensures) ∙ c .if2 .taken in
     ((search needs, search needs, search needs), (c .before .before .before .before .before .bits .ensures, house, whole))
-
-no-entry-requires : tie.Need-no-entry-requires
-no-entry-requires c κs = search needs
-
-no-entry-requires-2 : tie.Need-no-entry-requires-2
-no-entry-requires-2 c κs = search needs
 
 returns : tie.Need-returns
 returns c = c .sound-entry .ensures
@@ -50,13 +32,13 @@ pub entry-as-spec : {M : Type 1} → statement M
 entry-as-spec =
     tie.close
     (tie.spec
-    bits-requires
-    name-length-requires
-    is-house-requires
-    is-whole-requires
+    (λ c κs. search needs)
+    (λ c κs. search needs)
+    (λ c κs. search needs)
+    (λ c κs. search needs)
     sound-entry-requires
-    no-entry-requires
-    no-entry-requires-2
+    (λ c κs. search needs)
+    (λ c κs. search needs)
     returns
     returns-2
     returns-3)

@@ -5,23 +5,8 @@ use Rattle.entry.specs.Run.{formIn, entryBy}
 use Rattle.entry.proofs.run.entry_at.Statement.{statement}
 use Rattle.entry.proofs.run.entry_at.Tie as tie
 
-bits-requires : tie.Need-bits-requires
-bits-requires c κs = search needs
-
-form-by-requires : tie.Need-form-by-requires
-form-by-requires c κs = search needs
-
-enum-known-told : tie.Need-enum-known-told
-enum-known-told c = search needs
-
-entry-as-requires : tie.Need-entry-as-requires
-entry-as-requires c κs = search needs
-
 enum-told : tie.Need-enum-told
 enum-told c = search needs
-
-no-entry-requires : tie.Need-no-entry-requires
-no-entry-requires c κs = search needs
 
 returns : tie.Need-returns
 unfolding formIn
@@ -39,11 +24,11 @@ pub entry-at-spec : {M : Type 1} → statement M
 entry-at-spec =
     tie.close
     (tie.spec
-    bits-requires
-    form-by-requires
-    enum-known-told
-    entry-as-requires
+    (λ c κs. search needs)
+    (λ c κs. search needs)
+    (λ c. search needs)
+    (λ c κs. search needs)
     enum-told
-    no-entry-requires
+    (λ c κs. search needs)
     returns
     returns-2)

@@ -5,21 +5,6 @@ use Rattle.entry.specs.Run.{isWhole}
 use Rattle.entry.proofs.run.is_whole.Statement.{statement}
 use Rattle.entry.proofs.run.is_whole.Tie as tie
 
-size-requires : tie.Need-size-requires
-size-requires c κs = search needs
-
-mul-bits : tie.Need-mul-bits
-mul-bits c = search needs
-
-add-bits : tie.Need-add-bits
-add-bits c = search needs
-
-spare-requires : tie.Need-spare-requires
-spare-requires c κs = search needs
-
-bits-requires : tie.Need-bits-requires
-bits-requires c κs = search needs
-
 returns : tie.Need-returns
 unfolding isWhole
 returns c =
@@ -35,4 +20,11 @@ returns-2 c =
 pub is-whole-spec : {M : Type 1} → statement M
 is-whole-spec =
     tie.close
-    (tie.spec size-requires mul-bits add-bits spare-requires bits-requires returns returns-2)
+    (tie.spec
+    (λ c κs. search needs)
+    (λ c. search needs)
+    (λ c. search needs)
+    (λ c κs. search needs)
+    (λ c κs. search needs)
+    returns
+    returns-2)

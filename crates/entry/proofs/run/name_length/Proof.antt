@@ -6,15 +6,12 @@ use Rattle.entry.proofs.Shifts.{number-below}
 use Rattle.entry.proofs.run.name_length.Statement.{statement}
 use Rattle.entry.proofs.run.name_length.Tie as tie
 
-bits-requires : tie.Need-bits-requires
-bits-requires c κs = search needs
-
-cast-result : tie.Need-cast-result
-cast-result c = search needs
-
 returns : tie.Need-returns
 unfolding nameLength
 returns c = (c .bits .ensures, rw (c .bits .ensures) (number-below (now (c .before .before .args .s)) 272 6))
 
 pub name-length-spec : {M : Type 1} → statement M
-name-length-spec = tie.close (tie.spec bits-requires cast-result returns)
+name-length-spec = tie.close (tie.spec
+    (λ c κs. search needs)
+    (λ c. search needs)
+    returns)

@@ -4,12 +4,11 @@ use Rattle.entry.specs.Run.{answerOf, noEntry}
 use Rattle.entry.proofs.run.no_entry.Statement.{statement}
 use Rattle.entry.proofs.run.no_entry.Tie as tie
 
-blank-requires : tie.Need-blank-requires
-blank-requires c κs = search needs
-
 returns : tie.Need-returns
 unfolding answerOf noEntry
 returns c = rw (c .blank .ensures)
 
 pub no-entry-spec : {M : Type 1} → statement M
-no-entry-spec = tie.close (tie.spec blank-requires returns)
+no-entry-spec = tie.close (tie.spec
+    (λ c κs. search needs)
+    returns)

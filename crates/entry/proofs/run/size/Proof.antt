@@ -6,18 +6,13 @@ use Rattle.entry.specs.Entry.{size}
 use Rattle.entry.proofs.run.size.Statement.{statement}
 use Rattle.entry.proofs.run.size.Tie as tie
 
-mul-result : tie.Need-mul-result
-mul-result c = search needs
-
-add-result : tie.Need-add-result
-add-result c = search needs
-
-add-result-2 : tie.Need-add-result-2
-add-result-2 c = search needs
-
 returns : tie.Need-returns
 unfolding size
 returns c = (refl, omega arith)
 
 pub size-spec : {M : Type 1} → statement M
-size-spec = tie.close (tie.spec mul-result add-result add-result-2 returns)
+size-spec = tie.close (tie.spec
+    (λ c. search needs)
+    (λ c. search needs)
+    (λ c. search needs)
+    returns)

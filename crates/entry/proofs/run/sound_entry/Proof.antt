@@ -10,18 +10,6 @@ use Rattle.entry.proofs.run.sound_entry.Tie as tie
 record-in-requires : tie.Need-record-in-requires
 record-in-requires c κs = whole-reaches (now (c .before .args .s)) (c .before .pre .1 .2)
 
-is-sound-requires : tie.Need-is-sound-requires
-is-sound-requires c κs = search needs
-
-size-requires : tie.Need-size-requires
-size-requires c κs = search needs
-
-add-t10 : tie.Need-add-t10
-add-t10 c = search needs
-
-no-entry-requires : tie.Need-no-entry-requires
-no-entry-requires c κs = search needs
-
 returns : tie.Need-returns
 unfolding answerOf isEntry entryBy
 returns c =
@@ -43,9 +31,9 @@ sound-entry-spec =
     tie.close
     (tie.spec
     record-in-requires
-    is-sound-requires
-    size-requires
-    add-t10
-    no-entry-requires
+    (λ c κs. search needs)
+    (λ c κs. search needs)
+    (λ c. search needs)
+    (λ c κs. search needs)
     returns
     returns-2)

@@ -6,18 +6,6 @@ use Rattle.entry.specs.Run.{spare}
 use Rattle.entry.proofs.run.spare.Statement.{statement}
 use Rattle.entry.proofs.run.spare.Tie as tie
 
-size-requires : tie.Need-size-requires
-size-requires c κs = search needs
-
-mul-result : tie.Need-mul-result
-mul-result c = search needs
-
-mul-result-2 : tie.Need-mul-result-2
-mul-result-2 c = search needs
-
-add-result : tie.Need-add-result
-add-result c = search needs
-
 sub-result : tie.Need-sub-result
 unfolding size
 sub-result c = omega (arith, c .size .ensures .0)
@@ -28,4 +16,10 @@ returns c = (rw (c .size .ensures .0), omega (arith, c .size .ensures .0))
 
 pub spare-spec : {M : Type 1} → statement M
 spare-spec =
-    tie.close (tie.spec size-requires mul-result mul-result-2 add-result sub-result returns)
+    tie.close (tie.spec
+    (λ c κs. search needs)
+    (λ c. search needs)
+    (λ c. search needs)
+    (λ c. search needs)
+    sub-result
+    returns)

@@ -10,12 +10,6 @@ use Rattle.entry.proofs.Ink.{sets-front}
 use Rattle.entry.proofs.write.write.Statement.{statement}
 use Rattle.entry.proofs.write.write.Tie as tie
 
-is-house-requires : tie.Need-is-house-requires
-is-house-requires c κs = search needs
-
-is-sound-requires : tie.Need-is-sound-requires
-is-sound-requires c κs = search needs
-
 size-requires : tie.Need-size-requires
 size-requires c κs =
     let kept = rw (c .before .is-sound .ensures, c .before .before .is-house .ensures) at (c .if1 .taken) in
@@ -26,9 +20,6 @@ write-bits-requires : tie.Need-write-bits-requires
 write-bits-requires c κs =
     let kept = rw (c .before .before .before .before .is-sound .ensures, c .before .before .before .before .before .is-house .ensures) at (c .before .before .before .if1 .taken) in
     kept-fits (c .before .before .before .before .before .before .before .args .house) (c .before .before .before .before .before .before .before .args .r) kept
-
-same-length : tie.Need-same-length
-same-length c = search needs
 
 returns : tie.Need-returns
 unfolding entryAnswer entryOut
@@ -63,11 +54,11 @@ pub write-spec : {M : Type 1} → statement M
 write-spec =
     tie.close
     (tie.spec
-    is-house-requires
-    is-sound-requires
+    (λ c κs. search needs)
+    (λ c κs. search needs)
     size-requires
     write-bits-requires
-    same-length
+    (λ c. search needs)
     returns
     returns-2
     returns-3)

@@ -7,22 +7,15 @@ use Rattle.entry.proofs.Ink.{wrote-then, finish-all}
 use Rattle.entry.proofs.write.write_bits.Statement.{statement}
 use Rattle.entry.proofs.write.write_bits.Tie as tie
 
-write-key-requires : tie.Need-write-key-requires
-write-key-requires c κs = search needs
-
-write-rest-requires : tie.Need-write-rest-requires
-write-rest-requires c κs = search needs
-
-finish-requires : tie.Need-finish-requires
-finish-requires c κs = search needs
-
-same-length : tie.Need-same-length
-same-length c = search needs
-
 returns : tie.Need-returns
 unfolding entryOf octets
 returns c = c .before .before .finish .ensures ∙ finish-all (wrote-then (c .before .before .before .before .before .before .before .before .before .before .write-key .ensures) (c .before .before .before .before .before .before .write-rest .ensures))
 
 pub write-bits-spec : {M : Type 1} → statement M
 write-bits-spec =
-    tie.close (tie.spec write-key-requires write-rest-requires finish-requires same-length returns)
+    tie.close (tie.spec
+    (λ c κs. search needs)
+    (λ c κs. search needs)
+    (λ c κs. search needs)
+    (λ c. search needs)
+    returns)

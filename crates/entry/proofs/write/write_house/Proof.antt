@@ -8,20 +8,8 @@ use Rattle.entry.proofs.Ink.{wrote-as, wrote-then, wrote-length}
 use Rattle.entry.proofs.write.write_house.Statement.{statement}
 use Rattle.entry.proofs.write.write_house.Tie as tie
 
-form-code-requires : tie.Need-form-code-requires
-form-code-requires c κs = search needs
-
-cast-code : tie.Need-cast-code
-cast-code c = search needs
-
-push-requires : tie.Need-push-requires
-push-requires c κs = search needs
-
 push-requires-2 : tie.Need-push-requires-2
 push-requires-2 c κs = (c .before .before .before .push .ensures .ready, search needs, mask-lt (c .before .before .before .before .before .before .before .args .house) 8)
-
-push-requires-3 : tie.Need-push-requires-3
-push-requires-3 c κs = search needs
 
 returns : tie.Need-returns
 returns c = let a = c .before .before .before .before .before .before .before .before .before .before .before .before .before .before .args in
@@ -36,10 +24,10 @@ pub write-house-spec : {M : Type 1} → statement M
 write-house-spec =
     tie.close
     (tie.spec
-    form-code-requires
-    cast-code
-    push-requires
+    (λ c κs. search needs)
+    (λ c. search needs)
+    (λ c κs. search needs)
     push-requires-2
-    push-requires-3
+    (λ c κs. search needs)
     same-length
     returns)

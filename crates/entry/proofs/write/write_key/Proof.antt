@@ -5,21 +5,6 @@ use Rattle.entry.proofs.Ink.{wrote-then, wrote-length}
 use Rattle.entry.proofs.write.write_key.Statement.{statement}
 use Rattle.entry.proofs.write.write_key.Tie as tie
 
-write-house-requires : tie.Need-write-house-requires
-write-house-requires c κs = search needs
-
-push-all-requires : tie.Need-push-all-requires
-push-all-requires c κs = search needs
-
-push-all-requires-2 : tie.Need-push-all-requires-2
-push-all-requires-2 c κs = search needs
-
-push-all-requires-3 : tie.Need-push-all-requires-3
-push-all-requires-3 c κs = search needs
-
-push-all-requires-4 : tie.Need-push-all-requires-4
-push-all-requires-4 c κs = search needs
-
 returns : tie.Need-returns
 unfolding putKey
 returns c = wrote-then (c .before .before .before .before .before .before .before .before .before .before .before .before .before .before .before .before .before .before .before .before .before .before .before .before .before .before .before .before .before .before .write-house .ensures)
@@ -33,10 +18,10 @@ pub write-key-spec : {M : Type 1} → statement M
 write-key-spec =
     tie.close
     (tie.spec
-    write-house-requires
-    push-all-requires
-    push-all-requires-2
-    push-all-requires-3
-    push-all-requires-4
+    (λ c κs. search needs)
+    (λ c κs. search needs)
+    (λ c κs. search needs)
+    (λ c κs. search needs)
+    (λ c κs. search needs)
     same-length
     returns)

@@ -6,45 +6,6 @@ use Rattle.zone.specs.Form.{placesOf}
 use Rattle.text.proofs.digits.digits.Statement.{statement}
 use Rattle.text.proofs.digits.digits.Tie as tie
 
-places-requires : tie.Need-places-requires
-places-requires c κs = search needs
-
-number-digit-requires : tie.Need-number-digit-requires
-number-digit-requires c κs = search needs
-
-further-digit-requires : tie.Need-further-digit-requires
-further-digit-requires c κs = search needs
-
-dates-digit-requires : tie.Need-dates-digit-requires
-dates-digit-requires c κs = search needs
-
-personal-digit-requires : tie.Need-personal-digit-requires
-personal-digit-requires c κs = search needs
-
-composite-digit-requires : tie.Need-composite-digit-requires
-composite-digit-requires c κs = search needs
-
-or-else-requires : tie.Need-or-else-requires
-or-else-requires c κs = search needs
-
-or-else-requires-2 : tie.Need-or-else-requires-2
-or-else-requires-2 c κs = search needs
-
-or-else-requires-3 : tie.Need-or-else-requires-3
-or-else-requires-3 c κs = search needs
-
-or-else-requires-4 : tie.Need-or-else-requires-4
-or-else-requires-4 c κs = search needs
-
-or-else-requires-5 : tie.Need-or-else-requires-5
-or-else-requires-5 c κs = search needs
-
-or-else-requires-6 : tie.Need-or-else-requires-6
-or-else-requires-6 c κs = search needs
-
-or-else-requires-7 : tie.Need-or-else-requires-7
-or-else-requires-7 c κs = search needs
-
 returns : tie.Need-returns
 unfolding placesOf
 returns c =
@@ -83,18 +44,18 @@ pub digits-spec : {M : Type 1} → statement M
 digits-spec =
     tie.close
     (tie.spec
-    places-requires
-    number-digit-requires
-    further-digit-requires
-    dates-digit-requires
-    personal-digit-requires
-    composite-digit-requires
-    or-else-requires
-    or-else-requires-2
-    or-else-requires-3
-    or-else-requires-4
-    or-else-requires-5
-    or-else-requires-6
-    or-else-requires-7
+    (λ c κs. search needs)
+    (λ c κs. search needs)
+    (λ c κs. search needs)
+    (λ c κs. search needs)
+    (λ c κs. search needs)
+    (λ c κs. search needs)
+    (λ c κs. search needs)
+    (λ c κs. search needs)
+    (λ c κs. search needs)
+    (λ c κs. search needs)
+    (λ c κs. search needs)
+    (λ c κs. search needs)
+    (λ c κs. search needs)
     returns
     returns-2)

@@ -5,15 +5,6 @@ use Rattle.zone.specs.Form.{placesOf, field}
 use Rattle.text.proofs.digits.expiry_digit.Statement.{statement}
 use Rattle.text.proofs.digits.expiry_digit.Tie as tie
 
-places-requires : tie.Need-places-requires
-places-requires c κs = search needs
-
-part-requires : tie.Need-part-requires
-part-requires c κs = search needs
-
-digit-at-requires : tie.Need-digit-at-requires
-digit-at-requires c κs = search needs
-
 returns : tie.Need-returns
 unfolding placesOf field
 returns c =
@@ -25,4 +16,8 @@ returns c =
     )
 
 pub expiry-digit-spec : {M : Type 1} → statement M
-expiry-digit-spec = tie.close (tie.spec places-requires part-requires digit-at-requires returns)
+expiry-digit-spec = tie.close (tie.spec
+    (λ c κs. search needs)
+    (λ c κs. search needs)
+    (λ c κs. search needs)
+    returns)

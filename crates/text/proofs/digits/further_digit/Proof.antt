@@ -6,20 +6,8 @@ use Rattle.text.specs.Order.{furtherDigit}
 use Rattle.text.proofs.digits.further_digit.Statement.{statement}
 use Rattle.text.proofs.digits.further_digit.Tie as tie
 
-optional-width-requires : tie.Need-optional-width-requires
-optional-width-requires c κs = search needs
-
 enum-told : tie.Need-enum-told
 enum-told c = search needs
-
-enum-known-span : tie.Need-enum-known-span
-enum-known-span c = search needs
-
-long-digit-requires : tie.Need-long-digit-requires
-long-digit-requires c κs = search needs
-
-enum-told-2 : tie.Need-enum-told-2
-enum-told-2 c = search needs
 
 returns : tie.Need-returns
 unfolding furtherDigit
@@ -53,11 +41,11 @@ pub further-digit-spec : {M : Type 1} → statement M
 further-digit-spec =
     tie.close
     (tie.spec
-    optional-width-requires
+    (λ c κs. search needs)
     enum-told
-    enum-known-span
-    long-digit-requires
-    enum-told-2
+    (λ c. search needs)
+    (λ c κs. search needs)
+    (λ c. search needs)
     returns
     returns-2
     returns-3

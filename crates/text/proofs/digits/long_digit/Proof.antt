@@ -10,23 +10,11 @@ use Rattle.text.specs.Order.{digitAt}
 use Rattle.text.proofs.digits.long_digit.Statement.{statement}
 use Rattle.text.proofs.digits.long_digit.Tie as tie
 
-places-requires : tie.Need-places-requires
-places-requires c κs = search needs
-
 add-place : tie.Need-add-place
 unfolding placesOf
 add-place c =
     let form = c .before .before .before .args .form in
     omega (arith, ap (λ (p : Places). p .optional) (c .before .places .ensures), within form optional, total-le form)
-
-octet-requires : tie.Need-octet-requires
-octet-requires c κs = search needs
-
-long-sum-requires : tie.Need-long-sum-requires
-long-sum-requires c κs = search needs
-
-judged-requires : tie.Need-judged-requires
-judged-requires c κs = search needs
 
 returns : tie.Need-returns
 unfolding digitAt placesOf
@@ -41,4 +29,10 @@ returns c =
 pub long-digit-spec : {M : Type 1} → statement M
 long-digit-spec =
     tie.close
-    (tie.spec places-requires add-place octet-requires long-sum-requires judged-requires returns)
+    (tie.spec
+    (λ c κs. search needs)
+    add-place
+    (λ c κs. search needs)
+    (λ c κs. search needs)
+    (λ c κs. search needs)
+    returns)

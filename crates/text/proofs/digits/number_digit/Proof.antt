@@ -7,23 +7,8 @@ use Rattle.text.specs.Order.{numberDigit}
 use Rattle.text.proofs.digits.number_digit.Statement.{statement}
 use Rattle.text.proofs.digits.number_digit.Tie as tie
 
-places-requires : tie.Need-places-requires
-places-requires c κs = search needs
-
 enum-told : tie.Need-enum-told
 enum-told c = search needs
-
-part-requires : tie.Need-part-requires
-part-requires c κs = search needs
-
-digit-at-requires : tie.Need-digit-at-requires
-digit-at-requires c κs = search needs
-
-enum-told-2 : tie.Need-enum-told-2
-enum-told-2 c = search needs
-
-enum-told-3 : tie.Need-enum-told-3
-enum-told-3 c = search needs
 
 returns : tie.Need-returns
 unfolding numberDigit checkedBy placesOf field
@@ -48,12 +33,12 @@ pub number-digit-spec : {M : Type 1} → statement M
 number-digit-spec =
     tie.close
     (tie.spec
-    places-requires
+    (λ c κs. search needs)
     enum-told
-    part-requires
-    digit-at-requires
-    enum-told-2
-    enum-told-3
+    (λ c κs. search needs)
+    (λ c κs. search needs)
+    (λ c. search needs)
+    (λ c. search needs)
     returns
     returns-2
     returns-3)

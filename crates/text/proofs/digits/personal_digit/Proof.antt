@@ -5,18 +5,6 @@ use Rattle.zone.specs.Form.{placesOf, field}
 use Rattle.text.proofs.digits.personal_digit.Statement.{statement}
 use Rattle.text.proofs.digits.personal_digit.Tie as tie
 
-places-requires : tie.Need-places-requires
-places-requires c κs = search needs
-
-personal-width-requires : tie.Need-personal-width-requires
-personal-width-requires c κs = search needs
-
-part-requires : tie.Need-part-requires
-part-requires c κs = search needs
-
-digit-at-requires : tie.Need-digit-at-requires
-digit-at-requires c κs = search needs
-
 returns : tie.Need-returns
 unfolding placesOf field
 returns c =
@@ -30,9 +18,9 @@ pub personal-digit-spec : {M : Type 1} → statement M
 personal-digit-spec =
     tie.close
     (tie.spec
-    places-requires
-    personal-width-requires
-    part-requires
-    digit-at-requires
+    (λ c κs. search needs)
+    (λ c κs. search needs)
+    (λ c κs. search needs)
+    (λ c κs. search needs)
     returns
     returns-2)

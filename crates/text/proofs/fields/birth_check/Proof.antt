@@ -5,18 +5,6 @@ use Rattle.zone.specs.Form.{placesOf, field}
 use Rattle.text.proofs.fields.birth_check.Statement.{statement}
 use Rattle.text.proofs.fields.birth_check.Tie as tie
 
-places-requires : tie.Need-places-requires
-places-requires c κs = search needs
-
-part-requires : tie.Need-part-requires
-part-requires c κs = search needs
-
-is-birth-requires : tie.Need-is-birth-requires
-is-birth-requires c κs = search needs
-
-judged-requires : tie.Need-judged-requires
-judged-requires c κs = search needs
-
 returns : tie.Need-returns
 unfolding placesOf field
 returns c =
@@ -30,4 +18,9 @@ returns c =
 
 pub birth-check-spec : {M : Type 1} → statement M
 birth-check-spec =
-    tie.close (tie.spec places-requires part-requires is-birth-requires judged-requires returns)
+    tie.close (tie.spec
+    (λ c κs. search needs)
+    (λ c κs. search needs)
+    (λ c κs. search needs)
+    (λ c κs. search needs)
+    returns)

@@ -6,48 +6,6 @@ use Rattle.zone.specs.Form.{placesOf}
 use Rattle.text.proofs.fields.fields.Statement.{statement}
 use Rattle.text.proofs.fields.fields.Tie as tie
 
-places-requires : tie.Need-places-requires
-places-requires c κs = search needs
-
-opening-check-requires : tie.Need-opening-check-requires
-opening-check-requires c κs = search needs
-
-name-check-requires : tie.Need-name-check-requires
-name-check-requires c κs = search needs
-
-number-check-requires : tie.Need-number-check-requires
-number-check-requires c κs = search needs
-
-nationality-check-requires : tie.Need-nationality-check-requires
-nationality-check-requires c κs = search needs
-
-person-check-requires : tie.Need-person-check-requires
-person-check-requires c κs = search needs
-
-or-else-requires : tie.Need-or-else-requires
-or-else-requires c κs = search needs
-
-or-else-requires-2 : tie.Need-or-else-requires-2
-or-else-requires-2 c κs = search needs
-
-or-else-requires-3 : tie.Need-or-else-requires-3
-or-else-requires-3 c κs = search needs
-
-or-else-requires-4 : tie.Need-or-else-requires-4
-or-else-requires-4 c κs = search needs
-
-or-else-requires-5 : tie.Need-or-else-requires-5
-or-else-requires-5 c κs = search needs
-
-or-else-requires-6 : tie.Need-or-else-requires-6
-or-else-requires-6 c κs = search needs
-
-or-else-requires-7 : tie.Need-or-else-requires-7
-or-else-requires-7 c κs = search needs
-
-or-else-requires-8 : tie.Need-or-else-requires-8
-or-else-requires-8 c κs = search needs
-
 returns : tie.Need-returns
 unfolding placesOf
 returns c =
@@ -86,19 +44,19 @@ pub fields-spec : {M : Type 1} → statement M
 fields-spec =
     tie.close
     (tie.spec
-    places-requires
-    opening-check-requires
-    name-check-requires
-    number-check-requires
-    nationality-check-requires
-    person-check-requires
-    or-else-requires
-    or-else-requires-2
-    or-else-requires-3
-    or-else-requires-4
-    or-else-requires-5
-    or-else-requires-6
-    or-else-requires-7
-    or-else-requires-8
+    (λ c κs. search needs)
+    (λ c κs. search needs)
+    (λ c κs. search needs)
+    (λ c κs. search needs)
+    (λ c κs. search needs)
+    (λ c κs. search needs)
+    (λ c κs. search needs)
+    (λ c κs. search needs)
+    (λ c κs. search needs)
+    (λ c κs. search needs)
+    (λ c κs. search needs)
+    (λ c κs. search needs)
+    (λ c κs. search needs)
+    (λ c κs. search needs)
     returns
     returns-2)

@@ -6,21 +6,12 @@ use Rattle.text.specs.Number.{spanRule}
 use Rattle.text.proofs.fields.is_number.Statement.{statement}
 use Rattle.text.proofs.fields.is_number.Tie as tie
 
-octet-requires : tie.Need-octet-requires
-octet-requires c κs = search needs
-
 returns : tie.Need-returns
 unfolding isFiller spanRule
 returns c = simp (eq-eqb _ _ (c .if1 .taken), ← c .before .octet .ensures)
 
 enum-told : tie.Need-enum-told
 enum-told c = search needs
-
-enum-told-2 : tie.Need-enum-told-2
-enum-told-2 c = search needs
-
-enum-told-3 : tie.Need-enum-told-3
-enum-told-3 c = search needs
 
 returns-2 : tie.Need-returns-2
 unfolding isFiller spanRule
@@ -38,11 +29,11 @@ pub is-number-spec : {M : Type 1} → statement M
 is-number-spec =
     tie.close
     (tie.spec
-    octet-requires
+    (λ c κs. search needs)
     returns
     enum-told
-    enum-told-2
-    enum-told-3
+    (λ c. search needs)
+    (λ c. search needs)
     returns-2
     returns-3
     returns-4)

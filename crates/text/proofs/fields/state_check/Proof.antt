@@ -5,18 +5,6 @@ use Rattle.zone.specs.Form.{placesOf, field}
 use Rattle.text.proofs.fields.state_check.Statement.{statement}
 use Rattle.text.proofs.fields.state_check.Tie as tie
 
-places-requires : tie.Need-places-requires
-places-requires c κs = search needs
-
-part-requires : tie.Need-part-requires
-part-requires c κs = search needs
-
-is-state-requires : tie.Need-is-state-requires
-is-state-requires c κs = search needs
-
-judged-requires : tie.Need-judged-requires
-judged-requires c κs = search needs
-
 returns : tie.Need-returns
 unfolding placesOf field
 returns c =
@@ -30,4 +18,9 @@ returns c =
 
 pub state-check-spec : {M : Type 1} → statement M
 state-check-spec =
-    tie.close (tie.spec places-requires part-requires is-state-requires judged-requires returns)
+    tie.close (tie.spec
+    (λ c κs. search needs)
+    (λ c κs. search needs)
+    (λ c κs. search needs)
+    (λ c κs. search needs)
+    returns)

@@ -8,12 +8,6 @@ use Rattle.text.specs.Number.{cutAt}
 use Rattle.text.proofs.number.cut_at.Statement.{statement}
 use Rattle.text.proofs.number.cut_at.Tie as tie
 
-optional-width-requires : tie.Need-optional-width-requires
-optional-width-requires c κs = search needs
-
-sub-t8 : tie.Need-sub-t8
-sub-t8 c = search needs
-
 cast-t9 : tie.Need-cast-t9
 cast-t9 c =
     let form = c .before .before .before .args .form in
@@ -33,4 +27,10 @@ returns-3 c = simp (lt-leb _ _ (c .if1 .left))
 
 pub cut-at-spec : {M : Type 1} → statement M
 cut-at-spec =
-    tie.close (tie.spec optional-width-requires sub-t8 cast-t9 returns returns-2 returns-3)
+    tie.close (tie.spec
+    (λ c κs. search needs)
+    (λ c. search needs)
+    cast-t9
+    returns
+    returns-2
+    returns-3)

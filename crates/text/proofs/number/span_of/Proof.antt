@@ -7,27 +7,6 @@ use Rattle.text.specs.Number.{spanOf, isLong}
 use Rattle.text.proofs.number.span_of.Statement.{statement}
 use Rattle.text.proofs.number.span_of.Tie as tie
 
-places-requires : tie.Need-places-requires
-places-requires c κs = search needs
-
-longest-number-requires : tie.Need-longest-number-requires
-longest-number-requires c κs = search needs
-
-octet-requires : tie.Need-octet-requires
-octet-requires c κs = search needs
-
-optional-width-requires : tie.Need-optional-width-requires
-optional-width-requires c κs = search needs
-
-part-requires : tie.Need-part-requires
-part-requires c κs = search needs
-
-first-filler-requires : tie.Need-first-filler-requires
-first-filler-requires c κs = search needs
-
-cut-at-requires : tie.Need-cut-at-requires
-cut-at-requires c κs = search needs
-
 returns : tie.Need-returns
 unfolding spanOf isLong placesOf field isFiller
 returns c =
@@ -58,13 +37,13 @@ pub span-of-spec : {M : Type 1} → statement M
 span-of-spec =
     tie.close
     (tie.spec
-    places-requires
-    longest-number-requires
-    octet-requires
-    optional-width-requires
-    part-requires
-    first-filler-requires
-    cut-at-requires
+    (λ c κs. search needs)
+    (λ c κs. search needs)
+    (λ c κs. search needs)
+    (λ c κs. search needs)
+    (λ c κs. search needs)
+    (λ c κs. search needs)
+    (λ c κs. search needs)
     returns
     returns-2
     returns-3)

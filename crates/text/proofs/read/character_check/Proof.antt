@@ -4,15 +4,12 @@ use Rattle.text.specs.Order.{characters}
 use Rattle.text.proofs.read.character_check.Statement.{statement}
 use Rattle.text.proofs.read.character_check.Tie as tie
 
-first-foreign-requires : tie.Need-first-foreign-requires
-first-foreign-requires c κs = search needs
-
-judged-requires : tie.Need-judged-requires
-judged-requires c κs = search needs
-
 returns : tie.Need-returns
 unfolding characters
 returns c = rw (c .judged .ensures, c .before .first-foreign .ensures)
 
 pub character-check-spec : {M : Type 1} → statement M
-character-check-spec = tie.close (tie.spec first-foreign-requires judged-requires returns)
+character-check-spec = tie.close (tie.spec
+    (λ c κs. search needs)
+    (λ c κs. search needs)
+    returns)

@@ -4,12 +4,11 @@ use Rattle.text.specs.Read.{answerOf, answered}
 use Rattle.text.proofs.read.refuse.Statement.{statement}
 use Rattle.text.proofs.read.refuse.Tie as tie
 
-blank-requires : tie.Need-blank-requires
-blank-requires c κs = search needs
-
 returns : tie.Need-returns
 unfolding answerOf answered
 returns c = rw (c .blank .ensures)
 
 pub refuse-spec : {M : Type 1} → statement M
-refuse-spec = tie.close (tie.spec blank-requires returns)
+refuse-spec = tie.close (tie.spec
+    (λ c κs. search needs)
+    returns)

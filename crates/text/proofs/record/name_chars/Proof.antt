@@ -8,21 +8,6 @@ use Rattle.zone.specs.Form.{placesOf, field}
 use Rattle.text.proofs.record.name_chars.Statement.{statement}
 use Rattle.text.proofs.record.name_chars.Tie as tie
 
-places-requires : tie.Need-places-requires
-places-requires c κs = search needs
-
-slice-aggregate-copy : tie.Need-slice-aggregate-copy
-slice-aggregate-copy c = search needs
-
-name-width-requires : tie.Need-name-width-requires
-name-width-requires c κs = search needs
-
-part-requires : tie.Need-part-requires
-part-requires c κs = search needs
-
-copy-requires : tie.Need-copy-requires
-copy-requires c κs = search needs
-
 returns : tie.Need-returns
 unfolding placesOf field
 returns c =
@@ -40,9 +25,9 @@ pub name-chars-spec : {M : Type 1} → statement M
 name-chars-spec =
     tie.close
     (tie.spec
-    places-requires
-    slice-aggregate-copy
-    name-width-requires
-    part-requires
-    copy-requires
+    (λ c κs. search needs)
+    (λ c. search needs)
+    (λ c κs. search needs)
+    (λ c κs. search needs)
+    (λ c κs. search needs)
     returns)

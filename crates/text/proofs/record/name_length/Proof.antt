@@ -5,18 +5,6 @@ use Rattle.zone.specs.Form.{placesOf, field}
 use Rattle.text.proofs.record.name_length.Statement.{statement}
 use Rattle.text.proofs.record.name_length.Tie as tie
 
-places-requires : tie.Need-places-requires
-places-requires c κs = search needs
-
-name-width-requires : tie.Need-name-width-requires
-name-width-requires c κs = search needs
-
-part-requires : tie.Need-part-requires
-part-requires c κs = search needs
-
-trimmed-length-requires : tie.Need-trimmed-length-requires
-trimmed-length-requires c κs = search needs
-
 returns : tie.Need-returns
 unfolding placesOf field
 returns c =
@@ -31,4 +19,9 @@ returns c =
 pub name-length-spec : {M : Type 1} → statement M
 name-length-spec =
     tie.close
-    (tie.spec places-requires name-width-requires part-requires trimmed-length-requires returns)
+    (tie.spec
+    (λ c κs. search needs)
+    (λ c κs. search needs)
+    (λ c κs. search needs)
+    (λ c κs. search needs)
+    returns)

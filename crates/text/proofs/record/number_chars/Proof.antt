@@ -10,47 +10,8 @@ use Rattle.text.specs.Number.{numberBy}
 use Rattle.text.proofs.record.number_chars.Statement.{statement}
 use Rattle.text.proofs.record.number_chars.Tie as tie
 
-places-requires : tie.Need-places-requires
-places-requires c κs = search needs
-
-part-requires : tie.Need-part-requires
-part-requires c κs = search needs
-
-optional-width-requires : tie.Need-optional-width-requires
-optional-width-requires c κs = search needs
-
-part-requires-2 : tie.Need-part-requires-2
-part-requires-2 c κs = search needs
-
 enum-told : tie.Need-enum-told
 enum-told c = search needs
-
-part-requires-3 : tie.Need-part-requires-3
-part-requires-3 c κs = search needs
-
-joined-requires : tie.Need-joined-requires
-joined-requires c κs = search needs
-
-enum-known-span : tie.Need-enum-known-span
-enum-known-span c = search needs
-
-cast-part : tie.Need-cast-part
-cast-part c = search needs
-
-part-requires-4 : tie.Need-part-requires-4
-part-requires-4 c κs = search needs
-
-joined-requires-2 : tie.Need-joined-requires-2
-joined-requires-2 c κs = search needs
-
-enum-told-2 : tie.Need-enum-told-2
-enum-told-2 c = search needs
-
-part-requires-5 : tie.Need-part-requires-5
-part-requires-5 c κs = search needs
-
-joined-requires-3 : tie.Need-joined-requires-3
-joined-requires-3 c κs = search needs
 
 returns : tie.Need-returns
 unfolding placesOf field numberBy
@@ -98,20 +59,20 @@ pub number-chars-spec : {M : Type 1} → statement M
 number-chars-spec =
     tie.close
     (tie.spec
-    places-requires
-    part-requires
-    optional-width-requires
-    part-requires-2
+    (λ c κs. search needs)
+    (λ c κs. search needs)
+    (λ c κs. search needs)
+    (λ c κs. search needs)
     enum-told
-    part-requires-3
-    joined-requires
-    enum-known-span
-    cast-part
-    part-requires-4
-    joined-requires-2
-    enum-told-2
-    part-requires-5
-    joined-requires-3
+    (λ c κs. search needs)
+    (λ c κs. search needs)
+    (λ c. search needs)
+    (λ c. search needs)
+    (λ c κs. search needs)
+    (λ c κs. search needs)
+    (λ c. search needs)
+    (λ c κs. search needs)
+    (λ c κs. search needs)
     returns
     returns-2
     returns-3)

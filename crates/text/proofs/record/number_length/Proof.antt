@@ -11,41 +11,8 @@ use Rattle.text.specs.Number.{numberBy}
 use Rattle.text.proofs.record.number_length.Statement.{statement}
 use Rattle.text.proofs.record.number_length.Tie as tie
 
-places-requires : tie.Need-places-requires
-places-requires c κs = search needs
-
-part-requires : tie.Need-part-requires
-part-requires c κs = search needs
-
 enum-told : tie.Need-enum-told
 enum-told c = search needs
-
-trimmed-length-requires : tie.Need-trimmed-length-requires
-trimmed-length-requires c κs = search needs
-
-enum-known-span : tie.Need-enum-known-span
-enum-known-span c = search needs
-
-optional-width-requires : tie.Need-optional-width-requires
-optional-width-requires c κs = search needs
-
-part-requires-2 : tie.Need-part-requires-2
-part-requires-2 c κs = search needs
-
-cast-part : tie.Need-cast-part
-cast-part c = search needs
-
-part-requires-3 : tie.Need-part-requires-3
-part-requires-3 c κs = search needs
-
-add-result : tie.Need-add-result
-add-result c = search needs
-
-enum-told-2 : tie.Need-enum-told-2
-enum-told-2 c = search needs
-
-trimmed-length-requires-2 : tie.Need-trimmed-length-requires-2
-trimmed-length-requires-2 c κs = search needs
 
 returns : tie.Need-returns
 unfolding placesOf field numberBy
@@ -91,18 +58,18 @@ pub number-length-spec : {M : Type 1} → statement M
 number-length-spec =
     tie.close
     (tie.spec
-    places-requires
-    part-requires
+    (λ c κs. search needs)
+    (λ c κs. search needs)
     enum-told
-    trimmed-length-requires
-    enum-known-span
-    optional-width-requires
-    part-requires-2
-    cast-part
-    part-requires-3
-    add-result
-    enum-told-2
-    trimmed-length-requires-2
+    (λ c κs. search needs)
+    (λ c. search needs)
+    (λ c κs. search needs)
+    (λ c κs. search needs)
+    (λ c. search needs)
+    (λ c κs. search needs)
+    (λ c. search needs)
+    (λ c. search needs)
+    (λ c κs. search needs)
     returns
     returns-2
     returns-3)

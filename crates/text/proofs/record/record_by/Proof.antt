@@ -6,39 +6,6 @@ use Rattle.text.specs.Read.{recordBy}
 use Rattle.text.proofs.record.record_by.Statement.{statement}
 use Rattle.text.proofs.record.record_by.Tie as tie
 
-places-requires : tie.Need-places-requires
-places-requires c κs = search needs
-
-two-at-requires : tie.Need-two-at-requires
-two-at-requires c κs = search needs
-
-three-at-requires : tie.Need-three-at-requires
-three-at-requires c κs = search needs
-
-number-chars-requires : tie.Need-number-chars-requires
-number-chars-requires c κs = search needs
-
-number-length-requires : tie.Need-number-length-requires
-number-length-requires c κs = search needs
-
-three-at-requires-2 : tie.Need-three-at-requires-2
-three-at-requires-2 c κs = search needs
-
-six-at-requires : tie.Need-six-at-requires
-six-at-requires c κs = search needs
-
-octet-requires : tie.Need-octet-requires
-octet-requires c κs = search needs
-
-six-at-requires-2 : tie.Need-six-at-requires-2
-six-at-requires-2 c κs = search needs
-
-name-chars-requires : tie.Need-name-chars-requires
-name-chars-requires c κs = search needs
-
-name-length-requires : tie.Need-name-length-requires
-name-length-requires c κs = search needs
-
 returns : tie.Need-returns
 unfolding recordBy placesOf field
 returns c =
@@ -65,15 +32,15 @@ pub record-by-spec : {M : Type 1} → statement M
 record-by-spec =
     tie.close
     (tie.spec
-    places-requires
-    two-at-requires
-    three-at-requires
-    number-chars-requires
-    number-length-requires
-    three-at-requires-2
-    six-at-requires
-    octet-requires
-    six-at-requires-2
-    name-chars-requires
-    name-length-requires
+    (λ c κs. search needs)
+    (λ c κs. search needs)
+    (λ c κs. search needs)
+    (λ c κs. search needs)
+    (λ c κs. search needs)
+    (λ c κs. search needs)
+    (λ c κs. search needs)
+    (λ c κs. search needs)
+    (λ c κs. search needs)
+    (λ c κs. search needs)
+    (λ c κs. search needs)
     returns)

@@ -6,19 +6,14 @@ use Rattle.zone.proofs.Padded.{copied-padded}
 use Rattle.text.proofs.record.six_at.Statement.{statement}
 use Rattle.text.proofs.record.six_at.Tie as tie
 
-slice-aggregate-copy : tie.Need-slice-aggregate-copy
-slice-aggregate-copy c = search needs
-
-part-requires : tie.Need-part-requires
-part-requires c κs = search needs
-
-copy-requires : tie.Need-copy-requires
-copy-requires c κs = search needs
-
 returns : tie.Need-returns
 returns c =
     let a = c .before .before .before .before .before .args in
     rw (c .before .copy .ensures, c .before .before .part .ensures) (copied-padded 6 (take 6 (drop (a .at) (now (a .text)))))
 
 pub six-at-spec : {M : Type 1} → statement M
-six-at-spec = tie.close (tie.spec slice-aggregate-copy part-requires copy-requires returns)
+six-at-spec = tie.close (tie.spec
+    (λ c. search needs)
+    (λ c κs. search needs)
+    (λ c κs. search needs)
+    returns)

@@ -3,21 +3,14 @@ use borrow.Author.Needs.{needs}
 use Rattle.writing.proofs.fields.put_name.Statement.{statement}
 use Rattle.writing.proofs.fields.put_name.Tie as tie
 
-slice-aggregate-part : tie.Need-slice-aggregate-part
-slice-aggregate-part c = search needs
-
-part-requires : tie.Need-part-requires
-part-requires c κs = search needs
-
-copy-at-requires : tie.Need-copy-at-requires
-copy-at-requires c κs = search needs
-
-same-length : tie.Need-same-length
-same-length c = search needs
-
 returns : tie.Need-returns
 returns c = rw (c .before .before .copy-at .ensures, c .before .before .before .part .ensures)
 
 pub put-name-spec : {M : Type 1} → statement M
 put-name-spec =
-    tie.close (tie.spec slice-aggregate-part part-requires copy-at-requires same-length returns)
+    tie.close (tie.spec
+    (λ c. search needs)
+    (λ c κs. search needs)
+    (λ c κs. search needs)
+    (λ c. search needs)
+    returns)

@@ -4,19 +4,14 @@ use lib.Seq.{take-all}
 use Rattle.writing.proofs.fields.put_two.Statement.{statement}
 use Rattle.writing.proofs.fields.put_two.Tie as tie
 
-slice-aggregate-copy-at : tie.Need-slice-aggregate-copy-at
-slice-aggregate-copy-at c = search needs
-
-copy-at-requires : tie.Need-copy-at-requires
-copy-at-requires c κs = search needs
-
-same-length : tie.Need-same-length
-same-length c = search needs
-
 returns : tie.Need-returns
 returns c =
     rw (take-all 2 (c .before .before .before .before .before .before .args .t3) (search needs))
     (c .before .before .copy-at .ensures)
 
 pub put-two-spec : {M : Type 1} → statement M
-put-two-spec = tie.close (tie.spec slice-aggregate-copy-at copy-at-requires same-length returns)
+put-two-spec = tie.close (tie.spec
+    (λ c. search needs)
+    (λ c κs. search needs)
+    (λ c. search needs)
+    returns)

@@ -8,27 +8,12 @@ use Rattle.zone.specs.Part.{optional}
 use Rattle.writing.proofs.number.put_long.Statement.{statement}
 use Rattle.writing.proofs.number.put_long.Tie as tie
 
-places-requires : tie.Need-places-requires
-places-requires c κs = search needs
-
-put-nine-requires : tie.Need-put-nine-requires
-put-nine-requires c κs = search needs
-
-put-requires : tie.Need-put-requires
-put-requires c κs = search needs
-
-optional-width-requires : tie.Need-optional-width-requires
-optional-width-requires c κs = search needs
-
 put-further-requires : tie.Need-put-further-requires
 unfolding placesOf
 put-further-requires c κs =
     let f = c .before .before .before .before .before .before .before .before .before .before .before .before .before .args .r .form in
     rw (c .before .before .before .before .before .before .before .before .before .before .before .places .ensures)
     (omega (arith, within f optional, total-le f))
-
-same-length : tie.Need-same-length
-same-length c = search needs
 
 returns : tie.Need-returns
 unfolding putLong put mark numberIn furtherIn placesOf
@@ -46,10 +31,10 @@ pub put-long-spec : {M : Type 1} → statement M
 put-long-spec =
     tie.close
     (tie.spec
-    places-requires
-    put-nine-requires
-    put-requires
-    optional-width-requires
+    (λ c κs. search needs)
+    (λ c κs. search needs)
+    (λ c κs. search needs)
+    (λ c κs. search needs)
     put-further-requires
-    same-length
+    (λ c. search needs)
     returns)

@@ -6,18 +6,6 @@ use Rattle.zone.proofs.Widths.{fixed}
 use Rattle.writing.proofs.parts.put_dates.Statement.{statement}
 use Rattle.writing.proofs.parts.put_dates.Tie as tie
 
-places-requires : tie.Need-places-requires
-places-requires c κs = search needs
-
-put-date-requires : tie.Need-put-date-requires
-put-date-requires c κs = search needs
-
-put-date-requires-2 : tie.Need-put-date-requires-2
-put-date-requires-2 c κs = search needs
-
-same-length : tie.Need-same-length
-same-length c = search needs
-
 returns : tie.Need-returns
 unfolding putDates put mark placesOf
 returns c =
@@ -31,4 +19,9 @@ returns c =
 
 pub put-dates-spec : {M : Type 1} → statement M
 put-dates-spec =
-    tie.close (tie.spec places-requires put-date-requires put-date-requires-2 same-length returns)
+    tie.close (tie.spec
+    (λ c κs. search needs)
+    (λ c κs. search needs)
+    (λ c κs. search needs)
+    (λ c. search needs)
+    returns)

@@ -6,18 +6,6 @@ use Rattle.zone.proofs.Widths.{fixed}
 use Rattle.writing.proofs.parts.put_opening.Statement.{statement}
 use Rattle.writing.proofs.parts.put_opening.Tie as tie
 
-places-requires : tie.Need-places-requires
-places-requires c κs = search needs
-
-put-two-requires : tie.Need-put-two-requires
-put-two-requires c κs = search needs
-
-put-three-requires : tie.Need-put-three-requires
-put-three-requires c κs = search needs
-
-same-length : tie.Need-same-length
-same-length c = search needs
-
 returns : tie.Need-returns
 unfolding putOpening put placesOf
 returns c =
@@ -31,4 +19,9 @@ returns c =
 
 pub put-opening-spec : {M : Type 1} → statement M
 put-opening-spec =
-    tie.close (tie.spec places-requires put-two-requires put-three-requires same-length returns)
+    tie.close (tie.spec
+    (λ c κs. search needs)
+    (λ c κs. search needs)
+    (λ c κs. search needs)
+    (λ c. search needs)
+    returns)

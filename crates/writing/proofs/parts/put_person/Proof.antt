@@ -6,24 +6,6 @@ use Rattle.zone.proofs.Widths.{fixed}
 use Rattle.writing.proofs.parts.put_person.Statement.{statement}
 use Rattle.writing.proofs.parts.put_person.Tie as tie
 
-places-requires : tie.Need-places-requires
-places-requires c κs = search needs
-
-put-three-requires : tie.Need-put-three-requires
-put-three-requires c κs = search needs
-
-put-requires : tie.Need-put-requires
-put-requires c κs = search needs
-
-name-width-requires : tie.Need-name-width-requires
-name-width-requires c κs = search needs
-
-put-name-requires : tie.Need-put-name-requires
-put-name-requires c κs = search needs
-
-same-length : tie.Need-same-length
-same-length c = search needs
-
 returns : tie.Need-returns
 unfolding putPerson put mark placesOf
 returns c =
@@ -40,10 +22,10 @@ pub put-person-spec : {M : Type 1} → statement M
 put-person-spec =
     tie.close
     (tie.spec
-    places-requires
-    put-three-requires
-    put-requires
-    name-width-requires
-    put-name-requires
-    same-length
+    (λ c κs. search needs)
+    (λ c κs. search needs)
+    (λ c κs. search needs)
+    (λ c κs. search needs)
+    (λ c κs. search needs)
+    (λ c. search needs)
     returns)

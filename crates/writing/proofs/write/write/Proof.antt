@@ -8,23 +8,8 @@ use Rattle.writing.proofs.Fitted.{front-length, fitted}
 use Rattle.writing.proofs.write.write.Statement.{statement}
 use Rattle.writing.proofs.write.write.Tie as tie
 
-text-length-requires : tie.Need-text-length-requires
-text-length-requires c κs = search needs
-
-is-sound-requires : tie.Need-is-sound-requires
-is-sound-requires c κs = search needs
-
-slice-relend-prefix-put-all : tie.Need-slice-relend-prefix-put-all
-slice-relend-prefix-put-all c = search needs
-
 slice-aggregate-put-all : tie.Need-slice-aggregate-put-all
 slice-aggregate-put-all c = front-length (c .before .before .before .before .text-length .result) (now (c .before .before .before .before .before .before .args .out)) (c .before .if2 .taken)
-
-put-all-requires : tie.Need-put-all-requires
-put-all-requires c κs = search needs
-
-same-length : tie.Need-same-length
-same-length c = search needs
 
 returns : tie.Need-returns
 unfolding textAnswer textOut
@@ -57,12 +42,12 @@ pub write-spec : {M : Type 1} → statement M
 write-spec =
     tie.close
     (tie.spec
-    text-length-requires
-    is-sound-requires
-    slice-relend-prefix-put-all
+    (λ c κs. search needs)
+    (λ c κs. search needs)
+    (λ c. search needs)
     slice-aggregate-put-all
-    put-all-requires
-    same-length
+    (λ c κs. search needs)
+    (λ c. search needs)
     returns
     returns-2
     returns-3)
