@@ -16,7 +16,7 @@ use Rattle.zone.specs.declared.record.Record.{Record}
 use Rattle.zone.specs.Record.{trimmedLength, trimmed, padded}
 use Rattle.zone.proofs.Padded.{padded-exact, padded-trimmed}
 use Rattle.sound.specs.Sound.{isSound}
-use Rattle.entry.specs.Bits.{put, number}
+use Rattle.entry.specs.Bits.{put, bitsAt}
 use Rattle.entry.specs.Codes.{formCode, formBy, sexCode, sexBy}
 use Rattle.entry.specs.Entry.{puts, putKey, putRest, entryOf, size, isHouse}
 use Rattle.entry.specs.Run.{next, charactersAt, houseIn, formIn, nameLength, recordIn, spare, isWhole, isEntry, entryBy, readEntry}
@@ -72,7 +72,7 @@ module _ (h : ℕ) (r : Record) (house : isHouse h ≡ true) (o : Sound r) (s t 
 record RestRead (r : Record) (s t : List ℕ) : Type 0 where
   code-read : charactersAt s 240 2 ≡ r .code
   nationality-read : charactersAt s 252 3 ≡ r .nationality
-  sex-read : sexBy (number s 270 2) ≡ r .sex
+  sex-read : sexBy (bitsAt s 270 2) ≡ r .sex
   length-read : nameLength s ≡ r .«name_len»
   name-read : charactersAt s 278 (r .«name_len») ≡ take (r .«name_len») (r .name)
   behind : drop (278 + 6 * r .«name_len») (bitsOf s) ≡ t
@@ -166,7 +166,7 @@ module _ (h : ℕ) (r : Record) (house : isHouse h ≡ true) (sound : isSound r 
     whole =
         let n = r .«name_len» in
         let long : size n ≤ length s = rw (length-append (entryOf h r) rest, length-entry r o h) (omega arith) in
-        let zeros : number s (278 + 6 * n) (spare n) ≡ 0 =
+        let zeros : bitsAt s (278 + 6 * n) (spare n) ≡ 0 =
         number-read s (278 + 6 * n) (spare n) 0 (bitsOf rest) (pow-pos (spare n)) (after-key .behind) in
         rw (after-key .length-read, le-leb (size n) (length s) long, zeros)
 

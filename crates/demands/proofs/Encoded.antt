@@ -19,13 +19,14 @@ use Rattle.zone.specs.Record.{padded, blank}
 use Rattle.zone.specs.Alphabet.{isCharacter, every}
 use Rattle.zone.proofs.Padded.{take-padded}
 use Rattle.sound.specs.Sound.{isSound}
-use Rattle.entry.specs.Bits.{put, octets, number}
+use Rattle.entry.proofs.Shifts.{bits-below}
+use Rattle.entry.specs.Bits.{put, octets, bitsAt}
 use Rattle.entry.specs.Codes.{formCode, sexCode, sexBy}
 use Rattle.entry.specs.Entry.{puts, putKey, putRest, entryOf, size, isHouse}
 use Rattle.entry.specs.Run.{Answer, next, none, refused, charactersAt, houseIn, formIn, nameLength, recordIn, spare, isWhole, isEntry, entryBy, noEntry, readEntry}
 use Rattle.demands.specs.Runs.{isOctet, areOctets, Passed}
 use Rattle.demands.proofs.Endings.{every-take, every-drop, every-each}
-use Rattle.demands.proofs.Places.{bitsOf, number-place, worth-lt, isBit, bits-of, length-bits, bits-append}
+use Rattle.demands.proofs.Places.{bitsOf, length-bits, bits-append}
 use Rattle.demands.proofs.Eights.{octets-bits}
 use Rattle.demands.proofs.Characters.{tells-form, tells-sex}
 use Rattle.demands.proofs.Pure.{Sound, taken-apart}
@@ -43,21 +44,18 @@ unfolding charactersAt
 length-characters s k zero = refl
 length-characters s k (suc n) = ap suc (length-characters s (k + 6) n)
 
-number-below : (s : List ℕ) (k w : ℕ) → number s k w < 2 ^ w
-number-below s k w = rw (number-place s w k) (worth-lt w (drop k (bitsOf s)) (every-drop isBit k (bitsOf s) (bits-of s)))
-
-length-said : (s : List ℕ) (u : List ℕ) → put 6 (nameLength s) u ≡ put 6 (number s 272 6) u
+length-said : (s : List ℕ) (u : List ℕ) → put 6 (nameLength s) u ≡ put 6 (bitsAt s 272 6) u
 unfolding nameLength
 length-said s u = refl
 
-house-said : (s : List ℕ) (u : List ℕ) → put 15 (houseIn s) u ≡ put 15 (number s 0 15) u
+house-said : (s : List ℕ) (u : List ℕ) → put 15 (houseIn s) u ≡ put 15 (bitsAt s 0 15) u
 unfolding houseIn
 house-said s u = refl
 
 record Tests (f : Form) (s : List ℕ) : Type 0 where
   house-kept : isHouse (houseIn s) ≡ true
   long : size (nameLength s) ≤ length s
-  zeros : number s (278 + 6 * nameLength s) (spare (nameLength s)) ≡ 0
+  zeros : bitsAt s (278 + 6 * nameLength s) (spare (nameLength s)) ≡ 0
   sound-kept : isSound (recordIn f s) ≡ true
 
 tests : (f : Form) (s : List ℕ) → isEntry f s ≡ true → Tests f s
@@ -66,11 +64,11 @@ tests f s e =
     let n = nameLength s in
     let a = and-both (isHouse (houseIn s)) (isWhole s && isSound (recordIn f s)) e in
     let b = and-both (isWhole s) (isSound (recordIn f s)) (a .1) in
-    let c = and-both (leb (size n) (length s)) (eqb (number s (278 + 6 * n) (spare n)) 0) (b .0) in
+    let c = and-both (leb (size n) (length s)) (eqb (bitsAt s (278 + 6 * n) (spare n)) 0) (b .0) in
     record {
       house-kept = a .0;
       long = leb-true (size n) (length s) (c .0);
-      zeros = eqb-true (number s (278 + 6 * n) (spare n)) 0 (c .1);
+      zeros = eqb-true (bitsAt s (278 + 6 * n) (spare n)) 0 (c .1);
       sound-kept = b .1;
     }
 
@@ -108,7 +106,7 @@ module _ (f : Form) (s : List ℕ) (told : formIn s ≡ As f) (t : Tests f s) wh
       ap (puts (charactersAt s 278 n)) e0 ∙ puts-characters s 278 n m (omega arith) name-pure in
       let e2 : put 6 n (puts (charactersAt s 278 n) (put m 0 [])) ≡ take (6 + (6 * n + m)) (drop 272 b) =
       ap (put 6 n) e1 ∙ length-said s (take (6 * n + m) (drop 278 b)) ∙ put-number s 272 6 (6 * n + m) (omega arith) in
-      let sex : sexCode (sexBy (number s 270 2)) ≡ number s 270 2 = tells-sex (number s 270 2) (number-below s 270 2) (o .sex-kept) in
+      let sex : sexCode (sexBy (bitsAt s 270 2)) ≡ bitsAt s 270 2 = tells-sex (bitsAt s 270 2) (bits-below s 270 2) (o .sex-kept) in
       rw (name-there, e2, sex, put-number s 270 2 (6 + (6 * n + m)) (omega arith))
       (ap (puts (charactersAt s 240 2)) (puts-characters s 252 3 (2 + (6 + (6 * n + m))) (omega arith) (o .nationality-characters))
       ∙ puts-characters s 240 2 (18 + (2 + (6 + (6 * n + m)))) (omega arith) (o .code-characters))
@@ -121,7 +119,7 @@ module _ (f : Form) (s : List ℕ) (told : formIn s ≡ As f) (t : Tests f s) wh
       let b = bitsOf s in
       let r = room in
       let x = 12 + (18 + (2 + (6 + (6 * n + m)))) in
-      let form : formCode f ≡ number s 15 3 = tells-form (number s 15 3) f told in
+      let form : formCode f ≡ bitsAt s 15 3 = tells-form (bitsAt s 15 3) f told in
       let count : 15 + (3 + (18 + (132 + (36 + (36 + x))))) ≡ 8 * size n = omega (arith, whole-octets n) in
       rw (
         rest-there,

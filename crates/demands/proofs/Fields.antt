@@ -9,7 +9,7 @@ use lib.ListN.{length, take, drop, length-drop}
 use lib.Seq.{drop-drop, take-add}
 use Rattle.lent.proofs.Bools.{and-both}
 use Rattle.zone.specs.Alphabet.{isCharacter, every}
-use Rattle.entry.specs.Bits.{put, number}
+use Rattle.entry.specs.Bits.{put, bitsAt}
 use Rattle.zone.specs.Codes.{codeOf, characterOf}
 use Rattle.entry.specs.Entry.{puts}
 use Rattle.entry.specs.Run.{charactersAt}
@@ -49,7 +49,7 @@ module _ (s : List ℕ) (k : ℕ) where
   pub next-puts : (n : ℕ) (c t : List ℕ) → length c ≡ n → drop k (bitsOf s) ≡ puts c t → drop (k + 6 * n) (bitsOf s) ≡ t
   next-puts n c t l e = sym (drop-drop (6 * n) k (bitsOf s)) ∙ ap (drop (6 * n)) e ∙ drop-puts n c t l
 
-  pub number-read : (w v : ℕ) (t : List ℕ) → v < 2 ^ w → drop k (bitsOf s) ≡ put w v t → number s k w ≡ v
+  pub number-read : (w v : ℕ) (t : List ℕ) → v < 2 ^ w → drop k (bitsOf s) ≡ put w v t → bitsAt s k w ≡ v
   number-read w v t h e = number-place s w k ∙ ap (worth w) e ∙ worth-put w v t ∙ mod-eq-of-lt h
 
 pub characters-read : (s : List ℕ) (k n : ℕ) (c t : List ℕ) → length c ≡ n → every isCharacter c ≡ true → drop k (bitsOf s) ≡ puts c t → charactersAt s k n ≡ c
@@ -66,7 +66,7 @@ characters-read s k (suc n) (x ∷ c) t l p e =
 -- ---- what is read, put again, is the bits that were read
 
 module _ (s : List ℕ) where
-  pub put-number : (k w m : ℕ) → k + w ≤ length (bitsOf s) → put w (number s k w) (take m (drop (k + w) (bitsOf s))) ≡ take (w + m) (drop k (bitsOf s))
+  pub put-number : (k w m : ℕ) → k + w ≤ length (bitsOf s) → put w (bitsAt s k w) (take m (drop (k + w) (bitsOf s))) ≡ take (w + m) (drop k (bitsOf s))
   put-number k w m h =
       let room : w ≤ length (drop k (bitsOf s)) = rw (length-drop k (bitsOf s)) (omega arith) in
       rw (number-place s w k, ← drop-drop w k (bitsOf s))
@@ -78,7 +78,7 @@ pub puts-characters : (s : List ℕ) (k n m : ℕ) → k + 6 * n ≤ length (bit
 unfolding charactersAt puts every
 puts-characters s k zero m h p = rw (add-zero k, zero-add m)
 puts-characters s k (suc n) m h p =
-    let c = number s k 6 in
+    let c = bitsAt s k 6 in
     let both = and-both (isCharacter (characterOf c)) (every isCharacter (charactersAt s (k + 6) n)) p in
     let place : k + 6 * suc n ≡ (k + 6) + 6 * n = omega arith in
     let count : 6 * suc n + m ≡ 6 + (6 * n + m) = omega arith in

@@ -14,7 +14,7 @@ use lib.Seq.{getD-drop, drop-drop}
 use Rattle.lent.proofs.Bools.{and-both}
 use Rattle.zone.specs.Alphabet.{every}
 use Rattle.entry.proofs.Gather.{put-above, length-put}
-use Rattle.entry.specs.Bits.{put, bit, number}
+use Rattle.entry.specs.Bits.{put, bit, bitsAt}
 
 -- ---- bits read
 
@@ -47,8 +47,8 @@ bit-place (c ∷ s) (suc (suc (suc (suc (suc (suc zero)))))) = refl
 bit-place (c ∷ s) (suc (suc (suc (suc (suc (suc (suc zero))))))) = refl
 bit-place (c ∷ s) (suc (suc (suc (suc (suc (suc (suc (suc k)))))))) = rw (behind-eight k, within-eight k) (bit-place s k)
 
-pub number-place : (s : List ℕ) (w k : ℕ) → number s k w ≡ worth w (drop k (bitsOf s))
-unfolding number worth
+pub number-place : (s : List ℕ) (w k : ℕ) → bitsAt s k w ≡ worth w (drop k (bitsOf s))
+unfolding bitsAt worth
 number-place s zero k = refl
 number-place s (suc w) k =
     rw (bit-place s k, getD-drop k (bitsOf s) 0 0, drop-drop 1 k (bitsOf s), number-place s w (suc k), add-one k, add-zero k)

@@ -15,7 +15,7 @@ use Rattle.lent.specs.Copied.{copied}
 use Rattle.lent.proofs.Bools.{and-both}
 use Rattle.lent.proofs.Lists.{copy-more, copy-ends}
 use Rattle.zone.proofs.Padded.{copied-padded, padded-exact}
-use Rattle.entry.specs.Bits.{number}
+use Rattle.entry.specs.Bits.{bitsAt}
 use Rattle.zone.specs.Codes.{characterOf}
 use Rattle.entry.specs.Entry.{size}
 use Rattle.entry.specs.Run.{charactersAt, nameLength, spare, isWhole}
@@ -25,17 +25,17 @@ unfolding charactersAt
 length-characters s k zero = refl
 length-characters s k (suc n) = ap suc (length-characters s (k + 6) n)
 
-pub getD-characters : (s : List ℕ) (k n i : ℕ) → i < n → getD (charactersAt s k n) i 0 ≡ characterOf (number s (k + 6 * i) 6)
+pub getD-characters : (s : List ℕ) (k n i : ℕ) → i < n → getD (charactersAt s k n) i 0 ≡ characterOf (bitsAt s (k + 6 * i) 6)
 unfolding charactersAt
 getD-characters s k zero i h = absurd (omega arith)
 getD-characters s k (suc n) zero h = simp unary-clauses
 getD-characters s k (suc n) (suc i) h =
     let e : k + 6 + 6 * i ≡ k + 6 * suc i = omega arith in
-    getD-characters s (k + 6) n i (omega arith) ∙ ap (λ (x : ℕ). characterOf (number s x 6)) e
+    getD-characters s (k + 6) n i (omega arith) ∙ ap (λ (x : ℕ). characterOf (bitsAt s x 6)) e
 
 -- one more of them at the front of a range, and the end of either
 pub unpack-more : (to s : List ℕ) (k n i : ℕ) → i < length to → i < n
-    → set (take i (charactersAt s k n) ++ drop i to) i (characterOf (number s (k + 6 * i) 6))
+    → set (take i (charactersAt s k n) ++ drop i to) i (characterOf (bitsAt s (k + 6 * i) 6))
     ≡ take (i + 1) (charactersAt s k n) ++ drop (i + 1) to
 unpack-more to s k n i ht hn =
     let h : i < length (charactersAt s k n) = rw (length-characters s k n) hn in
@@ -61,5 +61,5 @@ pub whole-reaches : (s : List ℕ) → isWhole s ≡ true → 278 + 6 * nameLeng
 unfolding isWhole size
 whole-reaches s e =
     let n = nameLength s in
-    let h : size n ≤ length s = leb-true (size n) (length s) (and-both (leb (size n) (length s)) (eqb (number s (278 + 6 * n) (spare n)) 0) e .0) in
+    let h : size n ≤ length s = leb-true (size n) (length s) (and-both (leb (size n) (length s)) (eqb (bitsAt s (278 + 6 * n) (spare n)) 0) e .0) in
     omega arith

@@ -1,4 +1,4 @@
--- The laws of `bit` and `number`: up to sixteen bits are a field of the two octets that hold them.
+-- The laws of `bit` and `bitsAt`: up to sixteen bits are a field of the two octets that hold them.
 use Prim.Native.Nat.{ℕ, zero, suc, _+_, _-_, _*_, _/_, _%_, _^_, _≤_, _<_}
 use mathlib.Core.Path.{_≡_, refl, ap, sym, _∙_}
 use mathlib.Core.Bool.{Bool, true, false}
@@ -10,7 +10,7 @@ use lib.Arith.{digits-lt}
 use lib.Dec.{ltb, lit<}
 use lib.ListN.{getD}
 use lib.Pow.{pow-pos, pow-lt, shr-shr, field, mod-mod-pow, mod-pow-add, high, low}
-use Rattle.entry.specs.Bits.{bit, number}
+use Rattle.entry.specs.Bits.{bit, bitsAt}
 
 -- a bit of the first octet of two, with m bits below it in the octet
 first-octet : (a b m : ℕ) → b < 256 → (a / 2 ^ m) % 2 ≡ ((a * 256 + b) / 2 ^ (8 + m)) % 2
@@ -47,15 +47,15 @@ bit-of-pair s j r m e h = go (ltb r 8) refl
         rw (p, q) (second-octet (getD s j 0) (getD s (j + 1) 0) (7 - m) m (omega arith) h)
 
 -- w bits, with m bits below them in the two octets
-pub number-of-pair : (s : List ℕ) (j r w m : ℕ) → r + w + m ≡ 16 → getD s (j + 1) 0 < 256 → number s (8 * j + r) w ≡ (pair s j / 2 ^ m) % 2 ^ w
-unfolding number
-number-of-pair s j r zero m e h = sym (mod-one (pair s j / 2 ^ m))
-number-of-pair s j r (suc w) m e h =
+pub bits-of-pair : (s : List ℕ) (j r w m : ℕ) → r + w + m ≡ 16 → getD s (j + 1) 0 < 256 → bitsAt s (8 * j + r) w ≡ (pair s j / 2 ^ m) % 2 ^ w
+unfolding bitsAt
+bits-of-pair s j r zero m e h = sym (mod-one (pair s j / 2 ^ m))
+bits-of-pair s j r (suc w) m e h =
     let i : suc (8 * j + r) ≡ 8 * j + suc r = omega arith in
     let o : suc w ≡ 1 + w = omega arith in
     let p : r + 1 + (m + w) ≡ 16 = omega arith in
     let q : suc r + w + m ≡ 16 = omega arith in
-    rw (i, o, number-of-pair s j (suc r) w m q h, bit-of-pair s j r (m + w) p h, mod-pow-add (pair s j / 2 ^ m) 1 w, shr-shr (pair s j) m w)
+    rw (i, o, bits-of-pair s j (suc r) w m q h, bit-of-pair s j r (m + w) p h, mod-pow-add (pair s j / 2 ^ m) 1 w, shr-shr (pair s j) m w)
 
 -- a power of two that a word of 32 bits holds
 power-kept : (w : ℕ) → w < 32 → 1 * 2 ^ w % 2 ^ 32 ≡ 2 ^ w
@@ -65,20 +65,20 @@ pub power-kept-above : (w : ℕ) → w < 32 → 0 < 1 * 2 ^ w % 2 ^ 32
 power-kept-above w h = rw (power-kept w h) (pow-pos w)
 
 -- the bits of any place, as the code works them out from the octets that it read
-pub number-read : (s : List ℕ) (at w x y : ℕ) → at % 8 + w ≤ 16 → x ≡ getD s (at / 8) 0 → y ≡ getD s (at / 8 + 1) 0 → y < 256
-    → (x * 256 + y) / 2 ^ (16 - at % 8 - w) % (1 * 2 ^ w % 2 ^ 32) ≡ number s at w
+pub bits-read : (s : List ℕ) (at w x y : ℕ) → at % 8 + w ≤ 16 → x ≡ getD s (at / 8) 0 → y ≡ getD s (at / 8 + 1) 0 → y < 256
+    → (x * 256 + y) / 2 ^ (16 - at % 8 - w) % (1 * 2 ^ w % 2 ^ 32) ≡ bitsAt s at w
 unfolding pair
-number-read s at w x y h p q b =
+bits-read s at w x y h p q b =
     let m = 16 - at % 8 - w in
     let e : 8 * (at / 8) + at % 8 ≡ at = omega arith in
     let k : at % 8 + w + m ≡ 16 = omega arith in
     let l : w < 32 = omega arith in
     let o : getD s (at / 8 + 1) 0 < 256 = rw q at b in
-    rw (p, q, power-kept w l) (sym (number-of-pair s (at / 8) (at % 8) w m k o) ∙ ap (λ (n : ℕ). number s n w) e)
+    rw (p, q, power-kept w l) (sym (bits-of-pair s (at / 8) (at % 8) w m k o) ∙ ap (λ (n : ℕ). bitsAt s n w) e)
 
 -- six bits, from the octet that they end in and the one before it
 pub six-read : (s : List ℕ) (at x y : ℕ) → 3 ≤ at → x ≡ getD s ((at + 5) / 8 - 1) 0 → y ≡ getD s ((at + 5) / 8) 0 → y < 256
-    → (x * 256 + y) / 2 ^ (7 - (at + 5) % 8) % 2 ^ 6 ≡ number s at 6
+    → (x * 256 + y) / 2 ^ (7 - (at + 5) % 8) % 2 ^ 6 ≡ bitsAt s at 6
 unfolding pair
 six-read s at x y h p q b =
     let j = (at + 5) / 8 - 1 in
@@ -88,11 +88,11 @@ six-read s at x y h p q b =
     let k : at - 8 * j + 6 + m ≡ 16 = omega arith in
     let z : y ≡ getD s (j + 1) 0 = q ∙ ap (λ (i : ℕ). getD s i 0) (sym n) in
     let o : getD s (j + 1) 0 < 256 = rw z at b in
-    rw (p, z) (sym (number-of-pair s j (at - 8 * j) 6 m k o) ∙ ap (λ (i : ℕ). number s i 6) e)
+    rw (p, z) (sym (bits-of-pair s j (at - 8 * j) 6 m k o) ∙ ap (λ (i : ℕ). bitsAt s i 6) e)
 
 -- w bits say no more than that
-pub number-below : (s : List ℕ) (k w : ℕ) → number s k w < 2 ^ w
-unfolding number bit
-number-below s k zero = lit< tt
-number-below s k (suc w) =
-    rw (pow-succ' 2 w) (digits-lt (mod-lt (getD s (k / 8) 0 / 2 ^ (7 - k % 8)) (lit< tt)) (number-below s (suc k) w))
+pub bits-below : (s : List ℕ) (k w : ℕ) → bitsAt s k w < 2 ^ w
+unfolding bitsAt bit
+bits-below s k zero = lit< tt
+bits-below s k (suc w) =
+    rw (pow-succ' 2 w) (digits-lt (mod-lt (getD s (k / 8) 0 / 2 ^ (7 - k % 8)) (lit< tt)) (bits-below s (suc k) w))

@@ -24,6 +24,6 @@ unfoldable pub bit : List ℕ → ℕ → ℕ
 bit s k = (getD s (k / 8) 0 / 2 ^ (7 - k % 8)) % 2
 
 -- the number that the w bits from the k-th on say
-unfoldable pub number : List ℕ → (k w : ℕ) → ℕ
-number s k zero = 0
-number s k (suc w) = bit s k * 2 ^ w + number s (suc k) w
+unfoldable pub bitsAt : List ℕ → (k w : ℕ) → ℕ
+bitsAt s k zero = 0
+bitsAt s k (suc w) = bit s k * 2 ^ w + bitsAt s (suc k) w

@@ -11,7 +11,7 @@ use Rattle.zone.specs.declared.form.Recognised.the-variants.{As, Unknown}
 use Rattle.zone.specs.declared.record.Record.{Record}
 use Rattle.zone.specs.Record.{blank, trimmedLength, padded}
 use Rattle.sound.specs.Sound.{isSound}
-use Rattle.entry.specs.Bits.{number}
+use Rattle.entry.specs.Bits.{bitsAt}
 use Rattle.entry.specs.Codes.{formBy, sexBy}
 use Rattle.zone.specs.Codes.{characterOf}
 use Rattle.entry.specs.Entry.{size, isHouse}
@@ -43,16 +43,16 @@ answerOf r = record { onward = onwardOf (r .step); house = r .house; kept = r .k
 -- n characters of 6 bits each, from the k-th bit on
 unfoldable pub charactersAt : List ℕ → (k n : ℕ) → List ℕ
 charactersAt s k zero = []
-charactersAt s k (suc n) = characterOf (number s k 6) ∷ charactersAt s (k + 6) n
+charactersAt s k (suc n) = characterOf (bitsAt s k 6) ∷ charactersAt s (k + 6) n
 
 unfoldable pub houseIn : List ℕ → ℕ
-houseIn s = number s 0 15
+houseIn s = bitsAt s 0 15
 
 unfoldable pub formIn : List ℕ → Recognised
-formIn s = formBy (number s 15 3)
+formIn s = formBy (bitsAt s 15 3)
 
 unfoldable pub nameLength : List ℕ → ℕ
-nameLength s = number s 272 6
+nameLength s = bitsAt s 272 6
 
 -- the record that the bits say: the number without the fillers that fill it up
 unfoldable pub recordIn : Form → List ℕ → Record
@@ -64,7 +64,7 @@ recordIn f s = record {
   «number_len» = trimmedLength (charactersAt s 36 22);
   nationality = charactersAt s 252 3;
   birth = charactersAt s 168 6;
-  sex = sexBy (number s 270 2);
+  sex = sexBy (bitsAt s 270 2);
   expiry = charactersAt s 204 6;
   name = padded 39 (charactersAt s 278 (nameLength s));
   «name_len» = nameLength s;
@@ -76,7 +76,7 @@ spare n = 8 * size n - (278 + 6 * n)
 
 -- not cut off, and the spare bits zero
 unfoldable pub isWhole : List ℕ → Bool
-isWhole s = leb (size (nameLength s)) (length s) && eqb (number s (278 + 6 * nameLength s) (spare (nameLength s))) 0
+isWhole s = leb (size (nameLength s)) (length s) && eqb (bitsAt s (278 + 6 * nameLength s) (spare (nameLength s))) 0
 
 unfoldable pub isEntry : Form → List ℕ → Bool
 isEntry f s = isHouse (houseIn s) && (isWhole s && isSound (recordIn f s))

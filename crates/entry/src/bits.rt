@@ -2,7 +2,7 @@
 ghost use mathlib.Core.Path.{_≡_};
 ghost use Prim.Native.Nat.{_+_, _*_, _%_, _≤_, _<_};
 ghost use lib.ListN.{length};
-ghost use Rattle.entry.specs.Bits.{number};
+ghost use Rattle.entry.specs.Bits.{bitsAt};
 
 fn wide(octet: u8) -> u32
     ensures { λ r. ⌜ (r ≡ octet) × (r < 256) ⌝ }
@@ -13,7 +13,7 @@ fn wide(octet: u8) -> u32
 // The number that the bits from a place on say. Bits past the end are 0.
 pub(crate) fn bits(s: &[u8], at: usize, width: usize) -> u32
     requires { ⌜ (at % 8 + width ≤ 16) × (at < 4096) ⌝ }
-    ensures { λ r. ⌜ r ≡ number (now (s .entry)) at width ⌝ }
+    ensures { λ r. ⌜ r ≡ bitsAt (now (s .entry)) at width ⌝ }
 {
     let first = wide(lent::octet(s, at / 8));
     let second = wide(lent::octet(s, at / 8 + 1));
@@ -25,7 +25,7 @@ pub(crate) fn bits(s: &[u8], at: usize, width: usize) -> u32
 // character costs no test of the end.
 pub(crate) fn six(s: &[u8], at: usize) -> u32
     requires { ⌜ (3 ≤ at) × (at + 6 ≤ 8 * length (now s)) × (at < 4096) ⌝ }
-    ensures { λ r. ⌜ (r ≡ number (now (s .entry)) at 6) × (r < 64) ⌝ }
+    ensures { λ r. ⌜ (r ≡ bitsAt (now (s .entry)) at 6) × (r < 64) ⌝ }
 {
     let end = at + 5;
     let first = wide(s[end / 8 - 1]);

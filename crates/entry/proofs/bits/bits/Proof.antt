@@ -1,9 +1,9 @@
--- The field of the two octets is the number (`number-read`).
+-- The field of the two octets is the number (`bits-read`).
 use borrow.Author.Needs.{needs}
 use denote.Ref.{now}
 use mathlib.Core.Path.{_∙_}
 use native.Mathlib.Omega.{arith}
-use Rattle.entry.proofs.Shifts.{power-kept-above, number-read}
+use Rattle.entry.proofs.Shifts.{power-kept-above, bits-read}
 use Rattle.entry.proofs.bits.bits.Statement.{statement}
 use Rattle.entry.proofs.bits.bits.Tie as tie
 
@@ -15,7 +15,7 @@ returns c =
     let a = c .before .before .before .before .before .args in
     let first = c .before .before .wide .ensures .0 ∙ c .before .before .before .octet .ensures in
     let second = c .wide2 .ensures .0 ∙ c .before .octet2 .ensures in
-    number-read (now (a .s)) (a .at) (a .width) (c .before .before .wide .result) (c .wide2 .result) (c .before .before .before .before .before .pre .0) first second (c .wide2 .ensures .1)
+    bits-read (now (a .s)) (a .at) (a .width) (c .before .before .wide .result) (c .wide2 .result) (c .before .before .before .before .before .pre .0) first second (c .wide2 .ensures .1)
 
 pub bits-spec : {M : Type 1} → statement M
 bits-spec =

@@ -2,13 +2,13 @@
 use borrow.Author.Needs.{needs}
 use denote.Ref.{now}
 use Rattle.entry.specs.Run.{nameLength}
-use Rattle.entry.proofs.Shifts.{number-below}
+use Rattle.entry.proofs.Shifts.{bits-below}
 use Rattle.entry.proofs.run.name_length.Statement.{statement}
 use Rattle.entry.proofs.run.name_length.Tie as tie
 
 returns : tie.Need-returns
 unfolding nameLength
-returns c = (c .bits .ensures, rw (c .bits .ensures) (number-below (now (c .before .before .args .s)) 272 6))
+returns c = (c .bits .ensures, rw (c .bits .ensures) (bits-below (now (c .before .before .args .s)) 272 6))
 
 pub name-length-spec : {M : Type 1} → statement M
 name-length-spec = tie.close (tie.spec
