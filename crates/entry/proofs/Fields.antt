@@ -17,6 +17,7 @@ use Rattle.lent.proofs.Lists.{copy-more, copy-ends}
 use Rattle.zone.proofs.Padded.{copied-padded, padded-exact}
 use Rattle.entry.specs.Bits.{bitsAt}
 use Rattle.zone.specs.Codes.{characterOf}
+use Rattle.entry.specs.Parts.{allBits}
 use Rattle.entry.specs.Entry.{size}
 use Rattle.entry.specs.Run.{charactersAt, nameLength, spare, isWhole}
 
@@ -57,9 +58,9 @@ pub rest-of-run : (w : List ℕ) (at : ℕ) → take (length w - at) (drop at w)
 rest-of-run w at = take-all (length w - at) (drop at w) (rw length-drop (omega arith))
 
 -- an entry that is whole has all the bits of its name
-pub whole-reaches : (s : List ℕ) → isWhole s ≡ true → 278 + 6 * nameLength s ≤ 8 * length s
+pub whole-reaches : (s : List ℕ) → isWhole s ≡ true → allBits (nameLength s) ≤ 8 * length s
 unfolding isWhole size
 whole-reaches s e =
     let n = nameLength s in
-    let h : size n ≤ length s = leb-true (size n) (length s) (and-both (leb (size n) (length s)) (eqb (bitsAt s (278 + 6 * n) (spare n)) 0) e .0) in
+    let h : size n ≤ length s = leb-true (size n) (length s) (and-both (leb (size n) (length s)) (eqb (bitsAt s (allBits n) (spare n)) 0) e .0) in
     omega arith

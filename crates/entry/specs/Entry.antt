@@ -9,6 +9,8 @@ use Rattle.refusal.specs.declared.Written.{Written}
 use Rattle.refusal.specs.Length.{Length, written, refused, lengthOf}
 use Rattle.zone.specs.declared.record.Record.{Record}
 use Rattle.sound.specs.Sound.{isSound}
+use Rattle.entry.specs.Parts as part
+use Rattle.entry.specs.Parts.{width, allBits}
 use Rattle.entry.specs.Bits.{put, octets}
 use Rattle.entry.specs.Codes.{formCode, sexCode}
 use Rattle.zone.specs.Codes.{codeOf}
@@ -18,15 +20,15 @@ unfoldable pub puts : List ℕ → List ℕ → List ℕ
 puts [] t = t
 puts (c ∷ s) t = put 6 (codeOf c) (puts s t)
 
--- thirty bytes, the key: house 15 bits, form 3, state 18, number 132, birth 36, expiry 36
+-- thirty bytes, the key: house, form, state, number, filled up with `<`, birth, expiry
 unfoldable pub putKey : ℕ → Record → List ℕ → List ℕ
 putKey house r t =
-    put 15 house (put 3 (formCode (r .form)) (puts (r .state) (puts (r .number) (puts (r .birth) (puts (r .expiry) t)))))
+    put (width part.house) house (put (width part.form) (formCode (r .form)) (puts (r .state) (puts (r .number) (puts (r .birth) (puts (r .expiry) t)))))
 
--- then code 12, nationality 18, sex 2, name length 6, name
+-- then code, nationality, sex, name length, name
 unfoldable pub putRest : Record → List ℕ → List ℕ
 putRest r t =
-    puts (r .code) (puts (r .nationality) (put 2 (sexCode (r .sex)) (put 6 (r .«name_len») (puts (take (r .«name_len») (r .name)) t))))
+    puts (r .code) (puts (r .nationality) (put (width part.sex) (sexCode (r .sex)) (put (width part.nameLength) (r .«name_len») (puts (take (r .«name_len») (r .name)) t))))
 
 -- and zero bits to the next byte
 unfoldable pub entryOf : ℕ → Record → List ℕ
@@ -34,7 +36,7 @@ entryOf house r = octets (putKey house r (putRest r []))
 
 -- with a name of n characters 278 + 6n bits rounded up to bytes
 unfoldable pub size : ℕ → ℕ
-size n = (278 + 6 * n + 7) / 8
+size n = (allBits n + 7) / 8
 
 -- 1-32,767
 unfoldable pub isHouse : ℕ → Bool

@@ -1,5 +1,5 @@
 -- Reading a run: document 01, "A run is read entry by entry, each with the offset of the next", and 18 of "Refusal numbers".
-use Prim.Native.Nat.{ℕ, zero, suc, _+_, _-_, _*_}
+use Prim.Native.Nat.{ℕ, zero, suc, _+_, _-_, _*_, _/_}
 use mathlib.Core.Bool.{Bool, cond, _&&_}
 use mathlib.Core.List.{List, [], _∷_}
 use lib.Dec.{eqb, leb, ltb}
@@ -11,6 +11,8 @@ use Rattle.zone.specs.declared.form.Recognised.the-variants.{As, Unknown}
 use Rattle.zone.specs.declared.record.Record.{Record}
 use Rattle.zone.specs.Record.{blank, trimmedLength, padded}
 use Rattle.sound.specs.Sound.{isSound}
+use Rattle.entry.specs.Parts as part
+use Rattle.entry.specs.Parts.{Part, start, width, allBits}
 use Rattle.entry.specs.Bits.{bitsAt}
 use Rattle.entry.specs.Codes.{formBy, sexBy}
 use Rattle.zone.specs.Codes.{characterOf}
@@ -45,38 +47,45 @@ unfoldable pub charactersAt : List ℕ → (k n : ℕ) → List ℕ
 charactersAt s k zero = []
 charactersAt s k (suc n) = characterOf (bitsAt s k 6) ∷ charactersAt s (k + 6) n
 
+-- what a part says: a number, or characters
+abbrev pub bitsIn : List ℕ → Part → ℕ
+bitsIn s x = bitsAt s (start x) (width x)
+
+abbrev pub charactersIn : List ℕ → Part → List ℕ
+charactersIn s x = charactersAt s (start x) (width x / 6)
+
 unfoldable pub houseIn : List ℕ → ℕ
-houseIn s = bitsAt s 0 15
+houseIn s = bitsIn s part.house
 
 unfoldable pub formIn : List ℕ → Recognised
-formIn s = formBy (bitsAt s 15 3)
+formIn s = formBy (bitsIn s part.form)
 
 unfoldable pub nameLength : List ℕ → ℕ
-nameLength s = bitsAt s 272 6
+nameLength s = bitsIn s part.nameLength
 
 -- the record that the bits say: the number without the fillers that fill it up
 unfoldable pub recordIn : Form → List ℕ → Record
 recordIn f s = record {
   form = f;
-  code = charactersAt s 240 2;
-  state = charactersAt s 18 3;
-  number = charactersAt s 36 22;
-  «number_len» = trimmedLength (charactersAt s 36 22);
-  nationality = charactersAt s 252 3;
-  birth = charactersAt s 168 6;
-  sex = sexBy (bitsAt s 270 2);
-  expiry = charactersAt s 204 6;
-  name = padded 39 (charactersAt s 278 (nameLength s));
+  code = charactersIn s part.code;
+  state = charactersIn s part.state;
+  number = charactersIn s part.number;
+  «number_len» = trimmedLength (charactersIn s part.number);
+  nationality = charactersIn s part.nationality;
+  birth = charactersIn s part.birth;
+  sex = sexBy (bitsIn s part.sex);
+  expiry = charactersIn s part.expiry;
+  name = padded 39 (charactersAt s (start part.name) (nameLength s));
   «name_len» = nameLength s;
 }
 
 -- the bits behind the name, to the next byte
 unfoldable pub spare : ℕ → ℕ
-spare n = 8 * size n - (278 + 6 * n)
+spare n = 8 * size n - allBits n
 
 -- not cut off, and the spare bits zero
 unfoldable pub isWhole : List ℕ → Bool
-isWhole s = leb (size (nameLength s)) (length s) && eqb (bitsAt s (278 + 6 * nameLength s) (spare (nameLength s))) 0
+isWhole s = leb (size (nameLength s)) (length s) && eqb (bitsAt s (allBits (nameLength s)) (spare (nameLength s))) 0
 
 unfoldable pub isEntry : Form → List ℕ → Bool
 isEntry f s = isHouse (houseIn s) && (isWhole s && isSound (recordIn f s))

@@ -3,5 +3,6 @@ mod bits;
 mod characters;
 mod codes;
 mod pen;
+mod places;
 pub mod run;
 pub mod write;

@@ -1,13 +1,15 @@
 // A run of entries, read one by one.
 ghost use mathlib.Core.Path.{_≡_};
-ghost use mathlib.Core.Bool.{true};
+ghost use mathlib.Core.Bool.{true, _&&_};
 ghost use Prim.Native.Nat.{_+_, _*_, _^_, _<_, _≤_};
 ghost use lib.ListN.{length};
 ghost use Rattle.zone.specs.declared.form.Recognised.the-variants.{As};
+ghost use Rattle.entry.specs.Parts.{allBits};
 ghost use Rattle.entry.specs.Entry as E;
 ghost use Rattle.entry.specs.Run as R;
 use crate::bits::bits;
 use crate::characters;
+use crate::places;
 use refusal::Cause;
 use refusal::Refusal;
 use zone::form::Form;
@@ -32,13 +34,21 @@ pub struct Found {
 pub(crate) fn is_house(house: u32) -> bool
     ensures { λ r. ⌜ r ≡ E.isHouse house ⌝ }
 {
-    1 <= house && house <= 32767
+    (1 <= house) & (house <= 32767)
 }
 
 fn name_length(s: &[u8]) -> usize
     ensures { λ r. ⌜ (r ≡ R.nameLength (now (s .entry))) × (r < 64) ⌝ }
 {
-    bits(s, 272, 6) as usize
+    bits(s, places::NAME_LENGTH, places::NAME_LENGTH_BITS) as usize
+}
+
+// Where a name of n characters ends.
+fn name_end(n: usize) -> usize
+    requires { ⌜ n < 64 ⌝ }
+    ensures { λ r. ⌜ r ≡ allBits n ⌝ }
+{
+    places::NAME + places::CHARACTER * n
 }
 
 // The octets of an entry whose name has n characters, and the bits of the last that are left over.
@@ -46,14 +56,14 @@ pub(crate) fn size(n: usize) -> usize
     requires { ⌜ n < 64 ⌝ }
     ensures { λ r. ⌜ (r ≡ E.size n) × (r < 128) ⌝ }
 {
-    (278 + 6 * n + 7) / 8
+    (name_end(n) + 7) / 8
 }
 
 fn spare(n: usize) -> usize
     requires { ⌜ n < 64 ⌝ }
     ensures { λ r. ⌜ (r ≡ R.spare n) × (r < 8) ⌝ }
 {
-    8 * size(n) - (278 + 6 * n)
+    8 * size(n) - name_end(n)
 }
 
 // Not cut off, and the spare bits zero. The name has n characters.
@@ -61,28 +71,24 @@ fn is_whole(s: &[u8], n: usize) -> bool
     requires { ⌜ (n < 64) × (n ≡ R.nameLength (now s)) ⌝ }
     ensures { λ r. ⌜ r ≡ R.isWhole (now (s .entry)) ⌝ }
 {
-    if size(n) <= s.len() {
-        bits(s, 278 + 6 * n, spare(n)) == 0
-    } else {
-        false
-    }
+    (size(n) <= s.len()) & (bits(s, name_end(n), spare(n)) == 0)
 }
 
 // The record that the bits say, where none of its characters is cut off.
 fn record_in(form: Form, s: &[u8]) -> Record
-    requires { ⌜ 278 + 6 * R.nameLength (now s) ≤ 8 * length (now s) ⌝ }
+    requires { ⌜ allBits (R.nameLength (now s)) ≤ 8 * length (now s) ⌝ }
     ensures { λ r. ⌜ r ≡ R.recordIn form (now (s .entry)) ⌝ }
 {
-    let code = characters::two_at(s, 240);
-    let state = characters::three_at(s, 18);
-    let number = characters::number_at(s, 36);
+    let code = characters::two_at(s, places::CODE);
+    let state = characters::three_at(s, places::STATE);
+    let number = characters::number_at(s, places::NUMBER);
     let number_len = trimmed_length(&number);
-    let nationality = characters::three_at(s, 252);
-    let birth = characters::six_at(s, 168);
-    let sex = characters::sex_by(bits(s, 270, 2));
-    let expiry = characters::six_at(s, 204);
+    let nationality = characters::three_at(s, places::NATIONALITY);
+    let birth = characters::six_at(s, places::BIRTH);
+    let sex = characters::sex_by(bits(s, places::SEX, places::SEX_BITS));
+    let expiry = characters::six_at(s, places::EXPIRY);
     let name_len = name_length(s);
-    let name = characters::name_at(s, 278, name_len);
+    let name = characters::name_at(s, places::NAME, name_len);
     Record {
         form,
         code,
@@ -103,10 +109,7 @@ fn no_entry(at: usize) -> Found
     ensures { λ r. ⌜ R.answerOf r ≡ R.noEntry at ⌝ }
 {
     Found {
-        step: Step::Refused(Refusal {
-            cause: Cause::Entry,
-            place: at,
-        }),
+        step: Step::Refused(Refusal::at(Cause::Entry, at)),
         house: 0,
         kept: Record::blank(),
     }
@@ -115,7 +118,7 @@ fn no_entry(at: usize) -> Found
 // What has a house and is whole is an entry where the record is sound.
 fn sound_entry(form: Form, s: &[u8], at: usize, house: u32, n: usize) -> Found
     requires { ⌜ (n < 64) × (n ≡ R.nameLength (now s)) × (at + length (now s) < 2 ^ 63) ⌝ }
-    requires { ⌜ (house ≡ R.houseIn (now s)) × (E.isHouse house ≡ true) × (R.isWhole (now s) ≡ true) ⌝ }
+    requires { ⌜ (house ≡ R.houseIn (now s)) × (E.isHouse house && R.isWhole (now s) ≡ true) ⌝ }
     ensures { λ r. ⌜ R.answerOf r ≡ R.entryBy (As form) (now (s .entry)) at ⌝ }
 {
     let kept = record_in(form, s);
@@ -135,14 +138,10 @@ fn entry_as(form: Form, s: &[u8], at: usize) -> Found
     requires { ⌜ at + length (now s) < 2 ^ 63 ⌝ }
     ensures { λ r. ⌜ R.answerOf r ≡ R.entryBy (As form) (now (s .entry)) at ⌝ }
 {
-    let house = bits(s, 0, 15);
+    let house = bits(s, places::HOUSE, places::HOUSE_BITS);
     let n = name_length(s);
-    if is_house(house) {
-        if is_whole(s, n) {
-            sound_entry(form, s, at, house, n)
-        } else {
-            no_entry(at)
-        }
+    if is_house(house) & is_whole(s, n) {
+        sound_entry(form, s, at, house, n)
     } else {
         no_entry(at)
     }
@@ -152,7 +151,7 @@ fn entry_at(s: &[u8], at: usize) -> Found
     requires { ⌜ at + length (now s) < 2 ^ 63 ⌝ }
     ensures { λ r. ⌜ R.answerOf r ≡ R.entryBy (R.formIn (now (s .entry))) (now (s .entry)) at ⌝ }
 {
-    let told = characters::form_by(bits(s, 15, 3));
+    let told = characters::form_by(bits(s, places::FORM, places::FORM_BITS));
     match told {
         Recognised::As(form) => entry_as(form, s, at),
         Recognised::Unknown => no_entry(at),

@@ -2,6 +2,9 @@
 ghost use mathlib.Core.Path.{_≡_};
 ghost use Prim.Native.Nat.{_≤_};
 ghost use lib.Seq.{sets};
+ghost use Rattle.zone.specs.Rooms.{nameRoom};
+ghost use Rattle.entry.specs.Parts as part;
+ghost use Rattle.entry.specs.Parts.{width};
 ghost use Rattle.entry.specs.Bits.{put};
 ghost use Rattle.entry.specs.Codes.{formCode};
 ghost use Rattle.entry.specs.Entry.{putKey, putRest, entryOf, Writes};
@@ -9,34 +12,23 @@ ghost use Rattle.entry.specs.Ink.{Ready, Wrote};
 use crate::codes;
 use crate::pen;
 use crate::pen::Pen;
+use crate::places;
 use crate::run::is_house;
 use crate::run::size;
-use refusal::Cause;
 use refusal::Refusal;
 use refusal::Written;
 use zone::form::Form;
 use zone::record::Record;
 
-// What is refused, 17 and 16: a house or a record that is not sound, and an output that is too short.
-const UNSOUND: Refusal = Refusal {
-    cause: Cause::Unsound,
-    place: 0,
-};
-
-const TOO_SHORT: Refusal = Refusal {
-    cause: Cause::Output,
-    place: 0,
-};
-
 // House and form: fifteen bits as seven and eight, and three.
 fn write_house(out: &mut [u8], start: Pen, house: u32, form: Form) -> Pen
     requires { ⌜ Ready start × (house ≤ 32767) ⌝ }
-    ensures { λ r. ⌜ Wrote (now (out .entry)) (now (out .exit)) start r (λ t. put 15 house (put 3 (formCode form) t)) ⌝ }
+    ensures { λ r. ⌜ Wrote (now (out .entry)) (now (out .exit)) start r (λ t. put (width part.house) house (put (width part.form) (formCode form) t)) ⌝ }
 {
     let code = codes::form_code(form) as u32;
     let high = pen::push(out, start, 7, house >> 8);
     let low = pen::push(out, high, 8, house & 255);
-    pen::push(out, low, 3, code)
+    pen::push(out, low, places::FORM_BITS as u32, code)
 }
 
 // Thirty octets, the key.
@@ -54,21 +46,21 @@ fn write_key(out: &mut [u8], start: Pen, house: u32, r: Record) -> Pen
 
 // What follows the key, down to the name.
 fn write_rest(out: &mut [u8], start: Pen, r: Record) -> Pen
-    requires { ⌜ Ready start × (r .«name_len» ≤ 39) ⌝ }
+    requires { ⌜ Ready start × (r .«name_len» ≤ nameRoom) ⌝ }
     ensures { λ p. ⌜ Wrote (now (out .entry)) (now (out .exit)) start p (putRest r) ⌝ }
 {
     let n = r.name_len;
     let sex = codes::sex_code(r.sex) as u32;
     let code = pen::push_all(out, start, &r.code);
     let nationality = pen::push_all(out, code, &r.nationality);
-    let holder = pen::push(out, nationality, 2, sex);
-    let length = pen::push(out, holder, 6, n as u32);
+    let holder = pen::push(out, nationality, places::SEX_BITS as u32, sex);
+    let length = pen::push(out, holder, places::NAME_LENGTH_BITS as u32, n as u32);
     pen::push_all(out, length, lent::part(&r.name, 0, n))
 }
 
 // All the bits of an entry, for as long as there is room.
 fn write_bits(house: u32, r: Record, out: &mut [u8])
-    requires { ⌜ (house ≤ 32767) × (r .«name_len» ≤ 39) ⌝ }
+    requires { ⌜ (house ≤ 32767) × (r .«name_len» ≤ nameRoom) ⌝ }
     ensures { λ _. ⌜ now (out .exit) ≡ sets (now (out .entry)) 0 (entryOf house r) ⌝ }
 {
     let start = Pen {
@@ -91,9 +83,9 @@ pub fn write(house: u32, r: Record, out: &mut [u8]) -> Written
             write_bits(house, r, out);
             Written::Octets(octets)
         } else {
-            Written::Refused(TOO_SHORT)
+            Written::Refused(Refusal::TOO_SHORT)
         }
     } else {
-        Written::Refused(UNSOUND)
+        Written::Refused(Refusal::UNSOUND)
     }
 }

@@ -6,9 +6,7 @@ use Rattle.entry.proofs.run.no_entry.Tie as tie
 
 returns : tie.Need-returns
 unfolding answerOf noEntry
-returns c = rw (c .blank .ensures)
+returns c = rw (c .blank .ensures, c .before .at .ensures)
 
 pub no-entry-spec : {M : Type 1} → statement M
-no-entry-spec = tie.close (tie.spec
-    (λ c κs. search needs)
-    returns)
+no-entry-spec = tie.close (tie.spec (λ c κs. search needs) (λ c κs. search needs) returns)

@@ -1,6 +1,5 @@
 -- The formula.
 use borrow.Author.Needs.{needs}
-use mathlib.Core.Path.{refl}
 use native.Mathlib.Omega.{arith}
 use Rattle.entry.specs.Entry.{size}
 use Rattle.entry.proofs.run.size.Statement.{statement}
@@ -8,11 +7,7 @@ use Rattle.entry.proofs.run.size.Tie as tie
 
 returns : tie.Need-returns
 unfolding size
-returns c = (refl, omega arith)
+returns c = (rw (c .name-end .ensures), omega (arith, c .name-end .ensures))
 
 pub size-spec : {M : Type 1} → statement M
-size-spec = tie.close (tie.spec
-    (λ c. search needs)
-    (λ c. search needs)
-    (λ c. search needs)
-    returns)
+size-spec = tie.close (tie.spec (λ c κs. search needs) (λ c. search needs) returns)

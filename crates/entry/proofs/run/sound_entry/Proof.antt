@@ -1,30 +1,35 @@
 -- The one test that is left, turned into a test of the record that the bits say.
 use borrow.Author.Needs.{needs}
 use mathlib.Core.Path.{sym, _∙_}
+use mathlib.Core.Bool.{and-assoc}
 use denote.Ref.{now}
-use Rattle.entry.specs.Run.{answerOf, isEntry, entryBy}
+use Rattle.lent.proofs.Bools.{and-both}
+use Rattle.entry.specs.Entry.{isHouse}
+use Rattle.entry.specs.Run.{answerOf, isWhole, isEntry, entryBy}
 use Rattle.entry.proofs.Fields.{whole-reaches}
 use Rattle.entry.proofs.run.sound_entry.Statement.{statement}
 use Rattle.entry.proofs.run.sound_entry.Tie as tie
 
 record-in-requires : tie.Need-record-in-requires
-record-in-requires c κs = whole-reaches (now (c .before .args .s)) (c .before .pre .1 .2)
+record-in-requires c κs =
+    let a = c .before .args in
+    whole-reaches (now (a .s)) (and-both (isHouse (a .house)) (isWhole (now (a .s))) (c .before .pre .1 .1) .1)
 
 returns : tie.Need-returns
 unfolding answerOf isEntry entryBy
 returns c =
     let known = c .before .before .before .before .before .pre in
-    let house = rw (known .1 .0) at (known .1 .1) in
+    let kept = rw (known .1 .0) at (known .1 .1) in
     let sound = rw (c .before .before .before .record-in .ensures) at (sym (c .before .before .is-sound .ensures) ∙ c .before .if1 .taken) in
-    rw (c .size .ensures .0, c .before .before .before .record-in .ensures, known .0 .1, known .1 .0, house, known .1 .2, sound)
+    rw (c .size .ensures .0, c .before .before .before .record-in .ensures, known .0 .1, known .1 .0, ← and-assoc, kept, sound)
 
 returns-2 : tie.Need-returns-2
 unfolding isEntry entryBy
 returns-2 c =
     let known = c .before .before .before .before .before .pre in
-    let house = rw (known .1 .0) at (known .1 .1) in
+    let kept = rw (known .1 .0) at (known .1 .1) in
     let unsound = rw (c .before .before .before .record-in .ensures) at (sym (c .before .before .is-sound .ensures) ∙ c .before .if1 .left) in
-    rw (c .no-entry .ensures, house, known .1 .2, unsound)
+    rw (c .no-entry .ensures, ← and-assoc, kept, unsound)
 
 pub sound-entry-spec : {M : Type 1} → statement M
 sound-entry-spec =

@@ -8,18 +8,18 @@ use Rattle.entry.proofs.run.spare.Tie as tie
 
 sub-result : tie.Need-sub-result
 unfolding size
-sub-result c = omega (arith, c .size .ensures .0)
+sub-result c = omega (arith, c .before .size .ensures .0, c .name-end .ensures)
 
 returns : tie.Need-returns
 unfolding size spare
-returns c = (rw (c .size .ensures .0), omega (arith, c .size .ensures .0))
+returns c = (rw (c .before .size .ensures .0, c .name-end .ensures), omega (arith, c .before .size .ensures .0, c .name-end .ensures))
 
 pub spare-spec : {M : Type 1} → statement M
 spare-spec =
-    tie.close (tie.spec
+    tie.close
+    (tie.spec
     (λ c κs. search needs)
     (λ c. search needs)
-    (λ c. search needs)
-    (λ c. search needs)
+    (λ c κs. search needs)
     sub-result
     returns)

@@ -28,6 +28,7 @@ write-house-spec =
     (λ c. search needs)
     (λ c κs. search needs)
     push-requires-2
+    (λ c. search needs)
     (λ c κs. search needs)
     same-length
     returns)
