@@ -6,15 +6,12 @@ use Rattle.lamphudet.specs.Calls.{nextInC}
 use Rattle.lamphudet.proofs.lamphudet_next_entry.Statement.{statement}
 use Rattle.lamphudet.proofs.lamphudet_next_entry.Tie as tie
 
-next-requires : tie.Need-next-requires
-next-requires c κs = search needs
-
-next-in-c-requires : tie.Need-next-in-c-requires
-next-in-c-requires c κs = search needs
-
 returns : tie.Need-returns
 unfolding answerOf
 returns c = c .next-in-c .ensures ∙ ap (λ (a : Answer). nextInC (a .onward)) (c .before .next .ensures)
 
 pub lamphudet-next-entry-spec : {M : Type 1} → statement M
-lamphudet-next-entry-spec = tie.close (tie.spec next-requires next-in-c-requires returns)
+lamphudet-next-entry-spec = tie.close (tie.spec
+    (λ c κs. search needs)
+    (λ c κs. search needs)
+    returns)

@@ -5,18 +5,6 @@ use Rattle.lamphudet.specs.Calls.{readAnswer, readOut}
 use Rattle.lamphudet.proofs.lamphudet_read_presentation.Statement.{statement}
 use Rattle.lamphudet.proofs.lamphudet_read_presentation.Tie as tie
 
-read-requires : tie.Need-read-requires
-read-requires c κs = search needs
-
-enter-requires : tie.Need-enter-requires
-enter-requires c κs = search needs
-
-in-c-requires : tie.Need-in-c-requires
-in-c-requires c κs = search needs
-
-same-length : tie.Need-same-length
-same-length c = search needs
-
 returns : tie.Need-returns
 unfolding answerOf readAnswer readOut
 returns c =
@@ -26,4 +14,9 @@ returns c =
 
 pub lamphudet-read-presentation-spec : {M : Type 1} → statement M
 lamphudet-read-presentation-spec =
-    tie.close (tie.spec read-requires enter-requires in-c-requires same-length returns)
+    tie.close (tie.spec
+    (λ c κs. search needs)
+    (λ c κs. search needs)
+    (λ c κs. search needs)
+    (λ c. search needs)
+    returns)

@@ -4,12 +4,11 @@ use Rattle.lamphudet.specs.Answer.{inC}
 use Rattle.lamphudet.proofs.border.denied.Statement.{statement}
 use Rattle.lamphudet.proofs.border.denied.Tie as tie
 
-number-requires : tie.Need-number-requires
-number-requires c κs = search needs
-
 returns : tie.Need-returns
 unfolding inC
 returns c = rw (c .number .ensures)
 
 pub denied-spec : {M : Type 1} → statement M
-denied-spec = tie.close (tie.spec number-requires returns)
+denied-spec = tie.close (tie.spec
+    (λ c κs. search needs)
+    returns)

@@ -5,17 +5,8 @@ use Rattle.lamphudet.specs.Calls.{nextInC}
 use Rattle.lamphudet.proofs.border.next_in_c.Statement.{statement}
 use Rattle.lamphudet.proofs.border.next_in_c.Tie as tie
 
-enum-known-step : tie.Need-enum-known-step
-enum-known-step c = search needs
-
 enum-told : tie.Need-enum-told
 enum-told c = search needs
-
-enum-known-step-2 : tie.Need-enum-known-step-2
-enum-known-step-2 c = search needs
-
-denied-requires : tie.Need-denied-requires
-denied-requires c κs = search needs
 
 returns : tie.Need-returns
 unfolding nextInC inC
@@ -33,10 +24,10 @@ pub next-in-c-spec : {M : Type 1} → statement M
 next-in-c-spec =
     tie.close
     (tie.spec
-    enum-known-step
+    (λ c. search needs)
     enum-told
-    enum-known-step-2
-    denied-requires
+    (λ c. search needs)
+    (λ c κs. search needs)
     returns
     returns-2
     returns-3)

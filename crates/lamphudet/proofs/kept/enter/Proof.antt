@@ -7,15 +7,6 @@ use Rattle.lamphudet.proofs.kept.enter.Tie as tie
 enum-told : tie.Need-enum-told
 enum-told c = search needs
 
-write-requires : tie.Need-write-requires
-write-requires c κs = search needs
-
-enum-known-verdict : tie.Need-enum-known-verdict
-enum-known-verdict c = search needs
-
-same-length : tie.Need-same-length
-same-length c = search needs
-
 returns : tie.Need-returns
 unfolding enteredAnswer enteredOut
 returns c =
@@ -29,4 +20,10 @@ returns-2 c = (rw (c .before .verdict .given .1), rw (c .before .verdict .given 
 
 pub enter-spec : {M : Type 1} → statement M
 enter-spec =
-    tie.close (tie.spec enum-told write-requires enum-known-verdict same-length returns returns-2)
+    tie.close (tie.spec
+    enum-told
+    (λ c κs. search needs)
+    (λ c. search needs)
+    (λ c. search needs)
+    returns
+    returns-2)

@@ -4,14 +4,8 @@ use Rattle.lamphudet.specs.Calls.{isOnly}
 use Rattle.lamphudet.proofs.kept.is_only.Statement.{statement}
 use Rattle.lamphudet.proofs.kept.is_only.Tie as tie
 
-enum-known-step : tie.Need-enum-known-step
-enum-known-step c = search needs
-
 enum-told : tie.Need-enum-told
 enum-told c = search needs
-
-enum-told-2 : tie.Need-enum-told-2
-enum-told-2 c = search needs
 
 returns : tie.Need-returns
 unfolding isOnly
@@ -27,4 +21,10 @@ returns-3 c = rw (c .enum-told2 .given .1)
 
 pub is-only-spec : {M : Type 1} → statement M
 is-only-spec =
-    tie.close (tie.spec enum-known-step enum-told enum-told-2 returns returns-2 returns-3)
+    tie.close (tie.spec
+    (λ c. search needs)
+    enum-told
+    (λ c. search needs)
+    returns
+    returns-2
+    returns-3)

@@ -6,18 +6,6 @@ use Rattle.lamphudet.specs.Calls.{writtenAnswer, writtenOut}
 use Rattle.lamphudet.proofs.kept.write_only.Statement.{statement}
 use Rattle.lamphudet.proofs.kept.write_only.Tie as tie
 
-next-requires : tie.Need-next-requires
-next-requires c κs = search needs
-
-is-only-requires : tie.Need-is-only-requires
-is-only-requires c κs = search needs
-
-write-requires : tie.Need-write-requires
-write-requires c κs = search needs
-
-same-length : tie.Need-same-length
-same-length c = search needs
-
 returns : tie.Need-returns
 unfolding answerOf writtenAnswer writtenOut
 returns c =
@@ -36,4 +24,10 @@ returns-2 c =
 pub write-only-spec : {M : Type 1} → statement M
 write-only-spec =
     tie.close
-    (tie.spec next-requires is-only-requires write-requires same-length returns returns-2)
+    (tie.spec
+    (λ c κs. search needs)
+    (λ c κs. search needs)
+    (λ c κs. search needs)
+    (λ c. search needs)
+    returns
+    returns-2)
