@@ -51,7 +51,7 @@ fn unpack(to: &mut [u8], s: &[u8], at: usize, n: usize)
     }
 }
 
-pub(crate) fn two_at(s: &[u8], at: usize) -> [u8; 2]
+pub(crate) fn code_at(s: &[u8], at: usize) -> [u8; 2]
     requires { ⌜ (3 ≤ at) × (at + 12 ≤ 8 * length (now s)) × (at < 1024) ⌝ }
     ensures { λ r. ⌜ r ≡ charactersAt (now (s .entry)) at 2 ⌝ }
 {
@@ -60,7 +60,7 @@ pub(crate) fn two_at(s: &[u8], at: usize) -> [u8; 2]
     room
 }
 
-pub(crate) fn three_at(s: &[u8], at: usize) -> [u8; 3]
+pub(crate) fn state_at(s: &[u8], at: usize) -> [u8; 3]
     requires { ⌜ (3 ≤ at) × (at + 18 ≤ 8 * length (now s)) × (at < 1024) ⌝ }
     ensures { λ r. ⌜ r ≡ charactersAt (now (s .entry)) at 3 ⌝ }
 {
@@ -69,7 +69,7 @@ pub(crate) fn three_at(s: &[u8], at: usize) -> [u8; 3]
     room
 }
 
-pub(crate) fn six_at(s: &[u8], at: usize) -> [u8; 6]
+pub(crate) fn date_at(s: &[u8], at: usize) -> [u8; 6]
     requires { ⌜ (3 ≤ at) × (at + 36 ≤ 8 * length (now s)) × (at < 1024) ⌝ }
     ensures { λ r. ⌜ r ≡ charactersAt (now (s .entry)) at 6 ⌝ }
 {

@@ -79,14 +79,14 @@ fn record_in(form: Form, s: &[u8]) -> Record
     requires { ⌜ allBits (R.nameLength (now s)) ≤ 8 * length (now s) ⌝ }
     ensures { λ r. ⌜ r ≡ R.recordIn form (now (s .entry)) ⌝ }
 {
-    let code = characters::two_at(s, places::CODE);
-    let state = characters::three_at(s, places::STATE);
+    let code = characters::code_at(s, places::CODE);
+    let state = characters::state_at(s, places::STATE);
     let number = characters::number_at(s, places::NUMBER);
     let number_len = trimmed_length(&number);
-    let nationality = characters::three_at(s, places::NATIONALITY);
-    let birth = characters::six_at(s, places::BIRTH);
+    let nationality = characters::state_at(s, places::NATIONALITY);
+    let birth = characters::date_at(s, places::BIRTH);
     let sex = characters::sex_by(bits(s, places::SEX, places::SEX_BITS));
-    let expiry = characters::six_at(s, places::EXPIRY);
+    let expiry = characters::date_at(s, places::EXPIRY);
     let name_len = name_length(s);
     let name = characters::name_at(s, places::NAME, name_len);
     Record {

@@ -1,3 +1,5 @@
 pub mod Number
 pub mod Order
 pub mod Read
+-- no words of the paper
+pub mod Inner

@@ -8,13 +8,14 @@ use Rattle.zone.specs.Alphabet.{isFiller, firstFiller}
 use Rattle.zone.specs.Part.{number, numberCheck, optional}
 use Rattle.zone.specs.Form.{start, width, longest, field}
 use Rattle.zone.specs.Record.{trimmed}
+use Rattle.zone.specs.Rooms.{nine}
 use Rattle.zone.specs.declared.form.Form.{Form}
 use Rattle.text.specs.declared.number.Span.{Span}
 use Rattle.text.specs.declared.number.Span.the-variants.{Short, Long, Bad}
 
 -- in TD1 and TD2, whose longest is over nine, a `<` at its check place means a long number
 unfoldable pub isLong : Form → List ℕ → Bool
-isLong f t = ltb 9 (longest f) && isFiller (getD t (start f numberCheck) 0)
+isLong f t = ltb nine (longest f) && isFiller (getD t (start f numberCheck) 0)
 
 -- before the first `<` of the optional field stand at least one further character of the number and then the check digit
 unfoldable pub cutAt : Form → ℕ → Span

@@ -6,6 +6,7 @@ use Rattle.refusal.specs.Outcome.{Outcome, passed, refused, outcomeOf}
 use Rattle.zone.specs.Part.{code, state, nationality, birth, sex, expiry, name}
 use Rattle.zone.specs.Form.{formOf, start, field}
 use Rattle.zone.specs.Record.{blank, trimmed, padded}
+use Rattle.zone.specs.Rooms.{codeRoom, stateRoom, dateRoom, numberRoom, nameRoom}
 use Rattle.zone.specs.declared.form.Form.{Form}
 use Rattle.zone.specs.declared.form.Recognised.{Recognised}
 use Rattle.zone.specs.declared.form.Recognised.the-variants.{As, Unknown}
@@ -29,15 +30,15 @@ answerOf r = record { outcome = outcomeOf (r .verdict); kept = r .kept }
 unfoldable pub recordBy : Form → List ℕ → Span → Record
 recordBy f t span = record {
   form = f;
-  code = padded 2 (field f code t);
-  state = padded 3 (field f state t);
-  number = padded 22 (numberBy f t span);
+  code = padded codeRoom (field f code t);
+  state = padded stateRoom (field f state t);
+  number = padded numberRoom (numberBy f t span);
   «number_len» = length (numberBy f t span);
-  nationality = padded 3 (field f nationality t);
-  birth = padded 6 (field f birth t);
+  nationality = padded stateRoom (field f nationality t);
+  birth = padded dateRoom (field f birth t);
   sex = getD t (start f sex) 0;
-  expiry = padded 6 (field f expiry t);
-  name = padded 39 (trimmed (field f name t));
+  expiry = padded dateRoom (field f expiry t);
+  name = padded nameRoom (trimmed (field f name t));
   «name_len» = length (trimmed (field f name t));
 }
 

@@ -1,15 +1,18 @@
 // The check digits, 9: each judged at its place, and all of them in text order.
 ghost use mathlib.Core.Path.{_≡_};
-ghost use mathlib.Core.Bool.{cond};
-ghost use lib.Dec.{ltb};
-ghost use lib.ListN.{take};
 ghost use mathlib.Core.List.{_++_};
+ghost use lib.Dec.{eqb};
+ghost use lib.ListN.{take, drop, getD};
 ghost use Prim.Native.Nat.{_+_};
-ghost use Rattle.refusal.specs.Outcome.{outcomeOf, passed, orElse};
-ghost use Rattle.zone.specs.Form.{parts, start, width, field, covered};
-ghost use Rattle.zone.specs.Part.{number, optional, birth, birthCheck, expiry, expiryCheck, personal, personalCheck, composite};
+ghost use Rattle.refusal.specs.Outcome.{outcomeOf, unless, orElse};
+ghost use Rattle.zone.specs.Form.{parts, start, field};
+ghost use Rattle.zone.specs.Part.{number, numberCheck, optional, birthCheck, expiryCheck, personal, personalCheck, composite};
 ghost use Rattle.digit.specs.Check.{digitOf};
-ghost use Rattle.text.specs.Order.{digitAt, numberDigit, furtherDigit, digitCheck, inOrder};
+ghost use Rattle.text.specs.Order.{digitAt, digitCheck, inOrder};
+ghost use Rattle.text.specs.Number.{checkedBy};
+ghost use Rattle.text.specs.Inner.{ifHas};
+ghost use Rattle.text.specs.declared.number.Span.{Span};
+ghost use Rattle.text.specs.declared.number.Span.the-variants.{Long};
 use crate::number::Span;
 use digit::Tally;
 use digit::composite::covered_digit;
@@ -17,88 +20,86 @@ use refusal::Cause;
 use refusal::Verdict;
 use zone::form::Form;
 
-// Whether a place holds the check digit of a field.
-fn digit_at<'a>(text: &'a [u8], place: usize, covers: &'a [u8]) -> Verdict
-    ensures { λ r. ⌜ outcomeOf r ≡ digitAt (now (text .entry)) place (now (covers .entry)) ⌝ }
+// Whether a place holds a digit.
+fn judged_digit(text: &[u8], place: usize, digit: u8) -> Verdict
+    ensures { λ r. ⌜ outcomeOf r ≡ unless (eqb (getD (now (text .entry)) place 0) digit) 9 place ⌝ }
 {
-    let c = lent::octet(text, place);
-    let d = digit::of(covers);
-    Verdict::judged(c == d, Cause::Digit, place)
+    Verdict::judged(lent::octet(text, place) == digit, Cause::Digit, place)
+}
+
+// Whether a place holds the check digit of a field.
+fn field_digit(text: &[u8], place: usize, at: usize, width: usize) -> Verdict
+    ensures { λ r. ⌜ outcomeOf r ≡ digitAt (now (text .entry)) place (take width (drop at (now (text .entry)))) ⌝ }
+{
+    judged_digit(text, place, digit::of(lent::part(text, at, width)))
 }
 
 fn number_digit(form: Form, text: &[u8], span: Span) -> Verdict
-    ensures { λ r. ⌜ outcomeOf r ≡ numberDigit form (now (text .entry)) span ⌝ }
+    ensures { λ r. ⌜ outcomeOf r ≡ digitCheck form (now (text .entry)) span numberCheck ⌝ }
 {
     let at = form.places();
     match span {
-        Span::Short => digit_at(text, at.number_check, lent::part(text, at.number, 9)),
+        Span::Short => field_digit(text, at.number_check, at.number, Form::NINE),
         Span::Long(_) => Verdict::Passed,
         Span::Bad => Verdict::Passed,
     }
 }
 
 fn birth_digit(form: Form, text: &[u8]) -> Verdict
-    ensures { λ r. ⌜ outcomeOf r ≡ digitAt (now (text .entry)) (start form birthCheck) (field form birth (now (text .entry))) ⌝ }
+    ensures { λ r. ⌜ ((span : Span) → outcomeOf r ≡ digitCheck form (now (text .entry)) span birthCheck) ⌝ }
 {
     let at = form.places();
-    digit_at(text, at.birth_check, lent::part(text, at.birth, 6))
+    field_digit(text, at.birth_check, at.birth, Form::DATE)
 }
 
 fn expiry_digit(form: Form, text: &[u8]) -> Verdict
-    ensures { λ r. ⌜ outcomeOf r ≡ digitAt (now (text .entry)) (start form expiryCheck) (field form expiry (now (text .entry))) ⌝ }
+    ensures { λ r. ⌜ ((span : Span) → outcomeOf r ≡ digitCheck form (now (text .entry)) span expiryCheck) ⌝ }
 {
     let at = form.places();
-    digit_at(text, at.expiry_check, lent::part(text, at.expiry, 6))
+    field_digit(text, at.expiry_check, at.expiry, Form::DATE)
 }
 
 // Only some forms have a personal number.
 fn personal_digit(form: Form, text: &[u8]) -> Verdict
-    ensures { λ r. ⌜ outcomeOf r ≡ cond (ltb 0 (width form personal)) (digitAt (now (text .entry)) (start form personalCheck) (field form personal (now (text .entry)))) passed ⌝ }
+    ensures { λ r. ⌜ ((span : Span) → outcomeOf r ≡ ifHas form personal (digitCheck form (now (text .entry)) span personalCheck)) ⌝ }
 {
     let at = form.places();
     let wide = form.personal_width();
     if 0 < wide {
-        digit_at(text, at.personal_check, lent::part(text, at.personal, wide))
+        field_digit(text, at.personal_check, at.personal, wide)
     } else {
         Verdict::Passed
     }
 }
 
 fn composite_digit(form: Form, text: &[u8]) -> Verdict
-    ensures { λ r. ⌜ outcomeOf r ≡ digitAt (now (text .entry)) (start form composite) (covered form (now (text .entry))) ⌝ }
+    ensures { λ r. ⌜ ((span : Span) → outcomeOf r ≡ digitCheck form (now (text .entry)) span composite) ⌝ }
 {
     let at = form.places();
-    let place = at.composite;
-    let c = lent::octet(text, place);
-    let d = covered_digit(form, text);
-    Verdict::judged(c == d, Cause::Digit, place)
+    judged_digit(text, at.composite, covered_digit(form, text))
 }
 
 // The check runs over the nine and the further characters, as if they stood together.
 fn long_sum(form: Form, text: &[u8], further: usize) -> u8
-    ensures { λ r. ⌜ r ≡ digitOf (field form number (now (text .entry)) ++ take further (field form optional (now (text .entry)))) ⌝ }
+    ensures { λ r. ⌜ r ≡ digitOf (checkedBy form (now (text .entry)) (Long further)) ⌝ }
 {
     let at = form.places();
-    let nine = Tally::new().over(lent::part(text, at.number, 9));
+    let nine = Tally::new().over(lent::part(text, at.number, Form::NINE));
     let optional = lent::part(text, at.optional, form.optional_width());
     nine.over(lent::part(optional, 0, further)).digit()
 }
 
 fn long_digit(form: Form, text: &[u8], further: u8) -> Verdict
-    ensures { λ r. ⌜ outcomeOf r ≡ digitAt (now (text .entry)) (start form optional + further)
-        (field form number (now (text .entry)) ++ take further (field form optional (now (text .entry)))) ⌝ }
+    ensures { λ r. ⌜ outcomeOf r ≡ digitCheck form (now (text .entry)) (Long further) optional ⌝ }
 {
     let at = form.places();
     let n = further as usize;
-    let place = at.optional + n;
-    let c = lent::octet(text, place);
-    let d = long_sum(form, text, n);
-    Verdict::judged(c == d, Cause::Digit, place)
+    judged_digit(text, at.optional + n, long_sum(form, text, n))
 }
 
 // A long number's digit stands behind its further characters, in forms that have room for them.
 fn further_digit(form: Form, text: &[u8], span: Span) -> Verdict
-    ensures { λ r. ⌜ outcomeOf r ≡ cond (ltb 0 (width form optional)) (furtherDigit form (now (text .entry)) span) passed ⌝ }
+    ensures { λ r. ⌜ outcomeOf r ≡ ifHas form optional (digitCheck form (now (text .entry)) span optional) ⌝ }
 {
     if 0 < form.optional_width() {
         match span {
@@ -113,8 +114,8 @@ fn further_digit(form: Form, text: &[u8], span: Span) -> Verdict
 
 // Birth and expiry stand in this order in every form.
 fn dates_digit(form: Form, text: &[u8]) -> Verdict
-    ensures { λ r. ⌜ outcomeOf r ≡ orElse (digitAt (now (text .entry)) (start form birthCheck) (field form birth (now (text .entry))))
-        (digitAt (now (text .entry)) (start form expiryCheck) (field form expiry (now (text .entry)))) ⌝ }
+    ensures { λ r. ⌜ ((span : Span) → outcomeOf r ≡
+        orElse (digitCheck form (now (text .entry)) span birthCheck) (digitCheck form (now (text .entry)) span expiryCheck)) ⌝ }
 {
     birth_digit(form, text).or_else(expiry_digit(form, text))
 }

@@ -2,15 +2,13 @@
 ghost use mathlib.Core.Path.{_≡_};
 ghost use mathlib.Core.Bool.{not, _&&_};
 ghost use lib.ListN.{getD};
-ghost use Rattle.refusal.specs.Outcome.{outcomeOf, unless, orElse};
+ghost use Rattle.refusal.specs.Outcome.{outcomeOf, orElse};
 ghost use Rattle.zone.specs.Alphabet.{isFiller};
-ghost use Rattle.zone.specs.Form.{start, field, parts};
+ghost use Rattle.zone.specs.Form.{parts};
 ghost use Rattle.zone.specs.Part.{code, state, number, nationality, birth, sex, expiry, name};
-ghost use Rattle.field.specs.Code.{codeRule};
-ghost use Rattle.field.specs.Letters.{stateRule, sexRule, nameRule};
-ghost use Rattle.field.specs.Date.{birthRule, expiryRule};
-ghost use Rattle.text.specs.Number.{spanRule, numberRule};
+ghost use Rattle.text.specs.Number.{spanRule};
 ghost use Rattle.text.specs.Order.{fieldCheck, inOrder};
+ghost use Rattle.text.specs.declared.number.Span.{Span};
 use crate::number::Span;
 use refusal::Cause;
 use refusal::Verdict;
@@ -18,45 +16,42 @@ use zone::alphabet::FILLER;
 use zone::form::Form;
 
 fn code_check(form: Form, text: &[u8]) -> Verdict
-    ensures { λ r. ⌜ outcomeOf r ≡ unless (codeRule form (field form code (now (text .entry)))) 3 (start form code) ⌝ }
+    ensures { λ r. ⌜ ((span : Span) → outcomeOf r ≡ fieldCheck form (now (text .entry)) span code) ⌝ }
 {
     let at = form.places();
     Verdict::judged(
-        field::code::is_code(form, lent::part(text, at.code, 2)),
+        field::code::is_code(form, lent::part(text, at.code, Form::CODE)),
         Cause::Code,
         at.code,
     )
 }
 
 fn state_check(form: Form, text: &[u8]) -> Verdict
-    ensures { λ r. ⌜ outcomeOf r ≡ unless (stateRule (field form state (now (text .entry)))) 4 (start form state) ⌝ }
+    ensures { λ r. ⌜ ((span : Span) → outcomeOf r ≡ fieldCheck form (now (text .entry)) span state) ⌝ }
 {
     let at = form.places();
     Verdict::judged(
-        field::letters::is_state(lent::part(text, at.state, 3)),
+        field::letters::is_state(lent::part(text, at.state, Form::STATE)),
         Cause::State,
         at.state,
     )
 }
 
 fn nationality_check(form: Form, text: &[u8]) -> Verdict
-    ensures { λ r. ⌜ outcomeOf r ≡ unless (stateRule (field form nationality (now (text .entry)))) 4 (start form nationality) ⌝ }
+    ensures { λ r. ⌜ ((span : Span) → outcomeOf r ≡ fieldCheck form (now (text .entry)) span nationality) ⌝ }
 {
     let at = form.places();
     Verdict::judged(
-        field::letters::is_state(lent::part(text, at.nationality, 3)),
+        field::letters::is_state(lent::part(text, at.nationality, Form::STATE)),
         Cause::State,
         at.nationality,
     )
 }
 
-// A number does not begin with a filler, and ends as it should.
-fn is_number(s: &[u8], span: Span) -> bool
-    ensures { λ r. ⌜ r ≡ not (isFiller (getD (now (s .entry)) 0 0)) && spanRule span ⌝ }
+// A long number ends as it should.
+fn is_ended(span: Span) -> bool
+    ensures { λ r. ⌜ r ≡ spanRule span ⌝ }
 {
-    if lent::octet(s, 0) == FILLER {
-        return false;
-    }
     match span {
         Span::Short => true,
         Span::Long(_) => true,
@@ -64,41 +59,48 @@ fn is_number(s: &[u8], span: Span) -> bool
     }
 }
 
+// Nor does a number begin with a filler.
+fn is_number(s: &[u8], span: Span) -> bool
+    ensures { λ r. ⌜ r ≡ not (isFiller (getD (now (s .entry)) 0 0)) && spanRule span ⌝ }
+{
+    (lent::octet(s, 0) != FILLER) & is_ended(span)
+}
+
 fn number_check(form: Form, text: &[u8], span: Span) -> Verdict
-    ensures { λ r. ⌜ outcomeOf r ≡ unless (numberRule form (now (text .entry)) span) 5 (start form number) ⌝ }
+    ensures { λ r. ⌜ outcomeOf r ≡ fieldCheck form (now (text .entry)) span number ⌝ }
 {
     let at = form.places();
     Verdict::judged(
-        is_number(lent::part(text, at.number, 9), span),
+        is_number(lent::part(text, at.number, Form::NINE), span),
         Cause::Number,
         at.number,
     )
 }
 
 fn birth_check(form: Form, text: &[u8]) -> Verdict
-    ensures { λ r. ⌜ outcomeOf r ≡ unless (birthRule (field form birth (now (text .entry)))) 6 (start form birth) ⌝ }
+    ensures { λ r. ⌜ ((span : Span) → outcomeOf r ≡ fieldCheck form (now (text .entry)) span birth) ⌝ }
 {
     let at = form.places();
     Verdict::judged(
-        field::date::is_birth(lent::part(text, at.birth, 6)),
+        field::date::is_birth(lent::part(text, at.birth, Form::DATE)),
         Cause::Date,
         at.birth,
     )
 }
 
 fn expiry_check(form: Form, text: &[u8]) -> Verdict
-    ensures { λ r. ⌜ outcomeOf r ≡ unless (expiryRule (field form expiry (now (text .entry)))) 6 (start form expiry) ⌝ }
+    ensures { λ r. ⌜ ((span : Span) → outcomeOf r ≡ fieldCheck form (now (text .entry)) span expiry) ⌝ }
 {
     let at = form.places();
     Verdict::judged(
-        field::date::is_expiry(lent::part(text, at.expiry, 6)),
+        field::date::is_expiry(lent::part(text, at.expiry, Form::DATE)),
         Cause::Date,
         at.expiry,
     )
 }
 
 fn sex_check(form: Form, text: &[u8]) -> Verdict
-    ensures { λ r. ⌜ outcomeOf r ≡ unless (sexRule (getD (now (text .entry)) (start form sex) 0)) 7 (start form sex) ⌝ }
+    ensures { λ r. ⌜ ((span : Span) → outcomeOf r ≡ fieldCheck form (now (text .entry)) span sex) ⌝ }
 {
     let at = form.places();
     Verdict::judged(
@@ -109,7 +111,7 @@ fn sex_check(form: Form, text: &[u8]) -> Verdict
 }
 
 fn name_check(form: Form, text: &[u8]) -> Verdict
-    ensures { λ r. ⌜ outcomeOf r ≡ unless (nameRule (field form name (now (text .entry)))) 8 (start form name) ⌝ }
+    ensures { λ r. ⌜ ((span : Span) → outcomeOf r ≡ fieldCheck form (now (text .entry)) span name) ⌝ }
 {
     let at = form.places();
     Verdict::judged(
@@ -121,9 +123,8 @@ fn name_check(form: Form, text: &[u8]) -> Verdict
 
 // Birth, sex and expiry stand in this order in every form.
 fn person_check(form: Form, text: &[u8]) -> Verdict
-    ensures { λ r. ⌜ outcomeOf r ≡ orElse (unless (birthRule (field form birth (now (text .entry)))) 6 (start form birth))
-        (orElse (unless (sexRule (getD (now (text .entry)) (start form sex) 0)) 7 (start form sex))
-        (unless (expiryRule (field form expiry (now (text .entry)))) 6 (start form expiry))) ⌝ }
+    ensures { λ r. ⌜ ((span : Span) → outcomeOf r ≡ orElse (fieldCheck form (now (text .entry)) span birth)
+        (orElse (fieldCheck form (now (text .entry)) span sex) (fieldCheck form (now (text .entry)) span expiry))) ⌝ }
 {
     let sex_and_expiry = sex_check(form, text).or_else(expiry_check(form, text));
     birth_check(form, text).or_else(sex_and_expiry)
@@ -131,8 +132,8 @@ fn person_check(form: Form, text: &[u8]) -> Verdict
 
 // Code and state open every form.
 fn opening_check(form: Form, text: &[u8]) -> Verdict
-    ensures { λ r. ⌜ outcomeOf r ≡ orElse (unless (codeRule form (field form code (now (text .entry)))) 3 (start form code))
-        (unless (stateRule (field form state (now (text .entry)))) 4 (start form state)) ⌝ }
+    ensures { λ r. ⌜ ((span : Span) → outcomeOf r ≡
+        orElse (fieldCheck form (now (text .entry)) span code) (fieldCheck form (now (text .entry)) span state)) ⌝ }
 {
     code_check(form, text).or_else(state_check(form, text))
 }

@@ -15,12 +15,8 @@ pub enum Span {
 pub fn cut_at(form: Form, filler: usize) -> Span
     ensures { λ r. ⌜ r ≡ cutAt form filler ⌝ }
 {
-    if 2 <= filler {
-        if filler < form.optional_width() {
-            Span::Long((filler - 1) as u8)
-        } else {
-            Span::Bad
-        }
+    if (2 <= filler) & (filler < form.optional_width()) {
+        Span::Long((filler - 1) as u8)
     } else {
         Span::Bad
     }
@@ -30,13 +26,9 @@ pub fn span_of(form: Form, text: &[u8]) -> Span
     ensures { λ r. ⌜ r ≡ spanOf form (now (text .entry)) ⌝ }
 {
     let at = form.places();
-    if 9 < form.longest_number() {
-        if lent::octet(text, at.number_check) == FILLER {
-            let optional = lent::part(text, at.optional, form.optional_width());
-            cut_at(form, zone::alphabet::first_filler(optional))
-        } else {
-            Span::Short
-        }
+    if (Form::NINE < form.longest_number()) & (lent::octet(text, at.number_check) == FILLER) {
+        let optional = lent::part(text, at.optional, form.optional_width());
+        cut_at(form, zone::alphabet::first_filler(optional))
     } else {
         Span::Short
     }

@@ -67,9 +67,6 @@ pub fn read(text: &[u8]) -> Reading
 {
     match Form::of_length(text.len()) {
         Recognised::As(form) => read_by(form, text),
-        Recognised::Unknown => refuse(Refusal {
-            cause: Cause::Length,
-            place: 0,
-        }),
+        Recognised::Unknown => refuse(Refusal::at(Cause::Length, 0)),
     }
 }

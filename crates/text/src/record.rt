@@ -5,6 +5,7 @@ ghost use lib.ListN.{length, take, drop};
 ghost use Rattle.zone.specs.Form.{field};
 ghost use Rattle.zone.specs.Part.{name};
 ghost use Rattle.zone.specs.Record.{padded, trimmed};
+ghost use Rattle.zone.specs.Rooms.{codeRoom, stateRoom, dateRoom, numberRoom, nameRoom};
 ghost use Rattle.text.specs.Number.{numberBy};
 ghost use Rattle.text.specs.Read.{recordBy};
 use crate::number::Span;
@@ -13,32 +14,32 @@ use zone::form::Form;
 use zone::record::Record;
 use zone::record::trimmed_length;
 
-fn two_at(text: &[u8], at: usize) -> [u8; 2]
-    ensures { λ r. ⌜ r ≡ padded 2 (take 2 (drop at (now (text .entry)))) ⌝ }
+fn code_at(text: &[u8], at: usize) -> [u8; Form::CODE]
+    ensures { λ r. ⌜ r ≡ padded codeRoom (take codeRoom (drop at (now (text .entry)))) ⌝ }
 {
-    let mut room = [FILLER; 2];
-    lent::copy(&mut room, lent::part(text, at, 2));
+    let mut room = [FILLER; Form::CODE];
+    lent::copy(&mut room, lent::part(text, at, Form::CODE));
     room
 }
 
-fn three_at(text: &[u8], at: usize) -> [u8; 3]
-    ensures { λ r. ⌜ r ≡ padded 3 (take 3 (drop at (now (text .entry)))) ⌝ }
+fn state_at(text: &[u8], at: usize) -> [u8; Form::STATE]
+    ensures { λ r. ⌜ r ≡ padded stateRoom (take stateRoom (drop at (now (text .entry)))) ⌝ }
 {
-    let mut room = [FILLER; 3];
-    lent::copy(&mut room, lent::part(text, at, 3));
+    let mut room = [FILLER; Form::STATE];
+    lent::copy(&mut room, lent::part(text, at, Form::STATE));
     room
 }
 
-fn six_at(text: &[u8], at: usize) -> [u8; 6]
-    ensures { λ r. ⌜ r ≡ padded 6 (take 6 (drop at (now (text .entry)))) ⌝ }
+fn date_at(text: &[u8], at: usize) -> [u8; Form::DATE]
+    ensures { λ r. ⌜ r ≡ padded dateRoom (take dateRoom (drop at (now (text .entry)))) ⌝ }
 {
-    let mut room = [FILLER; 6];
-    lent::copy(&mut room, lent::part(text, at, 6));
+    let mut room = [FILLER; Form::DATE];
+    lent::copy(&mut room, lent::part(text, at, Form::DATE));
     room
 }
 
 fn name_chars(form: Form, text: &[u8]) -> [u8; Form::NAME]
-    ensures { λ r. ⌜ r ≡ padded 39 (trimmed (field form name (now (text .entry)))) ⌝ }
+    ensures { λ r. ⌜ r ≡ padded nameRoom (trimmed (field form name (now (text .entry)))) ⌝ }
 {
     let at = form.places();
     let mut room = [FILLER; Form::NAME];
@@ -55,7 +56,7 @@ fn name_length(form: Form, text: &[u8]) -> usize
 
 // The nine and the further characters, joined.
 fn joined<'a>(nine: &'a [u8], further: &'a [u8]) -> [u8; Form::NUMBER]
-    ensures { λ r. ⌜ r ≡ padded 22 (now (nine .entry) ++ now (further .entry)) ⌝ }
+    ensures { λ r. ⌜ r ≡ padded numberRoom (now (nine .entry) ++ now (further .entry)) ⌝ }
 {
     let mut room = [FILLER; Form::NUMBER];
     lent::copy(&mut room, nine);
@@ -64,10 +65,10 @@ fn joined<'a>(nine: &'a [u8], further: &'a [u8]) -> [u8; Form::NUMBER]
 }
 
 fn number_chars(form: Form, text: &[u8], span: Span) -> [u8; Form::NUMBER]
-    ensures { λ r. ⌜ r ≡ padded 22 (numberBy form (now (text .entry)) span) ⌝ }
+    ensures { λ r. ⌜ r ≡ padded numberRoom (numberBy form (now (text .entry)) span) ⌝ }
 {
     let at = form.places();
-    let nine = lent::part(text, at.number, 9);
+    let nine = lent::part(text, at.number, Form::NINE);
     let optional = lent::part(text, at.optional, form.optional_width());
     match span {
         Span::Short => joined(nine, lent::part(optional, 0, 0)),
@@ -80,7 +81,7 @@ fn number_length(form: Form, text: &[u8], span: Span) -> usize
     ensures { λ r. ⌜ r ≡ length (numberBy form (now (text .entry)) span) ⌝ }
 {
     let at = form.places();
-    let nine = lent::part(text, at.number, 9);
+    let nine = lent::part(text, at.number, Form::NINE);
     match span {
         Span::Short => trimmed_length(nine),
         Span::Long(further) => {
@@ -96,14 +97,14 @@ pub fn record_by(form: Form, text: &[u8], span: Span) -> Record
     ensures { λ r. ⌜ r ≡ recordBy form (now (text .entry)) span ⌝ }
 {
     let at = form.places();
-    let code = two_at(text, at.code);
-    let state = three_at(text, at.state);
+    let code = code_at(text, at.code);
+    let state = state_at(text, at.state);
     let number = number_chars(form, text, span);
     let number_len = number_length(form, text, span);
-    let nationality = three_at(text, at.nationality);
-    let birth = six_at(text, at.birth);
+    let nationality = state_at(text, at.nationality);
+    let birth = date_at(text, at.birth);
     let sex = lent::octet(text, at.sex);
-    let expiry = six_at(text, at.expiry);
+    let expiry = date_at(text, at.expiry);
     let name = name_chars(form, text);
     let name_len = name_length(form, text);
     Record {

@@ -9,7 +9,9 @@ returns c =
     (rw (c .in-c .ensures, d .answer), d .output)
 
 pub lamphudet-digest-spec : {M : Type 1} → statement M
-lamphudet-digest-spec = tie.close (tie.spec
+lamphudet-digest-spec =
+    tie.close
+    (tie.spec
     (λ c κs. search needs)
     (λ c κs. search needs)
     (λ c. search needs)

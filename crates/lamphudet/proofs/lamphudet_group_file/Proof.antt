@@ -8,7 +8,8 @@ returns c = rw (c .stretch-in-c .ensures, c .before .group-stretch .ensures)
 
 pub lamphudet-group-file-spec : {M : Type 1} → statement M
 lamphudet-group-file-spec =
-    tie.close (tie.spec
+    tie.close
+    (tie.spec
     (λ c κs. search needs)
     (λ c κs. search needs)
     returns)

@@ -11,7 +11,9 @@ unfolding answerOf
 returns c = c .next-in-c .ensures ∙ ap (λ (a : Answer). nextInC (a .onward)) (c .before .next .ensures)
 
 pub lamphudet-next-entry-spec : {M : Type 1} → statement M
-lamphudet-next-entry-spec = tie.close (tie.spec
+lamphudet-next-entry-spec =
+    tie.close
+    (tie.spec
     (λ c κs. search needs)
     (λ c κs. search needs)
     returns)

@@ -14,7 +14,8 @@ returns c =
 
 pub lamphudet-read-text-spec : {M : Type 1} → statement M
 lamphudet-read-text-spec =
-    tie.close (tie.spec
+    tie.close
+    (tie.spec
     (λ c κs. search needs)
     (λ c κs. search needs)
     (λ c κs. search needs)

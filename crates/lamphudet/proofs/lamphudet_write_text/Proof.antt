@@ -8,7 +8,8 @@ returns c = let w = c .before .before .before .write-only .ensures in (rw (c .in
 
 pub lamphudet-write-text-spec : {M : Type 1} → statement M
 lamphudet-write-text-spec =
-    tie.close (tie.spec
+    tie.close
+    (tie.spec
     (λ c κs. search needs)
     (λ c κs. search needs)
     (λ c. search needs)

@@ -12,7 +12,4 @@ returns c =
     rw (c .before .unpack .ensures) (copied-padded 39 (charactersAt (now (a .s)) (a .at) (a .n)))
 
 pub name-at-spec : {M : Type 1} → statement M
-name-at-spec = tie.close (tie.spec
-    (λ c. search needs)
-    (λ c κs. search needs)
-    returns)
+name-at-spec = tie.close (tie.spec (λ c. search needs) (λ c κs. search needs) returns)

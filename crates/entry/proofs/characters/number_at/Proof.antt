@@ -11,7 +11,4 @@ returns c =
     rw (c .before .unpack .ensures) (characters-fill (now (a .s)) (a .at) 22)
 
 pub number-at-spec : {M : Type 1} → statement M
-number-at-spec = tie.close (tie.spec
-    (λ c. search needs)
-    (λ c κs. search needs)
-    returns)
+number-at-spec = tie.close (tie.spec (λ c. search needs) (λ c κs. search needs) returns)

@@ -4,9 +4,6 @@ use Rattle.entry.specs.Codes.{formCode}
 use Rattle.entry.proofs.codes.form_code.Statement.{statement}
 use Rattle.entry.proofs.codes.form_code.Tie as tie
 
-enum-told : tie.Need-enum-told
-enum-told c = search needs
-
 returns : tie.Need-returns
 unfolding formCode
 returns c = (rw (c .enum-told .given .1), search needs)
@@ -20,8 +17,10 @@ unfolding formCode
 returns-3 c = (rw (c .enum-told3 .given .1), search needs)
 
 pub form-code-spec : {M : Type 1} → statement M
-form-code-spec = tie.close (tie.spec
-    enum-told
+form-code-spec =
+    tie.close
+    (tie.spec
+    (λ c. search needs)
     (λ c. search needs)
     (λ c. search needs)
     returns

@@ -8,7 +8,4 @@ cast-result : tie.Need-cast-result
 cast-result c = record { fits = shr-lt 8 (c .args .n) (c .pre .0) }
 
 pub high-spec : {M : Type 1} → statement M
-high-spec = tie.close (tie.spec
-    (λ c. search needs)
-    cast-result
-    (λ c. search needs))
+high-spec = tie.close (tie.spec (λ c. search needs) cast-result (λ c. search needs))

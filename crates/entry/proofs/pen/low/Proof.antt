@@ -14,7 +14,4 @@ returns : tie.Need-returns
 returns c = rw (c .raised .ensures, one-mul (2 ^ c .before .args .n)) (and-mask (c .before .args .x) (c .before .args .n))
 
 pub low-spec : {M : Type 1} → statement M
-low-spec = tie.close (tie.spec
-    (λ c κs. search needs)
-    sub-result
-    returns)
+low-spec = tie.close (tie.spec (λ c κs. search needs) sub-result returns)

@@ -9,6 +9,4 @@ returns : tie.Need-returns
 returns c = shl-exact 8 (c .args .n) 32 (c .pre .0) (omega arith)
 
 pub raised-spec : {M : Type 1} → statement M
-raised-spec = tie.close (tie.spec
-    (λ c. search needs)
-    returns)
+raised-spec = tie.close (tie.spec (λ c. search needs) returns)

@@ -5,9 +5,6 @@ use Rattle.entry.specs.Run.{formIn, entryBy}
 use Rattle.entry.proofs.run.entry_at.Statement.{statement}
 use Rattle.entry.proofs.run.entry_at.Tie as tie
 
-enum-told : tie.Need-enum-told
-enum-told c = search needs
-
 returns : tie.Need-returns
 unfolding formIn
 returns c =
@@ -28,7 +25,7 @@ entry-at-spec =
     (λ c κs. search needs)
     (λ c. search needs)
     (λ c κs. search needs)
-    enum-told
+    (λ c. search needs)
     (λ c κs. search needs)
     returns
     returns-2)

@@ -11,7 +11,4 @@ unfolding nameLength
 returns c = (c .bits .ensures, rw (c .bits .ensures) (bits-below (now (c .before .before .args .s)) 272 6))
 
 pub name-length-spec : {M : Type 1} → statement M
-name-length-spec = tie.close (tie.spec
-    (λ c κs. search needs)
-    (λ c. search needs)
-    returns)
+name-length-spec = tie.close (tie.spec (λ c κs. search needs) (λ c. search needs) returns)

@@ -10,15 +10,15 @@ returns c =
     rw (
       c .name-at .ensures,
       c .before .name-length .ensures .0,
-      c .before .before .six-at2 .ensures,
+      c .before .before .date-at2 .ensures,
       c .before .before .before .sex-by .ensures,
       c .before .before .before .before .bits .ensures,
-      c .before .before .before .before .before .six-at .ensures,
-      c .before .before .before .before .before .before .three-at2 .ensures,
+      c .before .before .before .before .before .date-at .ensures,
+      c .before .before .before .before .before .before .state-at2 .ensures,
       c .before .before .before .before .before .before .before .trimmed-length .ensures,
       c .before .before .before .before .before .before .before .before .before .number-at .ensures,
-      c .before .before .before .before .before .before .before .before .before .before .three-at .ensures,
-      c .before .before .before .before .before .before .before .before .before .before .before .two-at .ensures,
+      c .before .before .before .before .before .before .before .before .before .before .state-at .ensures,
+      c .before .before .before .before .before .before .before .before .before .before .before .code-at .ensures,
     )
 
 pub record-in-spec : {M : Type 1} → statement M

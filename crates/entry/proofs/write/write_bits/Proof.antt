@@ -13,7 +13,8 @@ returns c = c .before .before .finish .ensures ∙ finish-all (wrote-then (c .be
 
 pub write-bits-spec : {M : Type 1} → statement M
 write-bits-spec =
-    tie.close (tie.spec
+    tie.close
+    (tie.spec
     (λ c κs. search needs)
     (λ c κs. search needs)
     (λ c κs. search needs)

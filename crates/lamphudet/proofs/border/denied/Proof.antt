@@ -9,6 +9,4 @@ unfolding inC
 returns c = rw (c .number .ensures)
 
 pub denied-spec : {M : Type 1} → statement M
-denied-spec = tie.close (tie.spec
-    (λ c κs. search needs)
-    returns)
+denied-spec = tie.close (tie.spec (λ c κs. search needs) returns)

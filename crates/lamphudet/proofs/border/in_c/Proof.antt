@@ -14,7 +14,8 @@ returns-2 c = rw (c .denied .ensures, c .before .before .answer2 .given .1)
 
 pub in-c-spec : {M : Type 1} → statement M
 in-c-spec =
-    tie.close (tie.spec
+    tie.close
+    (tie.spec
     (λ c. search needs)
     (λ c. search needs)
     (λ c κs. search needs)

@@ -5,9 +5,6 @@ use Rattle.lamphudet.specs.Calls.{nextInC}
 use Rattle.lamphudet.proofs.border.next_in_c.Statement.{statement}
 use Rattle.lamphudet.proofs.border.next_in_c.Tie as tie
 
-enum-told : tie.Need-enum-told
-enum-told c = search needs
-
 returns : tie.Need-returns
 unfolding nextInC inC
 returns c = rw (c .before .step .given .1)
@@ -25,7 +22,7 @@ next-in-c-spec =
     tie.close
     (tie.spec
     (λ c. search needs)
-    enum-told
+    (λ c. search needs)
     (λ c. search needs)
     (λ c κs. search needs)
     returns

@@ -4,9 +4,6 @@ use Rattle.lamphudet.specs.Calls.{enteredAnswer, enteredOut}
 use Rattle.lamphudet.proofs.kept.enter.Statement.{statement}
 use Rattle.lamphudet.proofs.kept.enter.Tie as tie
 
-enum-told : tie.Need-enum-told
-enum-told c = search needs
-
 returns : tie.Need-returns
 unfolding enteredAnswer enteredOut
 returns c =
@@ -20,8 +17,9 @@ returns-2 c = (rw (c .before .verdict .given .1), rw (c .before .verdict .given 
 
 pub enter-spec : {M : Type 1} → statement M
 enter-spec =
-    tie.close (tie.spec
-    enum-told
+    tie.close
+    (tie.spec
+    (λ c. search needs)
     (λ c κs. search needs)
     (λ c. search needs)
     (λ c. search needs)

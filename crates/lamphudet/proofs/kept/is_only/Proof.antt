@@ -4,9 +4,6 @@ use Rattle.lamphudet.specs.Calls.{isOnly}
 use Rattle.lamphudet.proofs.kept.is_only.Statement.{statement}
 use Rattle.lamphudet.proofs.kept.is_only.Tie as tie
 
-enum-told : tie.Need-enum-told
-enum-told c = search needs
-
 returns : tie.Need-returns
 unfolding isOnly
 returns c = rw (c .before .step .given .1)
@@ -21,9 +18,10 @@ returns-3 c = rw (c .enum-told2 .given .1)
 
 pub is-only-spec : {M : Type 1} → statement M
 is-only-spec =
-    tie.close (tie.spec
+    tie.close
+    (tie.spec
     (λ c. search needs)
-    enum-told
+    (λ c. search needs)
     (λ c. search needs)
     returns
     returns-2

@@ -2,22 +2,14 @@
 use borrow.Author.Needs.{needs}
 use Rattle.zone.proofs.Widths.{fixed}
 use Rattle.zone.specs.Form.{placesOf, field}
+use Rattle.text.specs.Order.{digitCheck}
 use Rattle.text.proofs.digits.birth_digit.Statement.{statement}
 use Rattle.text.proofs.digits.birth_digit.Tie as tie
 
 returns : tie.Need-returns
-unfolding placesOf field
+unfolding digitCheck placesOf field
 returns c =
-    rw (
-      c .digit-at .ensures,
-      c .before .part .ensures,
-      c .before .before .places .ensures,
-      fixed (c .before .before .before .before .args .form) .birth-width,
-    )
+    λ span. rw (c .field-digit .ensures, c .before .places .ensures, fixed (c .before .before .before .args .form) .birth-width)
 
 pub birth-digit-spec : {M : Type 1} → statement M
-birth-digit-spec = tie.close (tie.spec
-    (λ c κs. search needs)
-    (λ c κs. search needs)
-    (λ c κs. search needs)
-    returns)
+birth-digit-spec = tie.close (tie.spec (λ c κs. search needs) (λ c κs. search needs) returns)

@@ -4,11 +4,13 @@ use Rattle.text.proofs.digits.dates_digit.Statement.{statement}
 use Rattle.text.proofs.digits.dates_digit.Tie as tie
 
 returns : tie.Need-returns
-returns c = rw (c .or-else .ensures, c .before .expiry-digit .ensures, c .before .before .birth-digit .ensures)
+returns c =
+    λ span. rw (c .or-else .ensures, c .before .expiry-digit .ensures span, c .before .before .birth-digit .ensures span)
 
 pub dates-digit-spec : {M : Type 1} → statement M
 dates-digit-spec =
-    tie.close (tie.spec
+    tie.close
+    (tie.spec
     (λ c κs. search needs)
     (λ c κs. search needs)
     (λ c κs. search needs)

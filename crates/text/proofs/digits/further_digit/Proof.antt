@@ -1,24 +1,18 @@
 -- The cases of `furtherDigit`, where the form has room.
 use borrow.Author.Needs.{needs}
 use borrow.Author.Tests.{lt-ltb, le-ltb}
-use Rattle.text.specs.Number.{checkedBy}
-use Rattle.text.specs.Order.{furtherDigit}
+use Rattle.text.specs.Order.{furtherDigit, digitCheck}
+use Rattle.text.specs.Inner.{ifHas}
 use Rattle.text.proofs.digits.further_digit.Statement.{statement}
 use Rattle.text.proofs.digits.further_digit.Tie as tie
 
-enum-told : tie.Need-enum-told
-enum-told c = search needs
-
 returns : tie.Need-returns
-unfolding furtherDigit
+unfolding ifHas digitCheck furtherDigit
 returns c =
-    rw (
-      rw (c .before .before .before .optional-width .ensures) at (lt-ltb _ _ (c .before .before .if1 .taken)),
-      c .enum-told .given .1,
-    )
+    rw (rw (c .before .before .before .optional-width .ensures) at (lt-ltb _ _ (c .before .before .if1 .taken)), c .enum-told .given .1)
 
 returns-2 : tie.Need-returns-2
-unfolding furtherDigit checkedBy
+unfolding ifHas
 returns-2 c =
     rw (
       c .long-digit .ensures,
@@ -27,14 +21,12 @@ returns-2 c =
     )
 
 returns-3 : tie.Need-returns-3
-unfolding furtherDigit
+unfolding ifHas digitCheck furtherDigit
 returns-3 c =
-    rw (
-      rw (c .before .before .before .optional-width .ensures) at (lt-ltb _ _ (c .before .before .if1 .taken)),
-      c .enum-told2 .given .1,
-    )
+    rw (rw (c .before .before .before .optional-width .ensures) at (lt-ltb _ _ (c .before .before .if1 .taken)), c .enum-told2 .given .1)
 
 returns-4 : tie.Need-returns-4
+unfolding ifHas
 returns-4 c = rw (rw (c .before .optional-width .ensures) at (le-ltb _ _ (c .if1 .left)))
 
 pub further-digit-spec : {M : Type 1} → statement M
@@ -42,7 +34,7 @@ further-digit-spec =
     tie.close
     (tie.spec
     (λ c κs. search needs)
-    enum-told
+    (λ c. search needs)
     (λ c. search needs)
     (λ c κs. search needs)
     (λ c. search needs)

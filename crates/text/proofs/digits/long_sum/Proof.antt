@@ -1,14 +1,16 @@
 -- A sum that goes on over the further characters is the sum over both.
 use borrow.Author.Needs.{needs}
-use Rattle.zone.proofs.Widths.{fixed}
 use Rattle.digit.proofs.Sums.{over-over, over-digit}
+use Rattle.zone.proofs.Widths.{fixed}
 use Rattle.zone.specs.Form.{placesOf, field}
+use Rattle.text.specs.Number.{checkedBy}
 use Rattle.text.proofs.digits.long_sum.Statement.{statement}
 use Rattle.text.proofs.digits.long_sum.Tie as tie
 
 returns : tie.Need-returns
-unfolding placesOf field
+unfolding checkedBy placesOf field
 returns c =
+    let new = c .before .before .before .before .before .before .before .new in
     rw (
       c .digit .ensures,
       c .before .over2 .ensures,
@@ -21,7 +23,7 @@ returns c =
       fixed (c .before .before .before .before .before .before .before .before .before .before .args .form) .number-width,
       over-over,
     )
-    (over-digit (c .before .before .before .before .before .before .before .new .result) _ (c .before .before .before .before .before .before .before .new .ensures .0) (c .before .before .before .before .before .before .before .new .ensures .1))
+    (over-digit (new .result) _ (new .ensures .0) (new .ensures .1))
 
 pub long-sum-spec : {M : Type 1} → statement M
 long-sum-spec =

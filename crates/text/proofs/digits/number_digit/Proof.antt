@@ -3,30 +3,26 @@ use borrow.Author.Needs.{needs}
 use Rattle.zone.proofs.Widths.{fixed}
 use Rattle.zone.specs.Form.{placesOf, field}
 use Rattle.text.specs.Number.{checkedBy}
-use Rattle.text.specs.Order.{numberDigit}
+use Rattle.text.specs.Order.{numberDigit, digitCheck}
 use Rattle.text.proofs.digits.number_digit.Statement.{statement}
 use Rattle.text.proofs.digits.number_digit.Tie as tie
 
-enum-told : tie.Need-enum-told
-enum-told c = search needs
-
 returns : tie.Need-returns
-unfolding numberDigit checkedBy placesOf field
+unfolding digitCheck numberDigit checkedBy placesOf field
 returns c =
-    simp (
-      c .digit-at .ensures,
-      c .before .part .ensures,
-      c .before .before .enum-told .given .1,
-      c .before .before .before .before .places .ensures,
-      fixed (c .before .before .before .before .before .before .args .form) .number-width,
+    rw (
+      c .field-digit .ensures,
+      c .before .enum-told .given .1,
+      c .before .before .before .places .ensures,
+      fixed (c .before .before .before .before .before .args .form) .number-width,
     )
 
 returns-2 : tie.Need-returns-2
-unfolding numberDigit
+unfolding digitCheck numberDigit
 returns-2 c = rw (c .enum-told2 .given .1)
 
 returns-3 : tie.Need-returns-3
-unfolding numberDigit
+unfolding digitCheck numberDigit
 returns-3 c = rw (c .enum-told3 .given .1)
 
 pub number-digit-spec : {M : Type 1} → statement M
@@ -34,8 +30,7 @@ number-digit-spec =
     tie.close
     (tie.spec
     (λ c κs. search needs)
-    enum-told
-    (λ c κs. search needs)
+    (λ c. search needs)
     (λ c κs. search needs)
     (λ c. search needs)
     (λ c. search needs)

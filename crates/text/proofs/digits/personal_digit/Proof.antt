@@ -2,23 +2,26 @@
 use borrow.Author.Needs.{needs}
 use borrow.Author.Tests.{lt-ltb, le-ltb}
 use Rattle.zone.specs.Form.{placesOf, field}
+use Rattle.text.specs.Order.{digitCheck}
+use Rattle.text.specs.Inner.{ifHas}
 use Rattle.text.proofs.digits.personal_digit.Statement.{statement}
 use Rattle.text.proofs.digits.personal_digit.Tie as tie
 
 returns : tie.Need-returns
-unfolding placesOf field
+unfolding ifHas digitCheck placesOf field
 returns c =
-    let has = rw (c .before .before .before .personal-width .ensures) at (lt-ltb _ _ (c .before .before .if1 .taken)) in
-    rw (c .digit-at .ensures, c .before .part .ensures, c .before .before .before .personal-width .ensures, c .before .before .before .before .places .ensures, has)
+    λ span.
+    let has = rw (c .before .before .personal-width .ensures) at (lt-ltb _ _ (c .before .if1 .taken)) in
+    rw (c .field-digit .ensures, c .before .before .personal-width .ensures, c .before .before .before .places .ensures, has)
 
 returns-2 : tie.Need-returns-2
-returns-2 c = rw (rw (c .before .personal-width .ensures) at (le-ltb _ _ (c .if1 .left)))
+unfolding ifHas
+returns-2 c = λ span. rw (rw (c .before .personal-width .ensures) at (le-ltb _ _ (c .if1 .left)))
 
 pub personal-digit-spec : {M : Type 1} → statement M
 personal-digit-spec =
     tie.close
     (tie.spec
-    (λ c κs. search needs)
     (λ c κs. search needs)
     (λ c κs. search needs)
     (λ c κs. search needs)

@@ -1,13 +1,14 @@
 -- The rule on the field, at the field's start.
 use borrow.Author.Needs.{needs}
 use Rattle.zone.proofs.Widths.{fixed}
+use Rattle.text.specs.Order.{fieldCheck}
 use Rattle.zone.specs.Form.{placesOf, field}
 use Rattle.text.proofs.fields.expiry_check.Statement.{statement}
 use Rattle.text.proofs.fields.expiry_check.Tie as tie
 
 returns : tie.Need-returns
-unfolding placesOf field
-returns c =
+unfolding fieldCheck placesOf field
+returns c = λ span.
     rw (
       c .judged .ensures,
       c .before .is-expiry .ensures,
@@ -18,7 +19,8 @@ returns c =
 
 pub expiry-check-spec : {M : Type 1} → statement M
 expiry-check-spec =
-    tie.close (tie.spec
+    tie.close
+    (tie.spec
     (λ c κs. search needs)
     (λ c κs. search needs)
     (λ c κs. search needs)

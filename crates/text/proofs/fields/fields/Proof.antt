@@ -15,11 +15,11 @@ returns c =
       c .before .or-else3 .ensures,
       c .before .before .or-else2 .ensures,
       c .before .before .before .or-else .ensures,
-      c .before .before .before .before .before .before .person-check .ensures,
-      c .before .before .before .before .before .before .before .nationality-check .ensures,
+      c .before .before .before .before .before .before .person-check .ensures (a .span),
+      c .before .before .before .before .before .before .before .nationality-check .ensures (a .span),
       c .before .before .before .before .before .before .before .before .number-check .ensures,
-      c .before .before .before .before .before .before .before .before .before .name-check .ensures,
-      c .before .before .before .before .before .before .before .before .before .before .opening-check .ensures,
+      c .before .before .before .before .before .before .before .before .before .name-check .ensures (a .span),
+      c .before .before .before .before .before .before .before .before .before .before .opening-check .ensures (a .span),
     )
     (name-first (a .form) (now (a .text)) (a .span) (rw (c .before .before .before .before .before .before .before .before .before .before .before .places .ensures) at (c .before .before .before .before .if1 .taken)))
 
@@ -32,11 +32,11 @@ returns-2 c =
       c .before .or-else7 .ensures,
       c .before .before .or-else6 .ensures,
       c .before .before .before .or-else5 .ensures,
-      c .before .before .before .before .before .before .person-check .ensures,
-      c .before .before .before .before .before .before .before .nationality-check .ensures,
+      c .before .before .before .before .before .before .person-check .ensures (a .span),
+      c .before .before .before .before .before .before .before .nationality-check .ensures (a .span),
       c .before .before .before .before .before .before .before .before .number-check .ensures,
-      c .before .before .before .before .before .before .before .before .before .name-check .ensures,
-      c .before .before .before .before .before .before .before .before .before .before .opening-check .ensures,
+      c .before .before .before .before .before .before .before .before .before .name-check .ensures (a .span),
+      c .before .before .before .before .before .before .before .before .before .before .opening-check .ensures (a .span),
     )
     (name-last (a .form) (now (a .text)) (a .span) (rw (c .before .before .before .before .before .before .before .before .before .before .before .places .ensures) at (c .before .before .before .before .if1 .left)))
 

@@ -1,12 +1,13 @@
 -- The rule on the field, at the field's start.
 use borrow.Author.Needs.{needs}
+use Rattle.text.specs.Order.{fieldCheck}
 use Rattle.zone.specs.Form.{placesOf, field}
 use Rattle.text.proofs.fields.name_check.Statement.{statement}
 use Rattle.text.proofs.fields.name_check.Tie as tie
 
 returns : tie.Need-returns
-unfolding placesOf field
-returns c =
+unfolding fieldCheck placesOf field
+returns c = λ span.
     rw (
       c .judged .ensures,
       c .before .is-name .ensures,

@@ -1,13 +1,14 @@
 -- The rule on the field, at the field's start.
 use borrow.Author.Needs.{needs}
 use Rattle.zone.proofs.Widths.{fixed}
+use Rattle.text.specs.Order.{fieldCheck}
 use Rattle.zone.specs.Form.{placesOf, field}
 use Rattle.text.specs.Number.{numberRule}
 use Rattle.text.proofs.fields.number_check.Statement.{statement}
 use Rattle.text.proofs.fields.number_check.Tie as tie
 
 returns : tie.Need-returns
-unfolding placesOf field numberRule
+unfolding fieldCheck placesOf field numberRule
 returns c =
     rw (
       c .judged .ensures,
@@ -19,7 +20,8 @@ returns c =
 
 pub number-check-spec : {M : Type 1} → statement M
 number-check-spec =
-    tie.close (tie.spec
+    tie.close
+    (tie.spec
     (λ c κs. search needs)
     (λ c κs. search needs)
     (λ c κs. search needs)

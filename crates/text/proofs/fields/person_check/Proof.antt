@@ -5,12 +5,12 @@ use Rattle.text.proofs.fields.person_check.Tie as tie
 
 returns : tie.Need-returns
 returns c =
-    rw (
+    λ span. rw (
       c .or-else2 .ensures,
-      c .before .birth-check .ensures,
+      c .before .birth-check .ensures span,
       c .before .before .or-else .ensures,
-      c .before .before .before .expiry-check .ensures,
-      c .before .before .before .before .sex-check .ensures,
+      c .before .before .before .expiry-check .ensures span,
+      c .before .before .before .before .sex-check .ensures span,
     )
 
 pub person-check-spec : {M : Type 1} → statement M

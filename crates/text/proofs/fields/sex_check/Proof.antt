@@ -1,12 +1,13 @@
 -- The rule on the field, at the field's start.
 use borrow.Author.Needs.{needs}
+use Rattle.text.specs.Order.{fieldCheck}
 use Rattle.zone.specs.Form.{placesOf}
 use Rattle.text.proofs.fields.sex_check.Statement.{statement}
 use Rattle.text.proofs.fields.sex_check.Tie as tie
 
 returns : tie.Need-returns
-unfolding placesOf
-returns c =
+unfolding fieldCheck placesOf
+returns c = λ span.
     rw (
       c .judged .ensures,
       c .before .is-sex .ensures,
@@ -16,7 +17,8 @@ returns c =
 
 pub sex-check-spec : {M : Type 1} → statement M
 sex-check-spec =
-    tie.close (tie.spec
+    tie.close
+    (tie.spec
     (λ c κs. search needs)
     (λ c κs. search needs)
     (λ c κs. search needs)

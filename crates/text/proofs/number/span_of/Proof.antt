@@ -1,6 +1,5 @@
 -- The tests of `isLong`, and the filler that is found.
 use borrow.Author.Needs.{needs}
-use borrow.Author.Tests.{lt-ltb, le-ltb, eq-eqb, ne-eqb}
 use Rattle.zone.specs.Alphabet.{isFiller}
 use Rattle.zone.specs.Form.{placesOf, field}
 use Rattle.text.specs.Number.{spanOf, isLong}
@@ -10,28 +9,21 @@ use Rattle.text.proofs.number.span_of.Tie as tie
 returns : tie.Need-returns
 unfolding spanOf isLong placesOf field isFiller
 returns c =
-    let long = rw (c .before .before .before .before .before .before .before .longest-number .ensures) at (lt-ltb _ _ (c .before .before .before .before .before .before .if1 .taken)) in
-    let filler = rw (c .before .before .before .before .before .octet .ensures, c .before .before .before .before .before .before .before .before .places .ensures) at (eq-eqb _ _ (c .before .before .before .before .if2 .taken)) in
+    let long = rw (c .before .before .before .before .before .octet .ensures, c .before .before .before .before .before .before .longest-number .ensures, c .before .before .before .before .before .before .before .places .ensures) at (c .before .before .before .before .if1 .taken) in
     rw (
       c .cut-at .ensures,
       c .before .first-filler .ensures,
       c .before .before .part .ensures,
       c .before .before .before .optional-width .ensures,
-      c .before .before .before .before .before .before .before .before .places .ensures,
+      c .before .before .before .before .before .before .before .places .ensures,
       long,
-      filler,
     )
 
 returns-2 : tie.Need-returns-2
-unfolding spanOf isLong placesOf field isFiller
+unfolding spanOf isLong placesOf isFiller
 returns-2 c =
-    let long = rw (c .before .before .before .longest-number .ensures) at (lt-ltb _ _ (c .before .before .if1 .taken)) in
-    let other = rw (c .before .octet .ensures, c .before .before .before .before .places .ensures) at (ne-eqb _ _ (c .if2 .left)) in
-    rw (long, other)
-
-returns-3 : tie.Need-returns-3
-unfolding spanOf isLong
-returns-3 c = rw (rw (c .before .longest-number .ensures) at (le-ltb _ _ (c .if1 .left)))
+    let short = rw (c .before .octet .ensures, c .before .before .longest-number .ensures, c .before .before .before .places .ensures) at (c .if1 .left) in
+    rw short
 
 pub span-of-spec : {M : Type 1} → statement M
 span-of-spec =
@@ -45,5 +37,4 @@ span-of-spec =
     (λ c κs. search needs)
     (λ c κs. search needs)
     returns
-    returns-2
-    returns-3)
+    returns-2)

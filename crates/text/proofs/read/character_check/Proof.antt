@@ -9,7 +9,4 @@ unfolding characters
 returns c = rw (c .judged .ensures, c .before .first-foreign .ensures)
 
 pub character-check-spec : {M : Type 1} → statement M
-character-check-spec = tie.close (tie.spec
-    (λ c κs. search needs)
-    (λ c κs. search needs)
-    returns)
+character-check-spec = tie.close (tie.spec (λ c κs. search needs) (λ c κs. search needs) returns)

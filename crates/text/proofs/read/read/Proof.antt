@@ -4,9 +4,6 @@ use Rattle.text.specs.Read.{readText, readBy}
 use Rattle.text.proofs.read.read.Statement.{statement}
 use Rattle.text.proofs.read.read.Tie as tie
 
-enum-told : tie.Need-enum-told
-enum-told c = search needs
-
 returns : tie.Need-returns
 unfolding readText
 returns c =
@@ -15,7 +12,12 @@ returns c =
 returns-2 : tie.Need-returns-2
 unfolding readText readBy
 returns-2 c =
-    rw (c .refuse .ensures, ← c .before .before .before .of-length .ensures, c .before .enum-told .given .1)
+    rw (
+      c .refuse .ensures,
+      c .before .at .ensures,
+      ← c .before .before .before .before .of-length .ensures,
+      c .before .before .enum-told .given .1,
+    )
 
 pub read-spec : {M : Type 1} → statement M
 read-spec =
@@ -24,7 +26,8 @@ read-spec =
     (λ c κs. search needs)
     (λ c. search needs)
     (λ c κs. search needs)
-    enum-told
+    (λ c. search needs)
+    (λ c κs. search needs)
     (λ c κs. search needs)
     returns
     returns-2)

@@ -4,9 +4,6 @@ use Rattle.text.specs.Read.{readBy, answered, answerOf}
 use Rattle.text.proofs.read.read_by.Statement.{statement}
 use Rattle.text.proofs.read.read_by.Tie as tie
 
-enum-told : tie.Need-enum-told
-enum-told c = search needs
-
 returns : tie.Need-returns
 unfolding readBy answered answerOf
 returns c =
@@ -33,7 +30,7 @@ read-by-spec =
     (tie.spec
     (λ c κs. search needs)
     (λ c κs. search needs)
-    enum-told
+    (λ c. search needs)
     (λ c κs. search needs)
     (λ c. search needs)
     (λ c κs. search needs)

@@ -9,6 +9,4 @@ unfolding answerOf answered
 returns c = rw (c .blank .ensures)
 
 pub refuse-spec : {M : Type 1} → statement M
-refuse-spec = tie.close (tie.spec
-    (λ c κs. search needs)
-    returns)
+refuse-spec = tie.close (tie.spec (λ c κs. search needs) returns)

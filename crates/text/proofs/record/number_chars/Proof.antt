@@ -10,9 +10,6 @@ use Rattle.text.specs.Number.{numberBy}
 use Rattle.text.proofs.record.number_chars.Statement.{statement}
 use Rattle.text.proofs.record.number_chars.Tie as tie
 
-enum-told : tie.Need-enum-told
-enum-told c = search needs
-
 returns : tie.Need-returns
 unfolding placesOf field numberBy
 returns c =
@@ -63,7 +60,7 @@ number-chars-spec =
     (λ c κs. search needs)
     (λ c κs. search needs)
     (λ c κs. search needs)
-    enum-told
+    (λ c. search needs)
     (λ c κs. search needs)
     (λ c κs. search needs)
     (λ c. search needs)

@@ -11,9 +11,6 @@ use Rattle.text.specs.Number.{numberBy}
 use Rattle.text.proofs.record.number_length.Statement.{statement}
 use Rattle.text.proofs.record.number_length.Tie as tie
 
-enum-told : tie.Need-enum-told
-enum-told c = search needs
-
 returns : tie.Need-returns
 unfolding placesOf field numberBy
 returns c =
@@ -60,7 +57,7 @@ number-length-spec =
     (tie.spec
     (λ c κs. search needs)
     (λ c κs. search needs)
-    enum-told
+    (λ c. search needs)
     (λ c κs. search needs)
     (λ c. search needs)
     (λ c κs. search needs)

@@ -10,7 +10,9 @@ returns c =
     (c .before .before .copy-at .ensures)
 
 pub put-three-spec : {M : Type 1} → statement M
-put-three-spec = tie.close (tie.spec
+put-three-spec =
+    tie.close
+    (tie.spec
     (λ c. search needs)
     (λ c κs. search needs)
     (λ c. search needs)

@@ -7,7 +7,9 @@ returns : tie.Need-returns
 returns c = rw (c .of .ensures, c .before .part .ensures)
 
 pub nine-digit-spec : {M : Type 1} → statement M
-nine-digit-spec = tie.close (tie.spec
+nine-digit-spec =
+    tie.close
+    (tie.spec
     (λ c. search needs)
     (λ c κs. search needs)
     (λ c κs. search needs)

@@ -8,7 +8,8 @@ returns c = rw (c .before .before .copy-at .ensures, c .before .before .before .
 
 pub put-nine-spec : {M : Type 1} → statement M
 put-nine-spec =
-    tie.close (tie.spec
+    tie.close
+    (tie.spec
     (λ c. search needs)
     (λ c κs. search needs)
     (λ c κs. search needs)

@@ -19,7 +19,8 @@ returns c =
 
 pub put-opening-spec : {M : Type 1} → statement M
 put-opening-spec =
-    tie.close (tie.spec
+    tie.close
+    (tie.spec
     (λ c κs. search needs)
     (λ c κs. search needs)
     (λ c κs. search needs)

@@ -3,16 +3,18 @@ use borrow.Author.Needs.{needs}
 use denote.Ref.{now}
 use lib.ListN.{take, drop}
 use Rattle.zone.proofs.Padded.{copied-padded}
-use Rattle.text.proofs.record.two_at.Statement.{statement}
-use Rattle.text.proofs.record.two_at.Tie as tie
+use Rattle.text.proofs.record.code_at.Statement.{statement}
+use Rattle.text.proofs.record.code_at.Tie as tie
 
 returns : tie.Need-returns
 returns c =
     let a = c .before .before .before .before .before .args in
     rw (c .before .copy .ensures, c .before .before .part .ensures) (copied-padded 2 (take 2 (drop (a .at) (now (a .text)))))
 
-pub two-at-spec : {M : Type 1} → statement M
-two-at-spec = tie.close (tie.spec
+pub code-at-spec : {M : Type 1} → statement M
+code-at-spec =
+    tie.close
+    (tie.spec
     (λ c. search needs)
     (λ c κs. search needs)
     (λ c κs. search needs)

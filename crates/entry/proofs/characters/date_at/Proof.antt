@@ -2,16 +2,13 @@
 use borrow.Author.Needs.{needs}
 use denote.Ref.{now}
 use Rattle.entry.proofs.Fields.{characters-fill}
-use Rattle.entry.proofs.characters.six_at.Statement.{statement}
-use Rattle.entry.proofs.characters.six_at.Tie as tie
+use Rattle.entry.proofs.characters.date_at.Statement.{statement}
+use Rattle.entry.proofs.characters.date_at.Tie as tie
 
 returns : tie.Need-returns
 returns c =
     let a = c .before .before .before .before .args in
     rw (c .before .unpack .ensures) (characters-fill (now (a .s)) (a .at) 6)
 
-pub six-at-spec : {M : Type 1} → statement M
-six-at-spec = tie.close (tie.spec
-    (λ c. search needs)
-    (λ c κs. search needs)
-    returns)
+pub date-at-spec : {M : Type 1} → statement M
+date-at-spec = tie.close (tie.spec (λ c. search needs) (λ c κs. search needs) returns)

@@ -2,16 +2,13 @@
 use borrow.Author.Needs.{needs}
 use denote.Ref.{now}
 use Rattle.entry.proofs.Fields.{characters-fill}
-use Rattle.entry.proofs.characters.two_at.Statement.{statement}
-use Rattle.entry.proofs.characters.two_at.Tie as tie
+use Rattle.entry.proofs.characters.code_at.Statement.{statement}
+use Rattle.entry.proofs.characters.code_at.Tie as tie
 
 returns : tie.Need-returns
 returns c =
     let a = c .before .before .before .before .args in
     rw (c .before .unpack .ensures) (characters-fill (now (a .s)) (a .at) 2)
 
-pub two-at-spec : {M : Type 1} → statement M
-two-at-spec = tie.close (tie.spec
-    (λ c. search needs)
-    (λ c κs. search needs)
-    returns)
+pub code-at-spec : {M : Type 1} → statement M
+code-at-spec = tie.close (tie.spec (λ c. search needs) (λ c κs. search needs) returns)
