@@ -13,7 +13,7 @@ use Rattle.zone.specs.declared.form.Recognised.{Recognised}
 use Rattle.zone.specs.declared.form.Recognised.the-variants.{As, Unknown}
 use Rattle.zone.specs.Record.{blank}
 use Rattle.entry.specs.Entry.{entryOf, size}
-use Rattle.entry.specs.Run.{Answer, Onward, next, none, refused, houseIn, formIn, nameLength, recordIn, isEntry, entryBy, noEntry, readEntry}
+use Rattle.entry.specs.Run.{Standing, Onward, next, none, refused, houseIn, formIn, nameLength, recordIn, isEntry, entryBy, noEntry, readEntry}
 use Rattle.demands.specs.Runs.{areOctets, Line, isKept, lineAt, NoEntry}
 use Rattle.demands.proofs.Decoded.{entry-there}
 use Rattle.demands.proofs.Joined.{kept-both}
@@ -76,7 +76,7 @@ module _ (w : List ℕ) (at : ℕ) where
   no-entry h k p e l rest kept there =
       let both = kept-both l kept in
       let read = entry-there (l .house) (l .kept) (both .0) (both .1) w at rest h there in
-      next-not-refused (at + length (entryOf (l .house) (l .kept))) k p (sym (ap (λ (a : Answer). a .onward) read) ∙ e)
+      next-not-refused (at + length (entryOf (l .house) (l .kept))) k p (sym (ap (λ (a : Standing). a .onward) read) ∙ e)
 
   -- the reading goes on exactly where the entry of a kept house and record stands, and there with what follows it
   pub goes-on-exactly : areOctets w → at ≤ length w → (n : ℕ)
@@ -89,5 +89,5 @@ module _ (w : List ℕ) (at : ℕ) where
         (lineAt w at, both-and (p .house-kept) (p .record-kept), passed-there w at n (readEntry w at .house) (readEntry w at .kept) p, p .next-offset),
     λ x.
         let both = kept-both (x .0) (x .1) in
-        ap (λ (a : Answer). a .onward) (entry-there (x .0 .house) (x .0 .kept) (both .0) (both .1) w at (drop n w) h (x .2)) ∙ ap next (sym (x .3)),
+        ap (λ (a : Standing). a .onward) (entry-there (x .0 .house) (x .0 .kept) (both .0) (both .1) w at (drop n w) h (x .2)) ∙ ap next (sym (x .3)),
   )

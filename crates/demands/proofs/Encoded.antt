@@ -23,7 +23,7 @@ use Rattle.entry.proofs.Shifts.{bits-below}
 use Rattle.entry.specs.Bits.{put, octets, bitsAt}
 use Rattle.entry.specs.Codes.{formCode, sexCode, sexBy}
 use Rattle.entry.specs.Entry.{puts, putKey, putRest, entryOf, size, isHouse}
-use Rattle.entry.specs.Run.{Answer, next, none, refused, charactersAt, houseIn, formIn, nameLength, recordIn, spare, isWhole, isEntry, entryBy, noEntry, readEntry}
+use Rattle.entry.specs.Run.{Standing, next, none, refused, charactersAt, houseIn, formIn, nameLength, recordIn, spare, isWhole, isEntry, entryBy, noEntry, readEntry}
 use Rattle.demands.specs.Runs.{isOctet, areOctets, Passed}
 use Rattle.demands.proofs.Endings.{every-take, every-drop, every-each}
 use Rattle.demands.proofs.Places.{bitsOf, length-bits, bits-append}
@@ -179,7 +179,7 @@ module _ (w : List ℕ) (at n : ℕ) (small : areOctets w) (there : at ≤ lengt
   passed-by Unknown p e = absurd (refused-not-next 18 at n e)
   passed-by (As f) p e = go (isEntry f (drop at w)) refl e
     where
-      answer : Bool → Answer
+      answer : Bool → Standing
       answer x = cond x (record { onward = next (at + size (nameLength (drop at w))); house = houseIn (drop at w); kept = recordIn f (drop at w) }) (noEntry at)
 
       go : (x : Bool) → isEntry f (drop at w) ≡ x → answer x .onward ≡ next n → Passed w at n (answer x .house) (answer x .kept)
@@ -195,7 +195,7 @@ pub passed-over : (w : List ℕ) (at n : ℕ) → areOctets w → readEntry w at
 unfolding readEntry noEntry
 passed-over w at n small e = go (eqb at (length w)) (ltb (length w) at) refl e
   where
-    answer : Bool → Bool → Answer
+    answer : Bool → Bool → Standing
     answer a b = cond a (record { onward = none; house = 0; kept = blank }) (cond b (noEntry at) (entryBy (formIn (drop at w)) (drop at w) at))
 
     go : (a b : Bool) → ltb (length w) at ≡ b → answer a b .onward ≡ next n → Passed w at n (answer a b .house) (answer a b .kept)

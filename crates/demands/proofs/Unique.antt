@@ -23,7 +23,7 @@ use Rattle.entry.specs.Entry.{Writes}
 use Rattle.entry.specs.Run as run
 use Rattle.entry.specs.declared.run.Step.{Step}
 use Rattle.entry.specs.declared.run.Step.the-variants.{Next, End, Refused as Stopped}
-use Rattle.entry.specs.declared.run.Found.{Found}
+use Rattle.entry.specs.declared.run.Standing.{Standing}
 
 -- the cause of a number
 causes : List Cause
@@ -131,11 +131,11 @@ step-tells End (Stopped s) e = absurd (let z : _≡_ {A = ℕ} 1 2 = ap kindOf e
 step-tells (Stopped r) (Next m) e = absurd (let z : _≡_ {A = ℕ} 2 0 = ap kindOf e in omega arith)
 step-tells (Stopped r) End e = absurd (let z : _≡_ {A = ℕ} 2 1 = ap kindOf e in omega arith)
 
-pub only-next : (w : List ℕ) (at : ℕ) (r s : Found) → run.answerOf r ≡ run.readEntry w at → run.answerOf s ≡ run.readEntry w at → r ≡ s
-unfolding run.answerOf
+pub only-next : (w : List ℕ) (at : ℕ) (r s : Standing) → run.standingOf r ≡ run.readEntry w at → run.standingOf s ≡ run.readEntry w at → r ≡ s
+unfolding run.standingOf
 only-next w at r s p q =
     let e = p ∙ sym q in
-    let a : r .step ≡ s .step = step-tells (r .step) (s .step) (ap (λ (x : run.Answer). x .onward) e) in
-    let b : r .house ≡ s .house = ap (λ (x : run.Answer). x .house) e in
-    let c : r .kept ≡ s .kept = ap (λ (x : run.Answer). x .kept) e in
+    let a : r .step ≡ s .step = step-tells (r .step) (s .step) (ap (λ (x : run.Standing). x .onward) e) in
+    let b : r .house ≡ s .house = ap (λ (x : run.Standing). x .house) e in
+    let c : r .kept ≡ s .kept = ap (λ (x : run.Standing). x .kept) e in
     λ i. record { step = a i; house = b i; kept = c i }

@@ -13,7 +13,7 @@ use Rattle.entry.specs.Bits.{put, gathered}
 use Rattle.zone.specs.Codes.{codeOf}
 use Rattle.entry.specs.Entry.{puts}
 use Rattle.entry.specs.declared.pen.Pen.{Pen}
-use Rattle.entry.specs.Ink.{Ready, Reached, within, past, Wrote}
+use Rattle.entry.specs.Inner.Ink.{Ready, Reached, within, past, Wrote}
 use Rattle.entry.proofs.Gather.{gathered-within, gathered-over, puts-more}
 
 -- ---- stores

@@ -9,6 +9,7 @@ use Rattle.zone.specs.declared.form.Form.{Form}
 use Rattle.zone.specs.declared.form.Recognised.{Recognised}
 use Rattle.zone.specs.declared.form.Recognised.the-variants.{As, Unknown}
 use Rattle.zone.specs.declared.record.Record.{Record}
+use Rattle.zone.specs.Rooms.{nameRoom}
 use Rattle.zone.specs.Record.{blank, trimmedLength, padded}
 use Rattle.sound.specs.Sound.{isSound}
 use Rattle.entry.specs.Parts as part
@@ -19,7 +20,7 @@ use Rattle.zone.specs.Codes.{characterOf}
 use Rattle.entry.specs.Entry.{size, isHouse}
 use Rattle.entry.specs.declared.run.Step.{Step}
 use Rattle.entry.specs.declared.run.Step.the-variants.{Next, End, Refused}
-use Rattle.entry.specs.declared.run.Found.{Found}
+use Rattle.entry.specs.declared.run.Standing as code
 
 -- where a run goes on: at the next offset, at its end, or not at all
 pub data Onward : Type 0 where
@@ -33,14 +34,14 @@ onwardOf (Next offset) = next offset
 onwardOf End = none
 onwardOf (Refused r) = refused (numberOf (r .cause)) (r .place)
 
--- an answer in the paper's terms
-pub record Answer : Type 0 where
+-- what stands at an offset, in the paper's terms
+pub record Standing : Type 0 where
   pub onward : Onward
   pub house : ℕ
   pub kept : Record
 
-unfoldable pub answerOf : Found → Answer
-answerOf r = record { onward = onwardOf (r .step); house = r .house; kept = r .kept }
+unfoldable pub standingOf : code.Standing → Standing
+standingOf r = record { onward = onwardOf (r .step); house = r .house; kept = r .kept }
 
 -- n characters of 6 bits each, from the k-th bit on
 unfoldable pub charactersAt : List ℕ → (k n : ℕ) → List ℕ
@@ -75,7 +76,7 @@ recordIn f s = record {
   birth = charactersIn s part.birth;
   sex = sexBy (bitsIn s part.sex);
   expiry = charactersIn s part.expiry;
-  name = padded 39 (charactersAt s (start part.name) (nameLength s));
+  name = padded nameRoom (charactersAt s (start part.name) (nameLength s));
   «name_len» = nameLength s;
 }
 
@@ -91,16 +92,16 @@ unfoldable pub isEntry : Form → List ℕ → Bool
 isEntry f s = isHouse (houseIn s) && (isWhole s && isSound (recordIn f s))
 
 -- 18, at the start of that entry: the blank record, house 0
-unfoldable pub noEntry : ℕ → Answer
+unfoldable pub noEntry : ℕ → Standing
 noEntry at = record { onward = refused 18 at; house = 0; kept = blank }
 
-unfoldable pub entryBy : Recognised → List ℕ → ℕ → Answer
+unfoldable pub entryBy : Recognised → List ℕ → ℕ → Standing
 entryBy (As f) s at =
     cond (isEntry f s) (record { onward = next (at + size (nameLength s)); house = houseIn s; kept = recordIn f s }) (noEntry at)
 entryBy Unknown s at = noEntry at
 
 -- at the end the answer is that none is left; an offset past the end is 18 at that offset
-unfoldable pub readEntry : List ℕ → ℕ → Answer
+unfoldable pub readEntry : List ℕ → ℕ → Standing
 readEntry w at =
     cond (eqb at (length w)) (record { onward = none; house = 0; kept = blank })
     (cond (ltb (length w) at) (noEntry at) (entryBy (formIn (drop at w)) (drop at w) at))

@@ -6,7 +6,7 @@ ghost use lib.Seq.{sets};
 ghost use mathlib.Core.List.{[]};
 ghost use Rattle.entry.specs.Bits.{put, gathered};
 ghost use Rattle.entry.specs.Entry.{puts};
-ghost use Rattle.entry.specs.Ink.{Ready, Reached, Wrote};
+ghost use Rattle.entry.specs.Inner.Ink.{Ready, Reached, Wrote};
 use zone::codes::code_of;
 
 // So many bits of an octet, the number that they say, and the place where that octet goes.

@@ -25,7 +25,7 @@ pub enum Step {
 }
 
 // What stands at an offset. House and record are 0 and the blank one but where the run goes on.
-pub struct Found {
+pub struct Standing {
     pub step: Step,
     pub house: u32,
     pub kept: Record,
@@ -105,10 +105,10 @@ fn record_in(form: Form, s: &[u8]) -> Record
 }
 
 // 18 at the start of what is no entry.
-fn no_entry(at: usize) -> Found
-    ensures { λ r. ⌜ R.answerOf r ≡ R.noEntry at ⌝ }
+fn no_entry(at: usize) -> Standing
+    ensures { λ r. ⌜ R.standingOf r ≡ R.noEntry at ⌝ }
 {
-    Found {
+    Standing {
         step: Step::Refused(Refusal::at(Cause::Entry, at)),
         house: 0,
         kept: Record::blank(),
@@ -116,14 +116,14 @@ fn no_entry(at: usize) -> Found
 }
 
 // What has a house and is whole is an entry where the record is sound.
-fn sound_entry(form: Form, s: &[u8], at: usize, house: u32, n: usize) -> Found
+fn sound_entry(form: Form, s: &[u8], at: usize, house: u32, n: usize) -> Standing
     requires { ⌜ (n < 64) × (n ≡ R.nameLength (now s)) × (at + length (now s) < 2 ^ 63) ⌝ }
     requires { ⌜ (house ≡ R.houseIn (now s)) × (E.isHouse house && R.isWhole (now s) ≡ true) ⌝ }
-    ensures { λ r. ⌜ R.answerOf r ≡ R.entryBy (As form) (now (s .entry)) at ⌝ }
+    ensures { λ r. ⌜ R.standingOf r ≡ R.entryBy (As form) (now (s .entry)) at ⌝ }
 {
     let kept = record_in(form, s);
     if sound::is_sound(kept) {
-        Found {
+        Standing {
             step: Step::Next(at + size(n)),
             house,
             kept,
@@ -134,9 +134,9 @@ fn sound_entry(form: Form, s: &[u8], at: usize, house: u32, n: usize) -> Found
 }
 
 // The tests that cost little go before the record.
-fn entry_as(form: Form, s: &[u8], at: usize) -> Found
+fn entry_as(form: Form, s: &[u8], at: usize) -> Standing
     requires { ⌜ at + length (now s) < 2 ^ 63 ⌝ }
-    ensures { λ r. ⌜ R.answerOf r ≡ R.entryBy (As form) (now (s .entry)) at ⌝ }
+    ensures { λ r. ⌜ R.standingOf r ≡ R.entryBy (As form) (now (s .entry)) at ⌝ }
 {
     let house = bits(s, places::HOUSE, places::HOUSE_BITS);
     let n = name_length(s);
@@ -147,9 +147,9 @@ fn entry_as(form: Form, s: &[u8], at: usize) -> Found
     }
 }
 
-fn entry_at(s: &[u8], at: usize) -> Found
+fn entry_at(s: &[u8], at: usize) -> Standing
     requires { ⌜ at + length (now s) < 2 ^ 63 ⌝ }
-    ensures { λ r. ⌜ R.answerOf r ≡ R.entryBy (R.formIn (now (s .entry))) (now (s .entry)) at ⌝ }
+    ensures { λ r. ⌜ R.standingOf r ≡ R.entryBy (R.formIn (now (s .entry))) (now (s .entry)) at ⌝ }
 {
     let told = characters::form_by(bits(s, places::FORM, places::FORM_BITS));
     match told {
@@ -159,11 +159,11 @@ fn entry_at(s: &[u8], at: usize) -> Found
 }
 
 // What stands at an offset of a run: an entry and where the next one stands, none at the run's end, or a refusal.
-pub fn next(run: &[u8], at: usize) -> Found
-    ensures { λ r. ⌜ R.answerOf r ≡ R.readEntry (now (run .entry)) at ⌝ }
+pub fn next(run: &[u8], at: usize) -> Standing
+    ensures { λ r. ⌜ R.standingOf r ≡ R.readEntry (now (run .entry)) at ⌝ }
 {
     if at == run.len() {
-        return Found {
+        return Standing {
             step: Step::End,
             house: 0,
             kept: Record::blank(),

@@ -8,7 +8,7 @@ ghost use Rattle.entry.specs.Parts.{width};
 ghost use Rattle.entry.specs.Bits.{put};
 ghost use Rattle.entry.specs.Codes.{formCode};
 ghost use Rattle.entry.specs.Entry.{putKey, putRest, entryOf, Writes};
-ghost use Rattle.entry.specs.Ink.{Ready, Wrote};
+ghost use Rattle.entry.specs.Inner.Ink.{Ready, Wrote};
 use crate::codes;
 use crate::pen;
 use crate::pen::Pen;

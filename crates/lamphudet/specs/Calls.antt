@@ -12,8 +12,8 @@ use Rattle.writing.specs.Answer.{textAnswer, textOut}
 use Rattle.entry.specs.Entry.{entryAnswer, entryOut}
 use Rattle.entry.specs.Run as run
 use Rattle.tlv.specs.declared.Stretch as tlv
-use Rattle.lamphudet.specs.declared.Answer.{Answer}
-use Rattle.lamphudet.specs.declared.Stretch.{Stretch}
+use Rattle.lamphudet.specs.declared.AnswerInC.{AnswerInC}
+use Rattle.lamphudet.specs.declared.StretchInC.{StretchInC}
 
 -- a call that reads is given a house too and tests 17, then 16, after all the reader's refusals
 unfoldable pub enteredAnswer : outcome.Outcome → ℕ → Record → List ℕ → Length
@@ -45,11 +45,11 @@ unfoldable pub writtenOut : List ℕ → List ℕ → List ℕ
 writtenOut e out = cond (isOnly (run.readEntry e 0 .onward) (length e)) (textOut (run.readEntry e 0 .kept) out) out
 
 -- a run's call answers with the next offset alone; at the end with 0 and 0
-unfoldable pub nextInC : run.Onward → Answer
+unfoldable pub nextInC : run.Onward → AnswerInC
 nextInC (run.next offset) = record { number = 0; value = offset }
 nextInC run.none = record { number = 0; value = 0 }
 nextInC (run.refused number place) = record { number = number; value = place }
 
 -- in C the file of a group is a start and a length
-unfoldable pub stretchInC : tlv.Stretch → Stretch
+unfoldable pub stretchInC : tlv.Stretch → StretchInC
 stretchInC v = record { start = v .from; length = v .to - v .from }

@@ -10,33 +10,33 @@ use crate::border::in_c;
 use crate::border::next_in_c;
 use crate::border::stretch_in_c;
 
+mod as_entry;
 mod border;
-mod kept;
 
 // What C receives: number 0 and how many octets were written or where a run goes on, or the refusal's number and its place.
 #[repr(C)]
-pub struct Answer {
+pub struct AnswerInC {
     pub number: u32,
     pub value: u64,
 }
 
 // A part of what was lent: empty where both are 0.
 #[repr(C)]
-pub struct Stretch {
+pub struct StretchInC {
     pub start: u64,
     pub length: u64,
 }
 
 // A text is read, and its record entered under a house.
 #[no_mangle]
-pub extern "C" fn lamphudet_read_text(house: u32, text: &[u8], entry: &mut [u8]) -> Answer
+pub extern "C" fn lamphudet_read_text(house: u32, text: &[u8], entry: &mut [u8]) -> AnswerInC
     ensures { λ r. ⌜ r ≡ inC (readAnswer house (readText (now (text .entry))) (now (entry .entry))) ⌝ }
     ensures { λ _. ⌜ now (entry .exit) ≡ readOut house (readText (now (text .entry))) (now (entry .entry)) ⌝ }
 {
     let reading = text::read::read(text);
     let verdict = reading.verdict;
     let record = reading.kept;
-    in_c(kept::enter(verdict, record, house, entry))
+    in_c(as_entry::enter(verdict, record, house, entry))
 }
 
 // A presentation is read, and its record entered under a house.
@@ -45,28 +45,28 @@ pub extern "C" fn lamphudet_read_presentation(
     house: u32,
     presentation: &[u8],
     entry: &mut [u8],
-) -> Answer
+) -> AnswerInC
     ensures { λ r. ⌜ r ≡ inC (readAnswer house (readPresentation (now (presentation .entry))) (now (entry .entry))) ⌝ }
     ensures { λ _. ⌜ now (entry .exit) ≡ readOut house (readPresentation (now (presentation .entry))) (now (entry .entry)) ⌝ }
 {
     let reading = chip::presentation::read(presentation);
     let verdict = reading.verdict;
     let record = reading.kept;
-    in_c(kept::enter(verdict, record, house, entry))
+    in_c(as_entry::enter(verdict, record, house, entry))
 }
 
 // The record of exactly one entry is written as a text.
 #[no_mangle]
-pub extern "C" fn lamphudet_write_text(entry: &[u8], text: &mut [u8]) -> Answer
+pub extern "C" fn lamphudet_write_text(entry: &[u8], text: &mut [u8]) -> AnswerInC
     ensures { λ r. ⌜ r ≡ inC (writtenAnswer (now (entry .entry)) (now (text .entry))) ⌝ }
     ensures { λ _. ⌜ now (text .exit) ≡ writtenOut (now (entry .entry)) (now (text .entry)) ⌝ }
 {
-    in_c(kept::write_only(entry, text))
+    in_c(as_entry::write_only(entry, text))
 }
 
 // Where a run of entries goes on.
 #[no_mangle]
-pub extern "C" fn lamphudet_next_entry(run: &[u8], offset: u64) -> Answer
+pub extern "C" fn lamphudet_next_entry(run: &[u8], offset: u64) -> AnswerInC
     ensures { λ r. ⌜ r ≡ nextInC (readEntry (now (run .entry)) offset .onward) ⌝ }
 {
     let found = entry::run::next(run, offset as usize);
@@ -76,7 +76,7 @@ pub extern "C" fn lamphudet_next_entry(run: &[u8], offset: u64) -> Answer
 
 // The SHA-256 digest of the input, into the first 32 octets of the output.
 #[no_mangle]
-pub extern "C" fn lamphudet_digest(input: &[u8], digest: &mut [u8]) -> Answer
+pub extern "C" fn lamphudet_digest(input: &[u8], digest: &mut [u8]) -> AnswerInC
     ensures { λ r. ⌜ r ≡ inC (digestAnswer (now (input .entry)) (now (digest .entry))) ⌝ }
     ensures { λ _. ⌜ now (digest .exit) ≡ digestOut (now (input .entry)) (now (digest .entry)) ⌝ }
 {
@@ -85,7 +85,7 @@ pub extern "C" fn lamphudet_digest(input: &[u8], digest: &mut [u8]) -> Answer
 
 // Where the file of a group stands in a presentation.
 #[no_mangle]
-pub extern "C" fn lamphudet_group_file(presentation: &[u8], group: u32) -> Stretch
+pub extern "C" fn lamphudet_group_file(presentation: &[u8], group: u32) -> StretchInC
     ensures { λ r. ⌜ r ≡ stretchInC (groupStretch (now (presentation .entry)) group) ⌝ }
 {
     stretch_in_c(chip::group::group_stretch(presentation, group))

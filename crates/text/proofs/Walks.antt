@@ -10,7 +10,7 @@ use Rattle.zone.specs.declared.form.Form.the-variants.{Td1, Td2, Td3}
 use Rattle.zone.specs.Part.{Part, code, state, number, numberCheck, birth, birthCheck, sex, expiry, expiryCheck, nationality, composite, name, personal, personalCheck, optional, rank, same}
 use Rattle.zone.specs.Form.{layout, partOf, parts, start, startIn, width, widthIn}
 use Rattle.text.specs.Order.{fieldCheck, digitCheck, inOrder}
-use Rattle.text.specs.Inner.{ifHas}
+use Rattle.text.specs.Inner.Checks.{ifHas}
 use Rattle.text.specs.declared.number.Span.{Span}
 
 -- what the code joins in every form: code and state, birth, sex and expiry

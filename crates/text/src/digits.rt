@@ -10,7 +10,7 @@ ghost use Rattle.zone.specs.Part.{number, numberCheck, optional, birthCheck, ex
 ghost use Rattle.digit.specs.Check.{digitOf};
 ghost use Rattle.text.specs.Order.{digitAt, digitCheck, inOrder};
 ghost use Rattle.text.specs.Number.{checkedBy};
-ghost use Rattle.text.specs.Inner.{ifHas};
+ghost use Rattle.text.specs.Inner.Checks.{ifHas};
 ghost use Rattle.text.specs.declared.number.Span.{Span};
 ghost use Rattle.text.specs.declared.number.Span.the-variants.{Long};
 use crate::number::Span;

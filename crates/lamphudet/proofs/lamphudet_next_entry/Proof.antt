@@ -1,14 +1,14 @@
 -- The run reader's own promise, told in numbers.
 use borrow.Author.Needs.{needs}
 use mathlib.Core.Path.{ap, _∙_}
-use Rattle.entry.specs.Run.{Answer, answerOf}
+use Rattle.entry.specs.Run.{Standing, standingOf}
 use Rattle.lamphudet.specs.Calls.{nextInC}
 use Rattle.lamphudet.proofs.lamphudet_next_entry.Statement.{statement}
 use Rattle.lamphudet.proofs.lamphudet_next_entry.Tie as tie
 
 returns : tie.Need-returns
-unfolding answerOf
-returns c = c .next-in-c .ensures ∙ ap (λ (a : Answer). nextInC (a .onward)) (c .before .next .ensures)
+unfolding standingOf
+returns c = c .next-in-c .ensures ∙ ap (λ (a : Standing). nextInC (a .onward)) (c .before .next .ensures)
 
 pub lamphudet-next-entry-spec : {M : Type 1} → statement M
 lamphudet-next-entry-spec =

@@ -6,7 +6,7 @@ use denote.Ref.{now}
 use lib.ListN.{length, take}
 use lib.Seq.{take-all}
 use Rattle.entry.specs.Entry.{puts}
-use Rattle.entry.specs.Ink.{Wrote}
+use Rattle.entry.specs.Inner.Ink.{Wrote}
 use Rattle.entry.proofs.Ink.{push-none, push-more}
 use Rattle.entry.proofs.pen.push_all.Statement.{statement}
 use Rattle.entry.proofs.pen.push_all.Tie as tie

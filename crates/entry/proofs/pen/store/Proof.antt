@@ -4,7 +4,7 @@ use native.Mathlib.Omega.{arith}
 use mathlib.Core.Path.{sym, refl}
 use denote.Ref.{now}
 use lib.Seq.{set-out}
-use Rattle.entry.specs.Ink.{within, past}
+use Rattle.entry.specs.Inner.Ink.{within, past}
 use Rattle.entry.proofs.pen.store.Statement.{statement}
 use Rattle.entry.proofs.pen.store.Tie as tie
 

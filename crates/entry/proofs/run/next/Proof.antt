@@ -2,13 +2,13 @@
 use borrow.Author.Needs.{needs}
 use borrow.Author.Tests.{eq-eqb, ne-eqb, lt-ltb, le-ltb}
 use denote.Ref.{now}
-use Rattle.entry.specs.Run.{answerOf, readEntry}
+use Rattle.entry.specs.Run.{standingOf, readEntry}
 use Rattle.entry.proofs.Fields.{rest-of-run}
 use Rattle.entry.proofs.run.next.Statement.{statement}
 use Rattle.entry.proofs.run.next.Tie as tie
 
 returns : tie.Need-returns
-unfolding answerOf readEntry
+unfolding standingOf readEntry
 returns c = rw (c .blank .ensures, eq-eqb _ _ (c .before .if1 .taken))
 
 returns-2 : tie.Need-returns-2

@@ -1,11 +1,11 @@
 -- The refusal, and the blank record beside it.
 use borrow.Author.Needs.{needs}
-use Rattle.entry.specs.Run.{answerOf, noEntry}
+use Rattle.entry.specs.Run.{standingOf, noEntry}
 use Rattle.entry.proofs.run.no_entry.Statement.{statement}
 use Rattle.entry.proofs.run.no_entry.Tie as tie
 
 returns : tie.Need-returns
-unfolding answerOf noEntry
+unfolding standingOf noEntry
 returns c = rw (c .blank .ensures, c .before .at .ensures)
 
 pub no-entry-spec : {M : Type 1} → statement M

@@ -5,7 +5,7 @@ use mathlib.Core.Bool.{and-assoc}
 use denote.Ref.{now}
 use Rattle.lent.proofs.Bools.{and-both}
 use Rattle.entry.specs.Entry.{isHouse}
-use Rattle.entry.specs.Run.{answerOf, isWhole, isEntry, entryBy}
+use Rattle.entry.specs.Run.{standingOf, isWhole, isEntry, entryBy}
 use Rattle.entry.proofs.Fields.{whole-reaches}
 use Rattle.entry.proofs.run.sound_entry.Statement.{statement}
 use Rattle.entry.proofs.run.sound_entry.Tie as tie
@@ -16,7 +16,7 @@ record-in-requires c κs =
     whole-reaches (now (a .s)) (and-both (isHouse (a .house)) (isWhole (now (a .s))) (c .before .pre .1 .1) .1)
 
 returns : tie.Need-returns
-unfolding answerOf isEntry entryBy
+unfolding standingOf isEntry entryBy
 returns c =
     let known = c .before .before .before .before .before .pre in
     let kept = rw (known .1 .0) at (known .1 .1) in

@@ -2,7 +2,7 @@
 use borrow.Author.Needs.{needs}
 use borrow.Author.Tests.{lt-ltb, le-ltb}
 use Rattle.text.specs.Order.{furtherDigit, digitCheck}
-use Rattle.text.specs.Inner.{ifHas}
+use Rattle.text.specs.Inner.Checks.{ifHas}
 use Rattle.text.proofs.digits.further_digit.Statement.{statement}
 use Rattle.text.proofs.digits.further_digit.Tie as tie
 

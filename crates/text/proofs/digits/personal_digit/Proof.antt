@@ -3,7 +3,7 @@ use borrow.Author.Needs.{needs}
 use borrow.Author.Tests.{lt-ltb, le-ltb}
 use Rattle.zone.specs.Form.{placesOf, field}
 use Rattle.text.specs.Order.{digitCheck}
-use Rattle.text.specs.Inner.{ifHas}
+use Rattle.text.specs.Inner.Checks.{ifHas}
 use Rattle.text.proofs.digits.personal_digit.Statement.{statement}
 use Rattle.text.proofs.digits.personal_digit.Tie as tie
 

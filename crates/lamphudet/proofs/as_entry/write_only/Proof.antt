@@ -1,13 +1,13 @@
 -- The run reader says whether the range is one entry.
 use borrow.Author.Needs.{needs}
 use mathlib.Core.Path.{sym, _∙_}
-use Rattle.entry.specs.Run.{answerOf}
+use Rattle.entry.specs.Run.{standingOf}
 use Rattle.lamphudet.specs.Calls.{writtenAnswer, writtenOut}
-use Rattle.lamphudet.proofs.kept.write_only.Statement.{statement}
-use Rattle.lamphudet.proofs.kept.write_only.Tie as tie
+use Rattle.lamphudet.proofs.as_entry.write_only.Statement.{statement}
+use Rattle.lamphudet.proofs.as_entry.write_only.Tie as tie
 
 returns : tie.Need-returns
-unfolding answerOf writtenAnswer writtenOut
+unfolding standingOf writtenAnswer writtenOut
 returns c =
     let found = c .before .before .before .before .before .before .before .next .ensures in
     let only = sym (c .before .before .before .before .before .is-only .ensures) ∙ c .before .before .before .before .if1 .taken in
@@ -15,7 +15,7 @@ returns c =
     (rw (← found, only) (w .answer), rw (← found, only) (w .output))
 
 returns-2 : tie.Need-returns-2
-unfolding answerOf writtenAnswer writtenOut
+unfolding standingOf writtenAnswer writtenOut
 returns-2 c =
     let found = c .before .before .before .next .ensures in
     let only = sym (c .before .is-only .ensures) ∙ c .if1 .left in

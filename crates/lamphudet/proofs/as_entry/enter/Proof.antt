@@ -1,8 +1,8 @@
 -- What passed is entered; a refusal is handed on.
 use borrow.Author.Needs.{needs}
 use Rattle.lamphudet.specs.Calls.{enteredAnswer, enteredOut}
-use Rattle.lamphudet.proofs.kept.enter.Statement.{statement}
-use Rattle.lamphudet.proofs.kept.enter.Tie as tie
+use Rattle.lamphudet.proofs.as_entry.enter.Statement.{statement}
+use Rattle.lamphudet.proofs.as_entry.enter.Tie as tie
 
 returns : tie.Need-returns
 unfolding enteredAnswer enteredOut

@@ -1,8 +1,8 @@
 -- The three cases of `isOnly`.
 use borrow.Author.Needs.{needs}
 use Rattle.lamphudet.specs.Calls.{isOnly}
-use Rattle.lamphudet.proofs.kept.is_only.Statement.{statement}
-use Rattle.lamphudet.proofs.kept.is_only.Tie as tie
+use Rattle.lamphudet.proofs.as_entry.is_only.Statement.{statement}
+use Rattle.lamphudet.proofs.as_entry.is_only.Tie as tie
 
 returns : tie.Need-returns
 unfolding isOnly

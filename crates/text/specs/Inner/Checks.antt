@@ -1,0 +1,12 @@
+-- No words of the paper: how the code's promises are joined.
+use Prim.Native.Nat.{ℕ}
+use mathlib.Core.Bool.{cond}
+use lib.Dec.{ltb}
+use Rattle.refusal.specs.Outcome.{Outcome, passed}
+use Rattle.zone.specs.Part.{Part}
+use Rattle.zone.specs.Form.{width}
+use Rattle.zone.specs.declared.form.Form.{Form}
+
+-- a check of a part, in forms that have it
+unfoldable pub ifHas : Form → Part → Outcome → Outcome
+ifHas f x o = cond (ltb 0 (width f x)) o passed
