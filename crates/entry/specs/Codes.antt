@@ -1,7 +1,9 @@
 -- The codes of a form and of a sex: document 01, "The entry".
 use Prim.Native.Nat.{ℕ}
+use Prim.Native.Char.{code}
 use mathlib.Core.Bool.{cond}
 use lib.Dec.{eqb}
+use Rattle.zone.specs.Alphabet.{filler}
 use Rattle.zone.specs.declared.form.Form.{Form}
 use Rattle.zone.specs.declared.form.Form.the-variants.{Td1, Td2, Td3}
 use Rattle.zone.specs.declared.form.Recognised.{Recognised}
@@ -18,8 +20,8 @@ formBy n = cond (eqb n 0) (As Td1) (cond (eqb n 1) (As Td2) (cond (eqb n 2) (As 
 
 -- `<` 0, F 1, M 2
 unfoldable pub sexCode : ℕ → ℕ
-sexCode c = cond (eqb c 70) 1 (cond (eqb c 77) 2 0)
+sexCode c = cond (eqb c (code "F")) 1 (cond (eqb c (code "M")) 2 0)
 
 -- the sex of a code; 0, which is none, for 3
 unfoldable pub sexBy : ℕ → ℕ
-sexBy n = cond (eqb n 0) 60 (cond (eqb n 1) 70 (cond (eqb n 2) 77 0))
+sexBy n = cond (eqb n 0) filler (cond (eqb n 1) (code "F") (cond (eqb n 2) (code "M") 0))

@@ -4,6 +4,7 @@ ghost use Prim.Native.Nat.{_+_, _*_, _<_, _≤_};
 ghost use lib.ListN.{length};
 ghost use Rattle.lent.specs.Copied.{copied};
 ghost use Rattle.zone.specs.Record.{padded};
+ghost use Rattle.zone.specs.Rooms.{codeRoom, stateRoom, dateRoom, numberRoom, nameRoom};
 ghost use Rattle.entry.specs.Codes.{formBy, sexBy};
 ghost use Rattle.entry.specs.Run.{charactersAt};
 use crate::bits::six;
@@ -29,8 +30,8 @@ pub(crate) fn sex_by(code: u32) -> u8
 {
     match code {
         0 => FILLER,
-        1 => 70,
-        2 => 77,
+        1 => b'F',
+        2 => b'M',
         _ => 0,
     }
 }
@@ -51,36 +52,36 @@ fn unpack(to: &mut [u8], s: &[u8], at: usize, n: usize)
     }
 }
 
-pub(crate) fn code_at(s: &[u8], at: usize) -> [u8; 2]
-    requires { ⌜ (3 ≤ at) × (at + 12 ≤ 8 * length (now s)) × (at < 1024) ⌝ }
-    ensures { λ r. ⌜ r ≡ charactersAt (now (s .entry)) at 2 ⌝ }
+pub(crate) fn code_at(s: &[u8], at: usize) -> [u8; Form::CODE]
+    requires { ⌜ (3 ≤ at) × (at + 6 * codeRoom ≤ 8 * length (now s)) × (at < 1024) ⌝ }
+    ensures { λ r. ⌜ r ≡ charactersAt (now (s .entry)) at codeRoom ⌝ }
 {
-    let mut room = [FILLER; 2];
-    unpack(&mut room, s, at, 2);
+    let mut room = [FILLER; Form::CODE];
+    unpack(&mut room, s, at, Form::CODE);
     room
 }
 
-pub(crate) fn state_at(s: &[u8], at: usize) -> [u8; 3]
-    requires { ⌜ (3 ≤ at) × (at + 18 ≤ 8 * length (now s)) × (at < 1024) ⌝ }
-    ensures { λ r. ⌜ r ≡ charactersAt (now (s .entry)) at 3 ⌝ }
+pub(crate) fn state_at(s: &[u8], at: usize) -> [u8; Form::STATE]
+    requires { ⌜ (3 ≤ at) × (at + 6 * stateRoom ≤ 8 * length (now s)) × (at < 1024) ⌝ }
+    ensures { λ r. ⌜ r ≡ charactersAt (now (s .entry)) at stateRoom ⌝ }
 {
-    let mut room = [FILLER; 3];
-    unpack(&mut room, s, at, 3);
+    let mut room = [FILLER; Form::STATE];
+    unpack(&mut room, s, at, Form::STATE);
     room
 }
 
-pub(crate) fn date_at(s: &[u8], at: usize) -> [u8; 6]
-    requires { ⌜ (3 ≤ at) × (at + 36 ≤ 8 * length (now s)) × (at < 1024) ⌝ }
-    ensures { λ r. ⌜ r ≡ charactersAt (now (s .entry)) at 6 ⌝ }
+pub(crate) fn date_at(s: &[u8], at: usize) -> [u8; Form::DATE]
+    requires { ⌜ (3 ≤ at) × (at + 6 * dateRoom ≤ 8 * length (now s)) × (at < 1024) ⌝ }
+    ensures { λ r. ⌜ r ≡ charactersAt (now (s .entry)) at dateRoom ⌝ }
 {
-    let mut room = [FILLER; 6];
-    unpack(&mut room, s, at, 6);
+    let mut room = [FILLER; Form::DATE];
+    unpack(&mut room, s, at, Form::DATE);
     room
 }
 
 pub(crate) fn number_at(s: &[u8], at: usize) -> [u8; Form::NUMBER]
-    requires { ⌜ (3 ≤ at) × (at + 132 ≤ 8 * length (now s)) × (at < 1024) ⌝ }
-    ensures { λ r. ⌜ r ≡ charactersAt (now (s .entry)) at 22 ⌝ }
+    requires { ⌜ (3 ≤ at) × (at + 6 * numberRoom ≤ 8 * length (now s)) × (at < 1024) ⌝ }
+    ensures { λ r. ⌜ r ≡ charactersAt (now (s .entry)) at numberRoom ⌝ }
 {
     let mut room = [FILLER; Form::NUMBER];
     unpack(&mut room, s, at, Form::NUMBER);
@@ -90,7 +91,7 @@ pub(crate) fn number_at(s: &[u8], at: usize) -> [u8; Form::NUMBER]
 // A name longer than any form allows is cut to the room that there is.
 pub(crate) fn name_at(s: &[u8], at: usize, n: usize) -> [u8; Form::NAME]
     requires { ⌜ (3 ≤ at) × (at + 6 * n ≤ 8 * length (now s)) × (at < 1024) × (n < 64) ⌝ }
-    ensures { λ r. ⌜ r ≡ padded 39 (charactersAt (now (s .entry)) at n) ⌝ }
+    ensures { λ r. ⌜ r ≡ padded nameRoom (charactersAt (now (s .entry)) at n) ⌝ }
 {
     let mut room = [FILLER; Form::NAME];
     unpack(&mut room, s, at, n);

@@ -19,8 +19,8 @@ pub(crate) fn sex_code(c: u8) -> u8
     ensures { λ r. ⌜ (r ≡ sexCode c) × (r < 4) ⌝ }
 {
     match c {
-        70 => 1,
-        77 => 2,
+        b'F' => 1,
+        b'M' => 2,
         _ => 0,
     }
 }

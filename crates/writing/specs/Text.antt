@@ -1,11 +1,14 @@
 -- The text of a record: document 01, "The text". Fillers everywhere, and then each part in its place.
 use Prim.Native.Nat.{ℕ, _+_}
+use Prim.Native.Char as char
 use mathlib.Core.Bool.{Bool, cond}
 use mathlib.Core.List.{List}
 use lib.Dec.{ltb}
 use lib.ListN.{length, take, drop, set, replicate}
 use Rattle.lent.specs.Copied.{copiedAt}
 use Rattle.zone.specs.Part.{Part, code, state, number, numberCheck, optional, birth, birthCheck, sex, expiry, expiryCheck, nationality, composite, name, personalCheck}
+use Rattle.zone.specs.Alphabet.{filler}
+use Rattle.zone.specs.Rooms.{dateRoom, nine, further}
 use Rattle.zone.specs.Form.{start, width, total, covered}
 use Rattle.zone.specs.declared.record.Record.{Record}
 use Rattle.digit.specs.Check.{digitOf}
@@ -25,39 +28,47 @@ putOpening r t = put r state (r .state) (put r code (r .code) t)
 unfoldable pub numberIn : Record → List ℕ
 numberIn r = take (r .«number_len») (r .number)
 
+abbrev pub furtherOf : List ℕ → List ℕ
+furtherOf s = take further (drop nine s)
+
 unfoldable pub furtherIn : Record → List ℕ
-furtherIn r = take 13 (drop 9 (numberIn r))
+furtherIn r = furtherOf (numberIn r)
 
 -- over nine characters
 unfoldable pub isWide : Record → Bool
-isWide r = ltb 9 (r .«number_len»)
+isWide r = ltb nine (r .«number_len»)
 
 -- a number of up to nine characters, and its check digit
 unfoldable pub putShort : Record → List ℕ → List ℕ
-putShort r t = mark r numberCheck (digitOf (take 9 (r .number))) (put r number (r .number) t)
+putShort r t = mark r numberCheck (digitOf (take nine (r .number))) (put r number (r .number) t)
 
 -- a long number as nine characters, `<` at the check place, the further characters, its check digit
 unfoldable pub putLong : Record → List ℕ → List ℕ
 putLong r t =
-    set (put r optional (furtherIn r) (mark r numberCheck 60 (put r number (r .number) t))) (start (r .form) optional + length (furtherIn r))
-    (digitOf (numberIn r))
+    set (put r optional (furtherIn r) (mark r numberCheck filler (put r number (r .number) t)))
+    (start (r .form) optional + length (furtherIn r)) (digitOf (numberIn r))
 
 unfoldable pub putNumber : Record → List ℕ → List ℕ
 putNumber r t = cond (isWide r) (putLong r t) (putShort r t)
 
+-- a date, and its check digit
+abbrev pub putDate : Record → (date check : Part) → List ℕ → List ℕ → List ℕ
+putDate r date check s t = mark r check (digitOf (take dateRoom s)) (put r date s t)
+
 unfoldable pub putDates : Record → List ℕ → List ℕ
-putDates r t =
-    mark r expiryCheck (digitOf (take 6 (r .expiry))) (put r expiry (r .expiry) (mark r birthCheck (digitOf (take 6 (r .birth))) (put r birth (r .birth) t)))
+putDates r t = putDate r expiry expiryCheck (r .expiry) (putDate r birth birthCheck (r .birth) t)
 
 unfoldable pub putPerson : Record → List ℕ → List ℕ
 putPerson r t = put r name (r .name) (mark r sex (r .sex) (put r nationality (r .nationality) t))
 
 -- 0 as TD3's personal check, and the composite digit over everything that it covers
 unfoldable pub putLast : Record → List ℕ → List ℕ
-putLast r t = mark r composite (digitOf (covered (r .form) (mark r personalCheck 48 t))) (mark r personalCheck 48 t)
+putLast r t =
+    let told = mark r personalCheck (char.code "0") t in
+    mark r composite (digitOf (covered (r .form) told)) told
 
 unfoldable pub putAll : Record → List ℕ → List ℕ
-putAll r t = putLast r (putPerson r (putDates r (putNumber r (putOpening r (replicate (length t) 60)))))
+putAll r t = putLast r (putPerson r (putDates r (putNumber r (putOpening r (replicate (length t) filler)))))
 
 unfoldable pub textOf : Record → List ℕ
-textOf r = putAll r (replicate (total (r .form)) 60)
+textOf r = putAll r (replicate (total (r .form)) filler)

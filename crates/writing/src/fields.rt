@@ -1,25 +1,26 @@
-// The fields of a record, each put where the text has it. One array is lent to a function, for its length.
+// The fields of a record, each put where the text has it: code, state or nationality, dates, name.
 ghost use mathlib.Core.Path.{_≡_};
 ghost use lib.ListN.{set, take};
 ghost use Rattle.lent.specs.Copied.{copiedAt};
+ghost use Rattle.zone.specs.Rooms.{codeRoom, stateRoom, dateRoom};
 ghost use Rattle.digit.specs.Check.{digitOf};
 use zone::form::Form;
 
-pub fn put_two(text: &mut [u8], at: usize, s: [u8; 2])
-    ensures { λ _. ⌜ now (text .exit) ≡ copiedAt (now (text .entry)) at (take 2 s) ⌝ }
+pub fn put_code(text: &mut [u8], at: usize, s: [u8; Form::CODE])
+    ensures { λ _. ⌜ now (text .exit) ≡ copiedAt (now (text .entry)) at (take codeRoom s) ⌝ }
 {
     lent::copy_at(text, at, &s);
 }
 
-pub fn put_three(text: &mut [u8], at: usize, s: [u8; 3])
-    ensures { λ _. ⌜ now (text .exit) ≡ copiedAt (now (text .entry)) at (take 3 s) ⌝ }
+pub fn put_state(text: &mut [u8], at: usize, s: [u8; Form::STATE])
+    ensures { λ _. ⌜ now (text .exit) ≡ copiedAt (now (text .entry)) at (take stateRoom s) ⌝ }
 {
     lent::copy_at(text, at, &s);
 }
 
 // A date and its check digit.
-pub fn put_date(text: &mut [u8], at: usize, check: usize, s: [u8; 6])
-    ensures { λ _. ⌜ now (text .exit) ≡ set (copiedAt (now (text .entry)) at (take 6 s)) check (digitOf (take 6 s)) ⌝ }
+pub fn put_date(text: &mut [u8], at: usize, check: usize, s: [u8; Form::DATE])
+    ensures { λ _. ⌜ now (text .exit) ≡ set (copiedAt (now (text .entry)) at (take dateRoom s)) check (digitOf (take dateRoom s)) ⌝ }
 {
     lent::copy_at(text, at, &s);
     let d = digit::of(&s);

@@ -1,34 +1,36 @@
 // The document number in a text, short or long.
 ghost use mathlib.Core.Path.{_≡_};
 ghost use mathlib.Core.List.{List};
-ghost use Prim.Native.Nat.{_+_, _≤_};
-ghost use lib.ListN.{length, set, take, drop};
+ghost use Prim.Native.Nat.{_+_, _<_};
+ghost use lib.ListN.{length, set, take};
 ghost use Rattle.lent.specs.Copied.{copiedAt};
+ghost use Rattle.zone.specs.Rooms.{nine};
 ghost use Rattle.digit.specs.Check.{digitOf};
-ghost use Rattle.writing.specs.Text.{putShort, putLong, putNumber};
+ghost use Rattle.writing.specs.Text.{furtherOf, putShort, putLong, putNumber};
 use zone::alphabet::FILLER;
 use zone::form::Form;
 use zone::record::Record;
 
 fn put_nine(text: &mut [u8], at: usize, s: [u8; Form::NUMBER])
-    ensures { λ _. ⌜ now (text .exit) ≡ copiedAt (now (text .entry)) at (take 9 s) ⌝ }
+    ensures { λ _. ⌜ now (text .exit) ≡ copiedAt (now (text .entry)) at (take nine s) ⌝ }
 {
-    lent::copy_at(text, at, lent::part(&s, 0, 9));
+    lent::copy_at(text, at, lent::part(&s, 0, Form::NINE));
 }
 
 fn nine_digit(s: [u8; Form::NUMBER]) -> u8
-    ensures { λ r. ⌜ r ≡ digitOf (take 9 s) ⌝ }
+    ensures { λ r. ⌜ r ≡ digitOf (take nine s) ⌝ }
 {
-    digit::of(lent::part(&s, 0, 9))
+    digit::of(lent::part(&s, 0, Form::NINE))
 }
 
 // The characters from the tenth on, and behind them the check digit of the whole number.
 fn put_further(text: &mut [u8], at: usize, wide: usize, s: [u8; Form::NUMBER], n: usize)
-    requires { ⌜ at ≤ 90 ⌝ }
-    ensures { λ _. ⌜ now (text .exit) ≡ set (copiedAt (now (text .entry)) at (take wide (take 13 (drop 9 (take n s))))) (at + length (take 13 (drop 9 (take n s)))) (digitOf (take n s)) ⌝ }
+    requires { ⌜ at < 256 ⌝ }
+    ensures { λ _. ⌜ now (text .exit) ≡ set (copiedAt (now (text .entry)) at (take wide (furtherOf (take n s))))
+        (at + length (furtherOf (take n s))) (digitOf (take n s)) ⌝ }
 {
     let whole = lent::part(&s, 0, n);
-    let further = lent::part(whole, 9, 13);
+    let further = lent::part(whole, Form::NINE, Form::FURTHER);
     lent::copy_at(text, at, lent::part(further, 0, wide));
     let d = digit::of(whole);
     lent::put(text, at + further.len(), d);
@@ -66,7 +68,7 @@ fn put_long(text: &mut [u8], r: Record)
 pub fn put_number(text: &mut [u8], r: Record)
     ensures { λ _. ⌜ now (text .exit) ≡ putNumber r (now (text .entry)) ⌝ }
 {
-    if 9 < r.number_len {
+    if Form::NINE < r.number_len {
         put_long(text, r);
     } else {
         put_short(text, r);

@@ -1,10 +1,10 @@
 // The parts of a text around its number, in the places of the record's form.
 ghost use mathlib.Core.Path.{_≡_};
 ghost use Rattle.writing.specs.Text.{putOpening, putDates, putPerson, putLast};
+use crate::fields::put_code;
 use crate::fields::put_date;
 use crate::fields::put_name;
-use crate::fields::put_three;
-use crate::fields::put_two;
+use crate::fields::put_state;
 use digit::composite::covered_digit;
 use zone::record::Record;
 
@@ -16,8 +16,8 @@ pub fn put_opening(text: &mut [u8], r: Record)
     let at = form.places();
     let code = r.code;
     let state = r.state;
-    put_two(text, at.code, code);
-    put_three(text, at.state, state);
+    put_code(text, at.code, code);
+    put_state(text, at.state, state);
 }
 
 // Birth and expiry, each with its check digit.
@@ -40,7 +40,7 @@ pub fn put_person(text: &mut [u8], r: Record)
     let at = form.places();
     let nationality = r.nationality;
     let name = r.name;
-    put_three(text, at.nationality, nationality);
+    put_state(text, at.nationality, nationality);
     lent::put(text, at.sex, r.sex);
     put_name(text, at.name, form.name_width(), name);
 }
@@ -51,7 +51,7 @@ pub fn put_last(text: &mut [u8], r: Record)
 {
     let form = r.form;
     let at = form.places();
-    lent::put(text, at.personal_check, 48);
+    lent::put(text, at.personal_check, b'0');
     let d = covered_digit(form, text);
     lent::put(text, at.composite, d);
 }

@@ -1,16 +1,16 @@
 -- The array is as long as its place.
 use borrow.Author.Needs.{needs}
 use lib.Seq.{take-all}
-use Rattle.writing.proofs.fields.put_two.Statement.{statement}
-use Rattle.writing.proofs.fields.put_two.Tie as tie
+use Rattle.writing.proofs.fields.put_code.Statement.{statement}
+use Rattle.writing.proofs.fields.put_code.Tie as tie
 
 returns : tie.Need-returns
 returns c =
     rw (take-all 2 (c .before .before .before .before .before .before .args .t3) (search needs))
     (c .before .before .copy-at .ensures)
 
-pub put-two-spec : {M : Type 1} → statement M
-put-two-spec =
+pub put-code-spec : {M : Type 1} → statement M
+put-code-spec =
     tie.close
     (tie.spec
     (λ c. search needs)

@@ -10,8 +10,8 @@ returns : tie.Need-returns
 unfolding putOpening put placesOf
 returns c =
     rw (
-      c .before .before .put-three .ensures,
-      c .before .before .before .before .before .before .put-two .ensures,
+      c .before .before .put-state .ensures,
+      c .before .before .before .before .before .before .put-code .ensures,
       c .before .before .before .before .before .before .before .before .before .before .places .ensures,
       fixed (c .before .before .before .before .before .before .before .before .before .before .before .before .args .r .form) .state-width,
       fixed (c .before .before .before .before .before .before .before .before .before .before .before .before .args .r .form) .code-width,

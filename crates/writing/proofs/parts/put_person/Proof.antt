@@ -13,7 +13,7 @@ returns c =
       c .before .before .put-name .ensures,
       c .before .before .before .name-width .ensures,
       c .before .before .before .before .before .before .before .put .ensures,
-      c .before .before .before .before .before .before .before .before .before .before .before .put-three .ensures,
+      c .before .before .before .before .before .before .before .before .before .before .before .put-state .ensures,
       c .before .before .before .before .before .before .before .before .before .before .before .before .before .before .before .places .ensures,
       fixed (c .before .before .before .before .before .before .before .before .before .before .before .before .before .before .before .before .before .args .r .form) .nationality-width,
     )
