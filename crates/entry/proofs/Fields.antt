@@ -2,15 +2,13 @@
 use Prim.Native.Nat.{ℕ, zero, suc, _+_, _-_, _*_, _<_, _≤_}
 use mathlib.Core.Path.{_≡_, refl, ap, _∙_}
 use mathlib.Core.Bool.{true}
-use mathlib.Core.List.{List, [], _∷_, _++_}
+use mathlib.Core.List.{List, _++_}
 use mathlib.Core.Logic.{_⊎_}
-use native.Mathlib.Nat.{zero-add}
 use native.Mathlib.Numerals.{unary-clauses}
 use native.Mathlib.Omega.{arith}
 use borrow.Author.Tests.{leb-true}
 use lib.Dec.{leb, eqb}
-use lib.ListN.{length, take, drop, getD, set, replicate, length-drop}
-use lib.Seq.{take-all}
+use lib.ListN.{length, take, drop, getD, set, replicate}
 use Rattle.lent.specs.Copied.{copied}
 use Rattle.lent.proofs.Bools.{and-both}
 use Rattle.lent.proofs.Lists.{copy-more, copy-ends}
@@ -53,14 +51,11 @@ unpack-ends to s k n i ht hn e =
 pub characters-fill : (s : List ℕ) (k n : ℕ) → copied (replicate n 60) (charactersAt s k n) ≡ charactersAt s k n
 characters-fill s k n = copied-padded n (charactersAt s k n) ∙ padded-exact n (charactersAt s k n) (length-characters s k n)
 
--- what is left of a run from an offset on
-pub rest-of-run : (w : List ℕ) (at : ℕ) → take (length w - at) (drop at w) ≡ drop at w
-rest-of-run w at = take-all (length w - at) (drop at w) (rw length-drop (omega arith))
-
 -- an entry that is whole has all the bits of its name
 pub whole-reaches : (s : List ℕ) → isWhole s ≡ true → allBits (nameLength s) ≤ 8 * length s
 unfolding isWhole size
 whole-reaches s e =
     let n = nameLength s in
-    let h : size n ≤ length s = leb-true (size n) (length s) (and-both (leb (size n) (length s)) (eqb (bitsAt s (allBits n) (spare n)) 0) e .0) in
+    let h : size n ≤ length s = leb-true (size n) (length s)
+    (and-both (leb (size n) (length s)) (eqb (bitsAt s (allBits n) (spare n)) 0) e .0) in
     omega arith

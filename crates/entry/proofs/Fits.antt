@@ -26,7 +26,8 @@ name-width Td3 = omega arith
 
 held-most : (most : ℕ) (s : List ℕ) (n : ℕ) → isHeld most s n ≡ true → n ≤ most
 unfolding isHeld
-held-most most s n e = leb-true n most (and-both (leb n most) (eqb (trimmedLength s) n) (and-both (leb 1 n) (leb n most && eqb (trimmedLength s) n) e .1) .0)
+held-most most s n e = leb-true n most
+    (and-both (leb n most) (eqb (trimmedLength s) n) (and-both (leb 1 n) (leb n most && eqb (trimmedLength s) n) e .1) .0)
 
 -- of a test that joins six
 fifth : (a b c d e f : Bool) → a && (b && (c && (d && (e && f)))) ≡ true → e ≡ true

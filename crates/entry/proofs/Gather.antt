@@ -29,7 +29,8 @@ pub put-above : (w a v : ℕ) (t : List ℕ) → put w (a * 2 ^ w + v) t ≡ put
 unfolding put
 put-above zero a v t = refl
 put-above (suc w) a v t =
-    let e : a * 2 ^ suc w ≡ a * 2 * 2 ^ w = ap (λ (x : ℕ). a * x) (pow-suc 2 w ∙ mul-comm (2 ^ w) 2) ∙ sym (mul-assoc a 2 (2 ^ w)) in
+    let e : a * 2 ^ suc w ≡ a * 2 * 2 ^ w = ap (λ (x : ℕ). a * x) (pow-suc 2 w ∙ mul-comm (2 ^ w) 2)
+    ∙ sym (mul-assoc a 2 (2 ^ w)) in
     let b : (a * 2 * 2 ^ w + v) / 2 ^ w % 2 ≡ v / 2 ^ w % 2 =
     ap (λ (x : ℕ). x % 2) (mul-add-div-right (pow-pos w) (a * 2) v) ∙ mul-add-mod-self-right a 2 (v / 2 ^ w) in
     rw e (ap₂ _∷_ b (put-above w (a * 2) v t))
@@ -47,7 +48,8 @@ puts-append [] b t = refl
 puts-append (c ∷ a) b t = ap (put 6 (codeOf c)) (puts-append a b t)
 
 -- one more character
-pub puts-more : (s : List ℕ) (i : ℕ) → i < length s → (t : List ℕ) → puts (take i s) (put 6 (codeOf (getD s i 0)) t) ≡ puts (take (i + 1) s) t
+pub puts-more : (s : List ℕ) (i : ℕ) → i < length s → (t : List ℕ)
+    → puts (take i s) (put 6 (codeOf (getD s i 0)) t) ≡ puts (take (i + 1) s) t
 unfolding puts
 puts-more s i h t = rw (add-one, take-suc s i 0 h, puts-append (take i s) (getD s i 0 ∷ []) t)
 
@@ -65,7 +67,8 @@ gathered-last n v b t h = rw (eq-eqb n 7 h)
 bit-more : (w v x : ℕ) → (v * 2 + x / 2 ^ w % 2) * 2 ^ w + x % 2 ^ w ≡ v * 2 ^ suc w + x % 2 ^ suc w
 bit-more w v x =
     let m : x % 2 ^ suc w ≡ x / 2 ^ w % 2 * 2 ^ w + x % 2 ^ w = rw one-add at (mod-pow-add x 1 w) in
-    let e : v * 2 ^ suc w ≡ v * 2 * 2 ^ w = ap (λ (y : ℕ). v * y) (pow-suc 2 w ∙ mul-comm (2 ^ w) 2) ∙ sym (mul-assoc v 2 (2 ^ w)) in
+    let e : v * 2 ^ suc w ≡ v * 2 * 2 ^ w = ap (λ (y : ℕ). v * y) (pow-suc 2 w ∙ mul-comm (2 ^ w) 2)
+    ∙ sym (mul-assoc v 2 (2 ^ w)) in
     rw (m, e, add-mul (v * 2) (x / 2 ^ w % 2) (2 ^ w)) (omega arith)
 
 -- bits that do not fill the octet under way
@@ -83,10 +86,12 @@ gathered-few (suc w) n v x t h =
     ∙ ap₂ (λ (k y : ℕ). gathered k y t) e (bit-more w v x)
 
 -- bits that just fill it
-gathered-eight : (w n v x : ℕ) (t : List ℕ) → n < 8 → n + w ≡ 8 → gathered n v (put w x t) ≡ (v * 2 ^ w + x % 2 ^ w) ∷ gathered 0 0 t
+gathered-eight : (w n v x : ℕ) (t : List ℕ) → n < 8 → n + w ≡ 8
+    → gathered n v (put w x t) ≡ (v * 2 ^ w + x % 2 ^ w) ∷ gathered 0 0 t
 unfolding put
 gathered-eight zero n v x t l h = absurd (omega arith)
-gathered-eight (suc zero) n v x t l h = gathered-last n v (x / 2 ^ 0 % 2) t (omega arith) ∙ ap (λ (y : ℕ). y ∷ gathered 0 0 t) (omega arith)
+gathered-eight (suc zero) n v x t l h = gathered-last n v (x / 2 ^ 0 % 2) t (omega arith)
+    ∙ ap (λ (y : ℕ). y ∷ gathered 0 0 t) (omega arith)
 gathered-eight (suc (suc w)) n v x t l h =
     let b = x / 2 ^ suc w % 2 in
     gathered-bit n v b (put (suc w) x t) (omega arith)
@@ -103,7 +108,8 @@ over : (n v j k x : ℕ) (t : List ℕ) → n < 8 → n + j ≡ 8 → k < 8 → 
     → gathered n v (put (j + k) x t)
     ≡ ((v * 2 ^ (j + k) + x) / 2 ^ k) ∷ gathered k ((v * 2 ^ (j + k) + x) % 2 ^ k) t
 over n v j k x t l e s h =
-    let p : v * 2 ^ (j + k) + x ≡ v * 2 ^ j * 2 ^ k + x = ap (λ (y : ℕ). y + x) (ap (λ (y : ℕ). v * y) (pow-add 2 j k) ∙ sym (mul-assoc v (2 ^ j) (2 ^ k))) in
+    let p : v * 2 ^ (j + k) + x ≡ v * 2 ^ j * 2 ^ k + x =
+    ap (λ (y : ℕ). y + x) (ap (λ (y : ℕ). v * y) (pow-add 2 j k) ∙ sym (mul-assoc v (2 ^ j) (2 ^ k))) in
     let i : v * 2 ^ j + x / 2 ^ k % 2 ^ j ≡ v * 2 ^ j + x / 2 ^ k = ap (λ (y : ℕ). v * 2 ^ j + y) (shr-mod j k h) in
     let z : 0 * 2 ^ k + x % 2 ^ k ≡ x % 2 ^ k = omega arith in
     let f : gathered 0 0 (put k x t) ≡ gathered k (x % 2 ^ k) t = rw (zero-add k, z) at (gathered-few k 0 0 x t (omega arith)) in

@@ -24,10 +24,12 @@ sets-out l i (x ∷ v) h = rw (set-out l i x h) (sets-out l (suc i) v (omega ari
 
 sets-append : (l : List ℕ) (i : ℕ) (u v : List ℕ) → sets (sets l i u) (i + length u) v ≡ sets l i (u ++ v)
 sets-append l i [] v = let e : i + 0 ≡ i = omega arith in rw e
-sets-append l i (x ∷ u) v = let e : i + suc (length u) ≡ suc i + length u = omega arith in rw e (sets-append (set l i x) (suc i) u v)
+sets-append l i (x ∷ u) v = let e : i + suc (length u) ≡ suc i + length u = omega arith in
+    rw e (sets-append (set l i x) (suc i) u v)
 
 -- octets stored behind others, from the place that was reached
-pub sets-joined : (l : List ℕ) (i j : ℕ) (u v : List ℕ) → Reached (length l) (i + length u) j → sets (sets l i u) j v ≡ sets l i (u ++ v)
+pub sets-joined : (l : List ℕ) (i j : ℕ) (u v : List ℕ) → Reached (length l) (i + length u) j
+    → sets (sets l i u) j v ≡ sets l i (u ++ v)
 sets-joined l i j u v (within e) = rw e (sets-append l i u v)
 sets-joined l i j u v (past h k) =
     let n : length (sets l i u) ≡ length l = length-sets l i u in
@@ -44,7 +46,8 @@ reached-joined n i j k a b (past g h) (past g′ h′) = past (omega arith) h′
 pub wrote-length : {a b : List ℕ} {p q : Pen} {f : List ℕ → List ℕ} → Wrote a b p q f → length b ≡ length a
 wrote-length {a} {p = p} x = ap length (x .output) ∙ length-sets a (p .place) (x .octets)
 
-pub wrote-then : {a b c : List ℕ} {p q r : Pen} {f g : List ℕ → List ℕ} → Wrote a b p q f → Wrote b c q r g → Wrote a c p r (λ t. f (g t))
+pub wrote-then : {a b c : List ℕ} {p q r : Pen} {f g : List ℕ → List ℕ} → Wrote a b p q f → Wrote b c q r g
+    → Wrote a c p r (λ t. f (g t))
 wrote-then {a} {b} {c} {p} {q} {r} {f} {g} x y =
     let u = x .octets in
     let v = y .octets in
@@ -53,9 +56,12 @@ wrote-then {a} {b} {c} {p} {q} {r} {f} {g} x y =
     record {
       ready = y .ready;
       octets = u ++ v;
-      place = rw l (reached-joined (length a) (p .place) (q .place) (r .place) (length u) (length v) (x .place) (rw n at (y .place)));
-      output = y .output ∙ ap (λ (s : List ℕ). sets s (q .place) v) (x .output) ∙ sets-joined a (p .place) (q .place) u v (x .place);
-      gathers = λ t. x .gathers (g t) ∙ ap (λ (s : List ℕ). u ++ s) (y .gathers t) ∙ sym (append-assoc u v (gathered (r .count) (r .held) t));
+      place = rw l (reached-joined (length a) (p .place) (q .place) (r .place) (length u) (length v) (x .place)
+          (rw n at (y .place)));
+      output = y .output ∙ ap (λ (s : List ℕ). sets s (q .place) v) (x .output)
+          ∙ sets-joined a (p .place) (q .place) u v (x .place);
+      gathers = λ t. x .gathers (g t) ∙ ap (λ (s : List ℕ). u ++ s) (y .gathers t)
+          ∙ sym (append-assoc u v (gathered (r .count) (r .held) t));
     }
 
 -- the same bits, otherwise said
@@ -97,7 +103,8 @@ pushed-word p w x h m l = lt-of-lt-of-le (pushed-below (p .count) (p .held) w x 
     few k = omega arith
 
 -- and what is over is less than an octet more
-pub pushed-over : (p : Pen) (w x : ℕ) → Ready p → x < 2 ^ w → 8 ≤ p .count + w → p .held * 2 ^ w + x < 2 ^ (8 + (p .count + w - 8))
+pub pushed-over : (p : Pen) (w x : ℕ) → Ready p → x < 2 ^ w → 8 ≤ p .count + w
+    → p .held * 2 ^ w + x < 2 ^ (8 + (p .count + w - 8))
 pushed-over p w x h l g =
     let e : 8 + (p .count + w - 8) ≡ p .count + w = omega arith in
     rw e (pushed-below (p .count) (p .held) w x (h .below) l)
@@ -112,7 +119,8 @@ push-within a p w x h l f = record {
   gathers = λ t. gathered-within (p .count) (p .held) w x t f l;
 }
 
-pub push-over : (a : List ℕ) (p : Pen) (w x next : ℕ) → Ready p → w ≤ 8 → x < 2 ^ w → 8 ≤ p .count + w → Reached (length a) (p .place + 1) next
+pub push-over : (a : List ℕ) (p : Pen) (w x next : ℕ) → Ready p → w ≤ 8 → x < 2 ^ w → 8 ≤ p .count + w
+    → Reached (length a) (p .place + 1) next
     → Wrote a (set a (p .place) ((p .held * 2 ^ w + x) / 2 ^ (p .count + w - 8))) p
     (record { place = next; held = (p .held * 2 ^ w + x) % 2 ^ (p .count + w - 8); count = p .count + w - 8 }) (put w x)
 push-over a p w x next h m l g at = record {

@@ -1,5 +1,6 @@
-pub mod Gather
-pub mod Ink
-pub mod Fits
-pub mod Shifts
-pub mod Fields
+-- The laws of this crate.
+pub mod Gather  -- `put` and `gathered`: numbers written in bits, one after the other, by eights; the octets of an entry
+pub mod Ink  -- `Wrote`: one writing with a pen after another, a push, and the last octet
+pub mod Fits  -- what may be entered fits the bits that it has
+pub mod Shifts  -- `bitsAt`: up to sixteen bits are a field of two octets
+pub mod Fields  -- `charactersAt`, and how far a whole entry reaches

@@ -21,7 +21,8 @@ second-octet : (a b j m : ℕ) → j + (1 + m) ≡ 8 → b < 256 → (b / 2 ^ m)
 second-octet a b j m e h =
     let n = a * 256 + b in
     let l : n % 2 ^ (j + (1 + m)) ≡ b = ap (λ (x : ℕ). n % 2 ^ x) e ∙ low a 8 h in
-    sym (field b 1 m) ∙ ap (λ (x : ℕ). x % 2 ^ (1 + m) / 2 ^ m) (sym l) ∙ ap (λ (x : ℕ). x / 2 ^ m) (mod-mod-pow n j (1 + m)) ∙ field n 1 m
+    sym (field b 1 m) ∙ ap (λ (x : ℕ). x % 2 ^ (1 + m) / 2 ^ m) (sym l) ∙ ap (λ (x : ℕ). x / 2 ^ m) (mod-mod-pow n j (1 + m))
+    ∙ field n 1 m
 
 -- the two octets from the j-th on, as one number
 unfoldable pub pair : List ℕ → ℕ → ℕ
@@ -47,7 +48,8 @@ bit-of-pair s j r m e h = go (ltb r 8) refl
         rw (p, q) (second-octet (getD s j 0) (getD s (j + 1) 0) (7 - m) m (omega arith) h)
 
 -- w bits, with m bits below them in the two octets
-pub bits-of-pair : (s : List ℕ) (j r w m : ℕ) → r + w + m ≡ 16 → getD s (j + 1) 0 < 256 → bitsAt s (8 * j + r) w ≡ (pair s j / 2 ^ m) % 2 ^ w
+pub bits-of-pair : (s : List ℕ) (j r w m : ℕ) → r + w + m ≡ 16 → getD s (j + 1) 0 < 256
+    → bitsAt s (8 * j + r) w ≡ (pair s j / 2 ^ m) % 2 ^ w
 unfolding bitsAt
 bits-of-pair s j r zero m e h = sym (mod-one (pair s j / 2 ^ m))
 bits-of-pair s j r (suc w) m e h =
@@ -55,7 +57,14 @@ bits-of-pair s j r (suc w) m e h =
     let o : suc w ≡ 1 + w = omega arith in
     let p : r + 1 + (m + w) ≡ 16 = omega arith in
     let q : suc r + w + m ≡ 16 = omega arith in
-    rw (i, o, bits-of-pair s j (suc r) w m q h, bit-of-pair s j r (m + w) p h, mod-pow-add (pair s j / 2 ^ m) 1 w, shr-shr (pair s j) m w)
+    rw (
+      i,
+      o,
+      bits-of-pair s j (suc r) w m q h,
+      bit-of-pair s j r (m + w) p h,
+      mod-pow-add (pair s j / 2 ^ m) 1 w,
+      shr-shr (pair s j) m w,
+    )
 
 -- a power of two that a word of 32 bits holds
 power-kept : (w : ℕ) → w < 32 → 1 * 2 ^ w % 2 ^ 32 ≡ 2 ^ w

@@ -1,5 +1,5 @@
 -- The entry: document 01, "The entry, most significant bit first", and what writing one answers and leaves.
-use Prim.Native.Nat.{ℕ, _+_, _*_, _/_}
+use Prim.Native.Nat.{ℕ, _+_, _/_}
 use mathlib.Core.Bool.{Bool, cond, _&&_}
 use mathlib.Core.List.{List, [], _∷_, _++_}
 use mathlib.Core.Path.{_≡_}
@@ -23,12 +23,15 @@ puts (c ∷ s) t = put 6 (codeOf c) (puts s t)
 -- thirty bytes, the key: house, form, state, number, filled up with `<`, birth, expiry
 unfoldable pub putKey : ℕ → Record → List ℕ → List ℕ
 putKey house r t =
-    put (width part.house) house (put (width part.form) (formCode (r .form)) (puts (r .state) (puts (r .number) (puts (r .birth) (puts (r .expiry) t)))))
+    put (width part.house) house (put (width part.form) (formCode (r .form))
+    (puts (r .state) (puts (r .number) (puts (r .birth) (puts (r .expiry) t)))))
 
 -- then code, nationality, sex, name length, name
 unfoldable pub putRest : Record → List ℕ → List ℕ
 putRest r t =
-    puts (r .code) (puts (r .nationality) (put (width part.sex) (sexCode (r .sex)) (put (width part.nameLength) (r .«name_len») (puts (take (r .«name_len») (r .name)) t))))
+    puts (r .code) (puts (r .nationality)
+    (put (width part.sex) (sexCode (r .sex))
+    (put (width part.nameLength) (r .«name_len») (puts (take (r .«name_len») (r .name)) t))))
 
 -- and zero bits to the next byte
 unfoldable pub entryOf : ℕ → Record → List ℕ
@@ -45,12 +48,14 @@ isHouse house = leb 1 house && leb house 32767
 -- 17 for a house or a record that is not sound, then 16 for an output that is too short; else the entry is written
 unfoldable pub entryAnswer : ℕ → Record → List ℕ → Length
 entryAnswer house r out =
-    cond (isHouse house && isSound r) (cond (leb (size (r .«name_len»)) (length out)) (written (size (r .«name_len»))) (refused 16 0)) (refused 17 0)
+    cond (isHouse house && isSound r)
+    (cond (leb (size (r .«name_len»)) (length out)) (written (size (r .«name_len»))) (refused 16 0)) (refused 17 0)
 
 -- a refusal changes no octet, a success those of the entry and no others
 unfoldable pub entryOut : ℕ → Record → List ℕ → List ℕ
 entryOut house r out =
-    cond (isHouse house && isSound r) (cond (leb (size (r .«name_len»)) (length out)) (entryOf house r ++ drop (size (r .«name_len»)) out) out) out
+    cond (isHouse house && isSound r)
+    (cond (leb (size (r .«name_len»)) (length out)) (entryOf house r ++ drop (size (r .«name_len»)) out) out) out
 
 -- the whole promise: the answer, and what the output holds afterwards
 pub record Writes (house : ℕ) (r : Record) (out after : List ℕ) (w : Written) : Type 0 where

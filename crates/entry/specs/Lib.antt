@@ -3,5 +3,4 @@ pub mod Codes
 pub mod Parts
 pub mod Entry
 pub mod Run
--- no words of the paper
 pub mod Inner

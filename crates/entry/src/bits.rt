@@ -1,4 +1,5 @@
-// Numbers of a few bits at any place of a range, the most significant bit first. Two octets hold each of them, so none is read bit by bit.
+// Numbers of a few bits at any place of a range, the most significant bit first. Two octets hold each of them, so that none is
+// read bit by bit.
 ghost use mathlib.Core.Path.{_≡_};
 ghost use Prim.Native.Nat.{_+_, _*_, _%_, _≤_, _<_};
 ghost use lib.ListN.{length};

@@ -23,7 +23,8 @@ use zone::record::Record;
 // House and form: fifteen bits as seven and eight, and three.
 fn write_house(out: &mut [u8], start: Pen, house: u32, form: Form) -> Pen
     requires { ⌜ Ready start × (house ≤ 32767) ⌝ }
-    ensures { λ r. ⌜ Wrote (now (out .entry)) (now (out .exit)) start r (λ t. put (width part.house) house (put (width part.form) (formCode form) t)) ⌝ }
+    ensures { λ r. ⌜ Wrote (now (out .entry)) (now (out .exit)) start r
+        (λ t. put (width part.house) house (put (width part.form) (formCode form) t)) ⌝ }
 {
     let code = codes::form_code(form) as u32;
     let high = pen::push(out, start, 7, house >> 8);

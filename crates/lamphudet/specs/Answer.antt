@@ -1,4 +1,5 @@
--- The answer that C receives: a number and a value (document 01, "What the server lends and gets": plain calls on numbers and byte ranges).
+-- The answer that C receives: a number and a value (document 01, "What the server lends and gets": plain calls on numbers and
+-- byte ranges).
 use Rattle.refusal.specs.Length.{Length, written, refused}
 use Rattle.lamphudet.specs.declared.AnswerInC.{AnswerInC}
 

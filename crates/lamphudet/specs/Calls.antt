@@ -39,7 +39,8 @@ isOnly (run.refused number place) n = false
 
 -- the text writer is given exactly one entry and tests 18 (at 0, also for none or anything after it), then 16
 unfoldable pub writtenAnswer : List ℕ → List ℕ → Length
-writtenAnswer e out = cond (isOnly (run.readEntry e 0 .onward) (length e)) (textAnswer (run.readEntry e 0 .kept) out) (refused 18 0)
+writtenAnswer e out = cond (isOnly (run.readEntry e 0 .onward) (length e)) (textAnswer (run.readEntry e 0 .kept) out)
+    (refused 18 0)
 
 unfoldable pub writtenOut : List ℕ → List ℕ → List ℕ
 writtenOut e out = cond (isOnly (run.readEntry e 0 .onward) (length e)) (textOut (run.readEntry e 0 .kept) out) out

@@ -1,2 +1,3 @@
-pub mod Numbers
-pub mod Walks
+-- The laws of this crate.
+pub mod Numbers  -- what a number without further characters leaves in its room
+pub mod Walks  -- the two orders in which the code joins its checks are the text order

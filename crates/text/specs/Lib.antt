@@ -1,5 +1,4 @@
 pub mod Number
 pub mod Order
 pub mod Read
--- no words of the paper
 pub mod Inner

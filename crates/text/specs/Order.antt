@@ -79,4 +79,5 @@ inOrder check (x ∷ xs) = orElse (check x) (inOrder check xs)
 
 -- Order: 1, 2, then 3 to 8 by field in text order, then check digits in text order. (1 is told by the length alone.)
 unfoldable pub verdictBy : Form → List ℕ → Span → Outcome
-verdictBy f t span = orElse (characters t) (orElse (inOrder (fieldCheck f t span) (parts f)) (inOrder (digitCheck f t span) (parts f)))
+verdictBy f t span = orElse (characters t)
+    (orElse (inOrder (fieldCheck f t span) (parts f)) (inOrder (digitCheck f t span) (parts f)))

@@ -1,11 +1,10 @@
 // The check digits, 9: each judged at its place, and all of them in text order.
 ghost use mathlib.Core.Path.{_≡_};
-ghost use mathlib.Core.List.{_++_};
 ghost use lib.Dec.{eqb};
 ghost use lib.ListN.{take, drop, getD};
 ghost use Prim.Native.Nat.{_+_};
 ghost use Rattle.refusal.specs.Outcome.{outcomeOf, unless, orElse};
-ghost use Rattle.zone.specs.Form.{parts, start, field};
+ghost use Rattle.zone.specs.Form.{parts};
 ghost use Rattle.zone.specs.Part.{number, numberCheck, optional, birthCheck, expiryCheck, personal, personalCheck, composite};
 ghost use Rattle.digit.specs.Check.{digitOf};
 ghost use Rattle.text.specs.Order.{digitAt, digitCheck, inOrder};
@@ -61,7 +60,8 @@ fn expiry_digit(form: Form, text: &[u8]) -> Verdict
 
 // Only some forms have a personal number.
 fn personal_digit(form: Form, text: &[u8]) -> Verdict
-    ensures { λ r. ⌜ ((span : Span) → outcomeOf r ≡ ifHas form personal (digitCheck form (now (text .entry)) span personalCheck)) ⌝ }
+    ensures { λ r. ⌜ ((span : Span) → outcomeOf r ≡
+        ifHas form personal (digitCheck form (now (text .entry)) span personalCheck)) ⌝ }
 {
     let at = form.places();
     let wide = form.personal_width();

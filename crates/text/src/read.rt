@@ -4,7 +4,7 @@ ghost use Rattle.refusal.specs.Outcome.{outcomeOf, refused};
 ghost use Rattle.refusal.specs.Numbers.{numberOf};
 ghost use Rattle.zone.specs.Record.{blank};
 ghost use Rattle.text.specs.Order.{characters, verdictBy};
-ghost use Rattle.text.specs.Read.{answerOf, answered, readBy, readText, recordBy};
+ghost use Rattle.text.specs.Read.{answerOf, answered, readBy, readText};
 use crate::digits::digits;
 use crate::fields::fields;
 use crate::number::Span;

@@ -1,1 +1,2 @@
-pub mod Fitted
+-- The laws of this crate.
+pub mod Fitted  -- a text written to the front of a range

@@ -20,7 +20,8 @@ pub fn put_state(text: &mut [u8], at: usize, s: [u8; Form::STATE])
 
 // A date and its check digit.
 pub fn put_date(text: &mut [u8], at: usize, check: usize, s: [u8; Form::DATE])
-    ensures { λ _. ⌜ now (text .exit) ≡ set (copiedAt (now (text .entry)) at (take dateRoom s)) check (digitOf (take dateRoom s)) ⌝ }
+    ensures { λ _. ⌜ now (text .exit) ≡
+        set (copiedAt (now (text .entry)) at (take dateRoom s)) check (digitOf (take dateRoom s)) ⌝ }
 {
     lent::copy_at(text, at, &s);
     let d = digit::of(&s);

@@ -1,6 +1,5 @@
 // The document number in a text, short or long.
 ghost use mathlib.Core.Path.{_≡_};
-ghost use mathlib.Core.List.{List};
 ghost use Prim.Native.Nat.{_+_, _<_};
 ghost use lib.ListN.{length, set, take};
 ghost use Rattle.lent.specs.Copied.{copiedAt};

@@ -17,7 +17,8 @@ pub data Reached (n counted place : ℕ) : Type 0 where
   within : place ≡ counted → Reached n counted place
   past : n ≤ counted → n ≤ place → Reached n counted place
 
--- some octets were stored, from the pen's place on for as long as there is room: they and what the pen holds then are what it held
+-- some octets were stored, from the pen's place on for as long as there is room: they and what the pen holds then are what it
+-- held
 -- before and the bits
 pub record Wrote (before after : List ℕ) (p q : Pen) (bits : List ℕ → List ℕ) : Type 0 where
   pub ready : Ready q

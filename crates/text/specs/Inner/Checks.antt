@@ -1,5 +1,4 @@
 -- No words of the paper: how the code's promises are joined.
-use Prim.Native.Nat.{ℕ}
 use mathlib.Core.Bool.{cond}
 use lib.Dec.{ltb}
 use Rattle.refusal.specs.Outcome.{Outcome, passed}

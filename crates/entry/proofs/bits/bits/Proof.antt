@@ -15,7 +15,8 @@ returns c =
     let a = c .before .before .before .before .before .args in
     let first = c .before .before .wide .ensures .0 ∙ c .before .before .before .octet .ensures in
     let second = c .wide2 .ensures .0 ∙ c .before .octet2 .ensures in
-    bits-read (now (a .s)) (a .at) (a .width) (c .before .before .wide .result) (c .wide2 .result) (c .before .before .before .before .before .pre .0) first second (c .wide2 .ensures .1)
+    bits-read (now (a .s)) (a .at) (a .width) (c .before .before .wide .result) (c .wide2 .result)
+    (c .before .before .before .before .before .pre .0) first second (c .wide2 .ensures .1)
 
 pub bits-spec : {M : Type 1} → statement M
 bits-spec =

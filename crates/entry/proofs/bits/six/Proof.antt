@@ -10,7 +10,9 @@ use Rattle.entry.proofs.bits.six.Tie as tie
 returns : tie.Need-returns
 returns c =
     let a = c .before .before .before .before .before .args in (
-      six-read (now (a .s)) (a .at) (c .before .before .wide .result) (c .wide2 .result) (c .before .before .before .before .before .pre .0) (c .before .before .wide .ensures .0) (c .wide2 .ensures .0) (c .wide2 .ensures .1),
+      six-read (now (a .s)) (a .at) (c .before .before .wide .result) (c .wide2 .result)
+          (c .before .before .before .before .before .pre .0) (c .before .before .wide .ensures .0) (c .wide2 .ensures .0)
+          (c .wide2 .ensures .1),
       mod-lt _ (lit< tt),
     )
 

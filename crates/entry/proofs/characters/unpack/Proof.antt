@@ -13,7 +13,8 @@ use Rattle.entry.proofs.characters.unpack.Statement.{statement}
 use Rattle.entry.proofs.characters.unpack.Tie as tie
 
 abbrev Inv-loop : tie.InvT-loop
-Inv-loop to₀ s at n table i₀ to i = (i ≤ length to₀) × (i ≤ n) × (length to ≡ length to₀) × (to ≡ take i (charactersAt s at n) ++ drop i to₀)
+Inv-loop to₀ s at n table i₀ to i =
+    (i ≤ length to₀) × (i ≤ n) × (length to ≡ length to₀) × (to ≡ take i (charactersAt s at n) ++ drop i to₀)
 
 abbrev μ-loop : tie.MeasureT-loop
 μ-loop to₀ s at n table i₀ to i = length to₀ - i
@@ -36,7 +37,11 @@ loop-again c =
       search needs,
       search needs,
       search needs,
-      rw (c .before .before .before .before .characters .ensures (c .six .result) (c .six .ensures .1), c .six .ensures .0, l .inv .3)
+      rw (
+        c .before .before .before .before .characters .ensures (c .six .result) (c .six .ensures .1),
+        c .six .ensures .0,
+        l .inv .3,
+      )
           (unpack-more (a .to .now) (now (a .s)) (a .at) (a .n) (l .i) ht hn),
     )
 

@@ -12,11 +12,13 @@ raised-requires : tie.Need-raised-requires
 raised-requires c κs = let s = c .before .before .before .before in (held-octet (s .args .pen) (s .pre), search needs)
 
 cast-octet : tie.Need-cast-octet
-cast-octet c = let s = c .before .before .before .before .before in record { fits = rw (c .raised .ensures) (finished-octet (s .args .pen) (s .pre)) }
+cast-octet c = let s = c .before .before .before .before .before in
+    record { fits = rw (c .raised .ensures) (finished-octet (s .args .pen) (s .pre)) }
 
 returns-2 : tie.Need-returns-2
 returns-2 c = let a = c .before .before .before .before .before .before .before .before .before .args in
-    rw (c .before .before .store .ensures .0, c .before .before .before .before .raised .ensures) (finish-some (now (a .out)) (a .pen) (c .before .before .before .before .before .before .if1 .left))
+    rw (c .before .before .store .ensures .0, c .before .before .before .before .raised .ensures)
+    (finish-some (now (a .out)) (a .pen) (c .before .before .before .before .before .before .if1 .left))
 
 pub finish-spec : {M : Type 1} → statement M
 finish-spec =

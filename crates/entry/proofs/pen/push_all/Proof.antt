@@ -25,8 +25,12 @@ push-requires c κs = (c .before .before .before .before .loop .inv .2 .ready, s
 
 loop-again : tie.Need-loop-again Inv-loop μ-loop
 loop-again c = let s = now (c .before .before .before .before .before .before .before .before .before .before .args .s) in
-    let l = c .before .before .before .before .before .before .before .loop in
-    (search needs, search needs, push-more s (l .i) (search needs) (l .inv .2) (rw (c .before .before .before .before .code-of .ensures .0) at (c .before .before .push .ensures)))
+    let l = c .before .before .before .before .before .before .before .loop in (
+      search needs,
+      search needs,
+      push-more s (l .i) (search needs) (l .inv .2)
+          (rw (c .before .before .before .before .code-of .ensures .0) at (c .before .before .push .ensures)),
+    )
 
 returns : tie.Need-returns Inv-loop μ-loop
 returns c = let l = c .before .loop in

@@ -12,7 +12,8 @@ returns : tie.Need-returns
 returns c = (refl, within refl)
 
 returns-2 : tie.Need-returns-2
-returns-2 c = let a = c .before .args in (sym (set-out (now (a .out)) (a .at) (a .octet) (c .if1 .left)), past (omega arith) (c .if1 .left))
+returns-2 c = let a = c .before .args in
+    (sym (set-out (now (a .out)) (a .at) (a .octet) (c .if1 .left)), past (omega arith) (c .if1 .left))
 
 pub store-spec : {M : Type 1} → statement M
 store-spec =

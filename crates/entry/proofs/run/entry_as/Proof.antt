@@ -17,7 +17,11 @@ returns c = c .sound-entry .ensures
 returns-2 : tie.Need-returns-2
 unfolding houseIn isEntry entryBy
 returns-2 c =
-    let kept = rw (c .before .before .is-whole .ensures, c .before .before .before .is-house .ensures, c .before .before .before .before .before .bits .ensures) at (c .before .if1 .left) in
+    let kept = rw (
+      c .before .before .is-whole .ensures,
+      c .before .before .before .is-house .ensures,
+      c .before .before .before .before .before .bits .ensures,
+    ) at (c .before .if1 .left) in
     rw (c .no-entry .ensures, ← and-assoc, kept)
 
 pub entry-as-spec : {M : Type 1} → statement M

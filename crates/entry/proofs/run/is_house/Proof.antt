@@ -1,5 +1,4 @@
 -- The definition's tests.
-use borrow.Author.Needs.{needs}
 use mathlib.Core.Path.{refl}
 use Rattle.entry.specs.Entry.{isHouse}
 use Rattle.entry.proofs.run.is_house.Statement.{statement}

@@ -7,7 +7,13 @@ use Rattle.entry.proofs.run.is_whole.Tie as tie
 returns : tie.Need-returns
 unfolding isWhole
 returns c =
-    rw (c .bits .ensures, c .before .spare .ensures .0, c .before .before .name-end .ensures, c .before .before .before .size .ensures .0, ← c .before .before .before .before .before .pre .1)
+    rw (
+      c .bits .ensures,
+      c .before .spare .ensures .0,
+      c .before .before .name-end .ensures,
+      c .before .before .before .size .ensures .0,
+      ← c .before .before .before .before .before .pre .1,
+    )
 
 pub is-whole-spec : {M : Type 1} → statement M
 is-whole-spec =

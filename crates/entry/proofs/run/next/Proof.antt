@@ -3,7 +3,7 @@ use borrow.Author.Needs.{needs}
 use borrow.Author.Tests.{eq-eqb, ne-eqb, lt-ltb, le-ltb}
 use denote.Ref.{now}
 use Rattle.entry.specs.Run.{standingOf, readEntry}
-use Rattle.entry.proofs.Fields.{rest-of-run}
+use Rattle.lent.proofs.Lists.{rest-all}
 use Rattle.entry.proofs.run.next.Statement.{statement}
 use Rattle.entry.proofs.run.next.Tie as tie
 
@@ -19,7 +19,12 @@ returns-3 : tie.Need-returns-3
 unfolding readEntry
 returns-3 c =
     let a = c .before .before .before .before .before .args in
-    rw (c .entry-at .ensures, ne-eqb _ _ (c .before .before .before .if1 .left), le-ltb _ _ (c .before .before .if2 .left), rest-of-run (now (a .run)) (a .at))
+    rw (
+      c .entry-at .ensures,
+      ne-eqb _ _ (c .before .before .before .if1 .left),
+      le-ltb _ _ (c .before .before .if2 .left),
+      rest-all (now (a .run)) (a .at),
+    )
 
 pub next-spec : {M : Type 1} → statement M
 next-spec =

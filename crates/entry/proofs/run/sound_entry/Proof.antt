@@ -20,7 +20,8 @@ unfolding standingOf isEntry entryBy
 returns c =
     let known = c .before .before .before .before .before .pre in
     let kept = rw (known .1 .0) at (known .1 .1) in
-    let sound = rw (c .before .before .before .record-in .ensures) at (sym (c .before .before .is-sound .ensures) ∙ c .before .if1 .taken) in
+    let sound = rw (c .before .before .before .record-in .ensures) at
+    (sym (c .before .before .is-sound .ensures) ∙ c .before .if1 .taken) in
     rw (c .size .ensures .0, c .before .before .before .record-in .ensures, known .0 .1, known .1 .0, ← and-assoc, kept, sound)
 
 returns-2 : tie.Need-returns-2
@@ -28,7 +29,8 @@ unfolding isEntry entryBy
 returns-2 c =
     let known = c .before .before .before .before .before .pre in
     let kept = rw (known .1 .0) at (known .1 .1) in
-    let unsound = rw (c .before .before .before .record-in .ensures) at (sym (c .before .before .is-sound .ensures) ∙ c .before .if1 .left) in
+    let unsound = rw (c .before .before .before .record-in .ensures) at
+    (sym (c .before .before .is-sound .ensures) ∙ c .before .if1 .left) in
     rw (c .no-entry .ensures, ← and-assoc, kept, unsound)
 
 pub sound-entry-spec : {M : Type 1} → statement M

@@ -12,7 +12,11 @@ sub-result c = omega (arith, c .before .size .ensures .0, c .name-end .ensures)
 
 returns : tie.Need-returns
 unfolding size spare
-returns c = (rw (c .before .size .ensures .0, c .name-end .ensures), omega (arith, c .before .size .ensures .0, c .name-end .ensures))
+returns c = (
+  rw (c .before .size .ensures .0, c .name-end .ensures),
+  omega
+      (arith, c .before .size .ensures .0, c .name-end .ensures),
+)
 
 pub spare-spec : {M : Type 1} → statement M
 spare-spec =

@@ -18,29 +18,40 @@ size-requires c κs =
 
 write-bits-requires : tie.Need-write-bits-requires
 write-bits-requires c κs =
-    let kept = rw (c .before .before .before .before .is-sound .ensures, c .before .before .before .before .before .is-house .ensures) at (c .before .before .before .if1 .taken) in
-    kept-fits (c .before .before .before .before .before .before .before .args .house) (c .before .before .before .before .before .before .before .args .r) kept
+    let kept = rw (
+      c .before .before .before .before .is-sound .ensures,
+      c .before .before .before .before .before .is-house .ensures,
+    ) at (c .before .before .before .if1 .taken) in
+    kept-fits (c .before .before .before .before .before .before .before .args .house)
+    (c .before .before .before .before .before .before .before .args .r) kept
 
 returns : tie.Need-returns
 unfolding entryAnswer entryOut
 returns c =
     let a = c .before .before .before .before .before .before .before .before .before .before .args in
     let s = c .before .before .before .before .before .size .ensures .0 in
-    let kept = rw (c .before .before .before .before .before .before .before .is-sound .ensures, c .before .before .before .before .before .before .before .before .is-house .ensures) at (c .before .before .before .before .before .before .if1 .taken) in
+    let kept = rw (
+      c .before .before .before .before .before .before .before .is-sound .ensures,
+      c .before .before .before .before .before .before .before .before .is-house .ensures,
+    ) at
+    (c .before .before .before .before .before .before .if1 .taken) in
     let room = rw s at (c .before .before .before .before .if2 .taken) in
     let h = le-leb _ _ room in
     let n =
-    length-entry (a .house) (a .r) (search needs) (search needs) (search needs) (search needs) (search needs) (search needs) (search needs)
+    length-entry (a .house) (a .r) (search needs) (search needs) (search needs) (search needs) (search needs) (search needs)
+    (search needs)
     (kept-fits (a .house) (a .r) kept .1) in
     record {
       answer = rw (kept, h, s);
-      output = rw (kept, h) (c .before .before .write-bits .ensures ∙ sets-front (now (a .out)) (entryOf (a .house) (a .r)) (size (a .r .«name_len»)) n room);
+      output = rw (kept, h) (c .before .before .write-bits .ensures
+          ∙ sets-front (now (a .out)) (entryOf (a .house) (a .r)) (size (a .r .«name_len»)) n room);
     }
 
 returns-2 : tie.Need-returns-2
 unfolding entryAnswer entryOut
 returns-2 c =
-    let kept = rw (c .before .before .before .is-sound .ensures, c .before .before .before .before .is-house .ensures) at (c .before .before .if1 .taken) in
+    let kept = rw (c .before .before .before .is-sound .ensures, c .before .before .before .before .is-house .ensures) at
+    (c .before .before .if1 .taken) in
     let h = rw (c .before .size .ensures .0) at (lt-leb _ _ (c .if2 .left)) in
     record { answer = rw (kept, h); output = rw (kept, h) }
 

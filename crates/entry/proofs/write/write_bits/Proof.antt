@@ -9,7 +9,10 @@ use Rattle.entry.proofs.write.write_bits.Tie as tie
 
 returns : tie.Need-returns
 unfolding entryOf octets
-returns c = c .before .before .finish .ensures ∙ finish-all (wrote-then (c .before .before .before .before .before .before .before .before .before .before .write-key .ensures) (c .before .before .before .before .before .before .write-rest .ensures))
+returns c =
+    let rest = c .before .before .before .before .before .before in
+    c .before .before .finish .ensures
+    ∙ finish-all (wrote-then (rest .before .before .before .before .write-key .ensures) (rest .write-rest .ensures))
 
 pub write-bits-spec : {M : Type 1} → statement M
 write-bits-spec =

@@ -9,13 +9,21 @@ use Rattle.entry.proofs.write.write_house.Statement.{statement}
 use Rattle.entry.proofs.write.write_house.Tie as tie
 
 push-requires-2 : tie.Need-push-requires-2
-push-requires-2 c κs = (c .before .before .before .push .ensures .ready, search needs, mask-lt (c .before .before .before .before .before .before .before .args .house) 8)
+push-requires-2 c κs = (
+  c .before .before .before .push .ensures .ready,
+  search needs,
+  mask-lt
+      (c .before .before .before .before .before .before .before .args .house) 8,
+)
 
 returns : tie.Need-returns
-returns c = let a = c .before .before .before .before .before .before .before .before .before .before .before .before .before .before .args in
+returns c =
+    let early = c .before .before .before .before .before .before .before .before .before .before in
+    let a = early .before .before .before .before .args in
     let low = rw (and-mask (a .house) 8) at (c .before .before .before .before .before .before .push2 .ensures) in
-    let code = rw (c .before .before .before .before .before .before .before .before .before .before .before .before .form-code .ensures .0) at (c .before .before .push3 .ensures) in
-    wrote-as (λ t. put-halves 7 8 (a .house) (put 3 (formCode (a .form)) t)) (wrote-then (wrote-then (c .before .before .before .before .before .before .before .before .before .before .push .ensures) low) code)
+    let code = rw (early .before .before .form-code .ensures .0) at (c .before .before .push3 .ensures) in
+    wrote-as (λ t. put-halves 7 8 (a .house) (put 3 (formCode (a .form)) t))
+    (wrote-then (wrote-then (early .push .ensures) low) code)
 
 same-length : tie.Need-same-length
 same-length c = wrote-length (returns c)

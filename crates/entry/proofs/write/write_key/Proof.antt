@@ -7,9 +7,14 @@ use Rattle.entry.proofs.write.write_key.Tie as tie
 
 returns : tie.Need-returns
 unfolding putKey
-returns c = wrote-then (c .before .before .before .before .before .before .before .before .before .before .before .before .before .before .before .before .before .before .before .before .before .before .before .before .before .before .before .before .before .before .write-house .ensures)
-    (wrote-then (c .before .before .before .before .before .before .before .before .before .before .before .before .before .before .before .before .before .before .before .before .before .before .before .push-all .ensures)
-    (wrote-then (c .before .before .before .before .before .before .before .before .before .before .before .before .before .before .before .before .push-all2 .ensures) (wrote-then (c .before .before .before .before .before .before .before .before .before .push-all3 .ensures) (c .before .before .push-all4 .ensures))))
+returns c =
+    let third = c .before .before .before .before .before .before .before .before .before in
+    let second = third .before .before .before .before .before .before .before in
+    let first = second .before .before .before .before .before .before .before in
+    wrote-then (first .before .before .before .before .before .before .before .write-house .ensures)
+    (wrote-then (first .push-all .ensures)
+    (wrote-then (second .push-all2 .ensures)
+    (wrote-then (third .push-all3 .ensures) (c .before .before .push-all4 .ensures))))
 
 same-length : tie.Need-same-length
 same-length c = wrote-length (returns c)

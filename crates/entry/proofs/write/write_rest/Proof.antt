@@ -7,10 +7,15 @@ use Rattle.entry.proofs.write.write_rest.Tie as tie
 
 returns : tie.Need-returns
 unfolding putRest
-returns c = let sex = rw (c .before .before .before .before .before .before .before .before .before .before .before .before .before .before .before .before .before .before .before .before .before .before .before .before .before .before .before .before .before .before .sex-code .ensures .0) at (c .before .before .before .before .before .before .before .before .before .before .before .before .before .before .push .ensures) in
+returns c =
+    let length = c .before .before .before .before .before .before .before .before .before .before in
+    let holder = length .before .before .before .before in
+    let nationality = holder .before .before .before .before in
+    let code = nationality .before .before .before .before .before .before .before in
+    let sex = rw (code .before .before .before .before .before .sex-code .ensures .0) at (holder .push .ensures) in
     let name = rw (c .before .before .before .part .ensures) at (c .before .before .push-all3 .ensures) in
-    wrote-then (c .before .before .before .before .before .before .before .before .before .before .before .before .before .before .before .before .before .before .before .before .before .before .before .before .before .push-all .ensures)
-    (wrote-then (c .before .before .before .before .before .before .before .before .before .before .before .before .before .before .before .before .before .before .push-all2 .ensures) (wrote-then sex (wrote-then (c .before .before .before .before .before .before .before .before .before .before .push2 .ensures) name)))
+    wrote-then (code .push-all .ensures)
+    (wrote-then (nationality .push-all2 .ensures) (wrote-then sex (wrote-then (length .push2 .ensures) name)))
 
 same-length : tie.Need-same-length
 same-length c = wrote-length (returns c)

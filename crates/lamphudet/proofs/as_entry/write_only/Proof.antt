@@ -10,7 +10,8 @@ returns : tie.Need-returns
 unfolding standingOf writtenAnswer writtenOut
 returns c =
     let found = c .before .before .before .before .before .before .before .next .ensures in
-    let only = sym (c .before .before .before .before .before .is-only .ensures) ∙ c .before .before .before .before .if1 .taken in
+    let only = sym (c .before .before .before .before .before .is-only .ensures)
+    ∙ c .before .before .before .before .if1 .taken in
     let w = c .before .before .write .ensures in
     (rw (← found, only) (w .answer), rw (← found, only) (w .output))
 

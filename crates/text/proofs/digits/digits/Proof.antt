@@ -22,7 +22,9 @@ returns c =
       c .before .before .before .before .before .before .before .before .before .further-digit .ensures,
       c .before .before .before .before .before .before .before .before .before .before .number-digit .ensures,
     )
-    (optional-first (a .form) (now (a .text)) s (rw (c .before .before .before .before .before .before .before .before .before .before .before .places .ensures) at (c .before .before .before .if1 .taken)))
+    (optional-first (a .form) (now (a .text)) s
+    (rw (c .before .before .before .before .before .before .before .before .before .before .before .places .ensures) at
+    (c .before .before .before .if1 .taken)))
 
 returns-2 : tie.Need-returns-2
 unfolding placesOf
@@ -40,7 +42,9 @@ returns-2 c =
       c .before .before .before .before .before .before .before .before .before .further-digit .ensures,
       c .before .before .before .before .before .before .before .before .before .before .number-digit .ensures,
     )
-    (optional-last (a .form) (now (a .text)) s (rw (c .before .before .before .before .before .before .before .before .before .before .before .places .ensures) at (c .before .before .before .if1 .left)))
+    (optional-last (a .form) (now (a .text)) s
+    (rw (c .before .before .before .before .before .before .before .before .before .before .before .places .ensures) at
+    (c .before .before .before .if1 .left)))
 
 pub digits-spec : {M : Type 1} → statement M
 digits-spec =

@@ -9,21 +9,28 @@ use Rattle.text.proofs.digits.further_digit.Tie as tie
 returns : tie.Need-returns
 unfolding ifHas digitCheck furtherDigit
 returns c =
-    rw (rw (c .before .before .before .optional-width .ensures) at (lt-ltb _ _ (c .before .before .if1 .taken)), c .enum-told .given .1)
+    rw (
+      rw (c .before .before .before .optional-width .ensures) at (lt-ltb _ _ (c .before .before .if1 .taken)),
+      c .enum-told .given .1,
+    )
 
 returns-2 : tie.Need-returns-2
 unfolding ifHas
 returns-2 c =
     rw (
       c .long-digit .ensures,
-      rw (c .before .before .before .before .before .optional-width .ensures) at (lt-ltb _ _ (c .before .before .before .before .if1 .taken)),
+      rw (c .before .before .before .before .before .optional-width .ensures) at
+          (lt-ltb _ _ (c .before .before .before .before .if1 .taken)),
       c .before .before .span .given .1,
     )
 
 returns-3 : tie.Need-returns-3
 unfolding ifHas digitCheck furtherDigit
 returns-3 c =
-    rw (rw (c .before .before .before .optional-width .ensures) at (lt-ltb _ _ (c .before .before .if1 .taken)), c .enum-told2 .given .1)
+    rw (
+      rw (c .before .before .before .optional-width .ensures) at (lt-ltb _ _ (c .before .before .if1 .taken)),
+      c .enum-told2 .given .1,
+    )
 
 returns-4 : tie.Need-returns-4
 unfolding ifHas

@@ -21,7 +21,9 @@ returns c =
       c .before .before .before .before .before .before .before .before .before .name-check .ensures (a .span),
       c .before .before .before .before .before .before .before .before .before .before .opening-check .ensures (a .span),
     )
-    (name-first (a .form) (now (a .text)) (a .span) (rw (c .before .before .before .before .before .before .before .before .before .before .before .places .ensures) at (c .before .before .before .before .if1 .taken)))
+    (name-first (a .form) (now (a .text)) (a .span)
+    (rw (c .before .before .before .before .before .before .before .before .before .before .before .places .ensures) at
+    (c .before .before .before .before .if1 .taken)))
 
 returns-2 : tie.Need-returns-2
 unfolding placesOf
@@ -38,7 +40,9 @@ returns-2 c =
       c .before .before .before .before .before .before .before .before .before .name-check .ensures (a .span),
       c .before .before .before .before .before .before .before .before .before .before .opening-check .ensures (a .span),
     )
-    (name-last (a .form) (now (a .text)) (a .span) (rw (c .before .before .before .before .before .before .before .before .before .before .before .places .ensures) at (c .before .before .before .before .if1 .left)))
+    (name-last (a .form) (now (a .text)) (a .span)
+    (rw (c .before .before .before .before .before .before .before .before .before .before .before .places .ensures) at
+    (c .before .before .before .before .if1 .left)))
 
 pub fields-spec : {M : Type 1} → statement M
 fields-spec =

@@ -9,7 +9,12 @@ use Rattle.text.proofs.number.span_of.Tie as tie
 returns : tie.Need-returns
 unfolding spanOf isLong placesOf field isFiller
 returns c =
-    let long = rw (c .before .before .before .before .before .octet .ensures, c .before .before .before .before .before .before .longest-number .ensures, c .before .before .before .before .before .before .before .places .ensures) at (c .before .before .before .before .if1 .taken) in
+    let long = rw (
+      c .before .before .before .before .before .octet .ensures,
+      c .before .before .before .before .before .before .longest-number .ensures,
+      c .before .before .before .before .before .before .before .places .ensures,
+    ) at
+    (c .before .before .before .before .if1 .taken) in
     rw (
       c .cut-at .ensures,
       c .before .first-filler .ensures,
@@ -22,7 +27,11 @@ returns c =
 returns-2 : tie.Need-returns-2
 unfolding spanOf isLong placesOf isFiller
 returns-2 c =
-    let short = rw (c .before .octet .ensures, c .before .before .longest-number .ensures, c .before .before .before .places .ensures) at (c .if1 .left) in
+    let short = rw (
+      c .before .octet .ensures,
+      c .before .before .longest-number .ensures,
+      c .before .before .before .places .ensures,
+    ) at (c .if1 .left) in
     rw short
 
 pub span-of-spec : {M : Type 1} → statement M

@@ -37,7 +37,8 @@ returns-2 c =
       c .before .before .before .before .span .given .1,
       fixed (a .form) .number-width,
     )
-    (sym (length-append (take 9 (drop (start (a .form) number) t)) (take (c .before .before .before .before .span .given .0 .0) (field (a .form) optional t))))
+    (sym (length-append (take 9 (drop (start (a .form) number) t))
+    (take (c .before .before .before .before .span .given .0 .0) (field (a .form) optional t))))
 
 returns-3 : tie.Need-returns-3
 unfolding placesOf field numberBy

@@ -9,23 +9,25 @@ use Rattle.text.proofs.record.record_by.Tie as tie
 returns : tie.Need-returns
 unfolding recordBy placesOf field
 returns c =
+    let early = c .before .before .before .before .before in
+    let widths = fixed (early .before .before .before .before .before .before .before .args .form) in
     rw (
       c .name-length .ensures,
       c .before .name-chars .ensures,
       c .before .before .date-at2 .ensures,
       c .before .before .before .octet .ensures,
       c .before .before .before .before .date-at .ensures,
-      c .before .before .before .before .before .state-at2 .ensures,
-      c .before .before .before .before .before .before .number-length .ensures,
-      c .before .before .before .before .before .before .before .number-chars .ensures,
-      c .before .before .before .before .before .before .before .before .state-at .ensures,
-      c .before .before .before .before .before .before .before .before .before .code-at .ensures,
-      c .before .before .before .before .before .before .before .before .before .before .places .ensures,
-      fixed (c .before .before .before .before .before .before .before .before .before .before .before .before .args .form) .code-width,
-      fixed (c .before .before .before .before .before .before .before .before .before .before .before .before .args .form) .state-width,
-      fixed (c .before .before .before .before .before .before .before .before .before .before .before .before .args .form) .nationality-width,
-      fixed (c .before .before .before .before .before .before .before .before .before .before .before .before .args .form) .birth-width,
-      fixed (c .before .before .before .before .before .before .before .before .before .before .before .before .args .form) .expiry-width,
+      early .state-at2 .ensures,
+      early .before .number-length .ensures,
+      early .before .before .number-chars .ensures,
+      early .before .before .before .state-at .ensures,
+      early .before .before .before .before .code-at .ensures,
+      early .before .before .before .before .before .places .ensures,
+      widths .code-width,
+      widths .state-width,
+      widths .nationality-width,
+      widths .birth-width,
+      widths .expiry-width,
     )
 
 pub record-by-spec : {M : Type 1} → statement M

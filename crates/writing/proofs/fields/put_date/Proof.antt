@@ -7,7 +7,8 @@ use Rattle.writing.proofs.fields.put_date.Tie as tie
 returns : tie.Need-returns
 returns c =
     rw (
-      take-all 6 (c .before .before .before .before .before .before .before .before .before .before .before .before .args .t4) (search needs),
+      take-all 6 (c .before .before .before .before .before .before .before .before .before .before .before .before .args .t4)
+          (search needs),
       c .before .before .put .ensures,
       c .before .before .before .before .of .ensures,
       c .before .before .before .before .before .before .before .before .copy-at .ensures,

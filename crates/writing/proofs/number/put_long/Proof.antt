@@ -11,20 +11,21 @@ use Rattle.writing.proofs.number.put_long.Tie as tie
 put-further-requires : tie.Need-put-further-requires
 unfolding placesOf
 put-further-requires c κs =
-    let f = c .before .before .before .before .before .before .before .before .before .before .before .before .before .args .r .form in
-    rw (c .before .before .before .before .before .before .before .before .before .before .before .places .ensures)
-    (omega (arith, within f optional, total-le f))
+    let early = c .before .before .before .before .before .before .before .before .before .before .before in
+    let f = early .before .before .args .r .form in
+    rw (early .places .ensures) (omega (arith, within f optional, total-le f))
 
 returns : tie.Need-returns
 unfolding putLong put mark numberIn furtherIn placesOf
 returns c =
+    let early = c .before .before .before .before .before .before .before .before .before .before .before in
     rw (
       c .before .before .put-further .ensures,
       c .before .before .before .optional-width .ensures,
       c .before .before .before .before .before .before .before .put .ensures,
-      c .before .before .before .before .before .before .before .before .before .before .before .put-nine .ensures,
-      c .before .before .before .before .before .before .before .before .before .before .before .before .before .before .places .ensures,
-      fixed (c .before .before .before .before .before .before .before .before .before .before .before .before .before .before .before .before .args .r .form) .number-width,
+      early .put-nine .ensures,
+      early .before .before .before .places .ensures,
+      fixed (early .before .before .before .before .before .args .r .form) .number-width,
     )
 
 pub put-long-spec : {M : Type 1} → statement M

@@ -9,12 +9,13 @@ use Rattle.writing.proofs.number.put_short.Tie as tie
 returns : tie.Need-returns
 unfolding putShort put mark placesOf
 returns c =
+    let early = c .before .before .before .before .before .before .before in
     rw (
       c .before .before .put .ensures,
       c .before .before .before .before .nine-digit .ensures,
-      c .before .before .before .before .before .before .before .put-nine .ensures,
-      c .before .before .before .before .before .before .before .before .before .before .places .ensures,
-      fixed (c .before .before .before .before .before .before .before .before .before .before .before .before .args .r .form) .number-width,
+      early .put-nine .ensures,
+      early .before .before .before .places .ensures,
+      fixed (early .before .before .before .before .before .args .r .form) .number-width,
     )
 
 pub put-short-spec : {M : Type 1} → statement M

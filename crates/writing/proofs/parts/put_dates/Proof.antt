@@ -9,12 +9,14 @@ use Rattle.writing.proofs.parts.put_dates.Tie as tie
 returns : tie.Need-returns
 unfolding putDates put mark placesOf
 returns c =
+    let early = c .before .before .before .before .before .before in
+    let widths = fixed (early .before .before .before .before .before .before .args .r .form) in
     rw (
       c .before .before .put-date2 .ensures,
-      c .before .before .before .before .before .before .put-date .ensures,
-      c .before .before .before .before .before .before .before .before .before .before .places .ensures,
-      fixed (c .before .before .before .before .before .before .before .before .before .before .before .before .args .r .form) .expiry-width,
-      fixed (c .before .before .before .before .before .before .before .before .before .before .before .before .args .r .form) .birth-width,
+      early .put-date .ensures,
+      early .before .before .before .before .places .ensures,
+      widths .expiry-width,
+      widths .birth-width,
     )
 
 pub put-dates-spec : {M : Type 1} → statement M

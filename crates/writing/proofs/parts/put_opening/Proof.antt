@@ -9,12 +9,14 @@ use Rattle.writing.proofs.parts.put_opening.Tie as tie
 returns : tie.Need-returns
 unfolding putOpening put placesOf
 returns c =
+    let early = c .before .before .before .before .before .before in
+    let widths = fixed (early .before .before .before .before .before .before .args .r .form) in
     rw (
       c .before .before .put-state .ensures,
-      c .before .before .before .before .before .before .put-code .ensures,
-      c .before .before .before .before .before .before .before .before .before .before .places .ensures,
-      fixed (c .before .before .before .before .before .before .before .before .before .before .before .before .args .r .form) .state-width,
-      fixed (c .before .before .before .before .before .before .before .before .before .before .before .before .args .r .form) .code-width,
+      early .put-code .ensures,
+      early .before .before .before .before .places .ensures,
+      widths .state-width,
+      widths .code-width,
     )
 
 pub put-opening-spec : {M : Type 1} → statement M

@@ -9,13 +9,14 @@ use Rattle.writing.proofs.parts.put_person.Tie as tie
 returns : tie.Need-returns
 unfolding putPerson put mark placesOf
 returns c =
+    let early = c .before .before .before .before .before .before .before .before .before .before .before in
     rw (
       c .before .before .put-name .ensures,
       c .before .before .before .name-width .ensures,
       c .before .before .before .before .before .before .before .put .ensures,
-      c .before .before .before .before .before .before .before .before .before .before .before .put-state .ensures,
-      c .before .before .before .before .before .before .before .before .before .before .before .before .before .before .before .places .ensures,
-      fixed (c .before .before .before .before .before .before .before .before .before .before .before .before .before .before .before .before .before .args .r .form) .nationality-width,
+      early .put-state .ensures,
+      early .before .before .before .before .places .ensures,
+      fixed (early .before .before .before .before .before .before .args .r .form) .nationality-width,
     )
 
 pub put-person-spec : {M : Type 1} → statement M

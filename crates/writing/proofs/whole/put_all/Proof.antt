@@ -7,13 +7,14 @@ use Rattle.writing.proofs.whole.put_all.Tie as tie
 returns : tie.Need-returns
 unfolding putAll
 returns c =
+    let early = c .before .before .before .before .before .before .before .before .before .before in
     rw (
       c .before .before .put-last .ensures,
       c .before .before .before .before .before .before .put-person .ensures,
-      c .before .before .before .before .before .before .before .before .before .before .put-dates .ensures,
-      c .before .before .before .before .before .before .before .before .before .before .before .before .before .before .put-number .ensures,
-      c .before .before .before .before .before .before .before .before .before .before .before .before .before .before .before .before .before .before .put-opening .ensures,
-      c .before .before .before .before .before .before .before .before .before .before .before .before .before .before .before .before .before .before .before .before .before .before .fill .ensures,
+      early .put-dates .ensures,
+      early .before .before .before .before .put-number .ensures,
+      early .before .before .before .before .before .before .before .before .put-opening .ensures,
+      early .before .before .before .before .before .before .before .before .before .before .before .before .fill .ensures,
     )
 
 pub put-all-spec : {M : Type 1} → statement M

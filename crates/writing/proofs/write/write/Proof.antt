@@ -9,7 +9,8 @@ use Rattle.writing.proofs.write.write.Statement.{statement}
 use Rattle.writing.proofs.write.write.Tie as tie
 
 slice-aggregate-put-all : tie.Need-slice-aggregate-put-all
-slice-aggregate-put-all c = front-length (c .before .before .before .before .text-length .result) (now (c .before .before .before .before .before .before .args .out)) (c .before .if2 .taken)
+slice-aggregate-put-all c = front-length (c .before .before .before .before .text-length .result)
+    (now (c .before .before .before .before .before .before .args .out)) (c .before .if2 .taken)
 
 returns : tie.Need-returns
 unfolding textAnswer textOut
@@ -17,7 +18,8 @@ returns c =
     let a = c .before .before .before .before .before .before .before .before .before .args in
     let n = c .before .before .before .before .before .before .before .text-length in
     let h = c .before .before .before .before .if2 .taken in
-    let sound = sym (c .before .before .before .before .before .before .is-sound .ensures) ∙ c .before .before .before .before .before .if1 .taken in
+    let sound = sym (c .before .before .before .before .before .before .is-sound .ensures)
+    ∙ c .before .before .before .before .before .if1 .taken in
     let fits = rw (n .ensures) at (le-leb _ _ h) in
     let put = c .before .before .put-all in
     record {
