@@ -3,13 +3,10 @@ use borrow.Author.Needs.{needs}
 use Rattle.lamphudet.proofs.lamphudet_group_file.Statement.{statement}
 use Rattle.lamphudet.proofs.lamphudet_group_file.Tie as tie
 
-returns : tie.Need-returns
-returns c = rw (c .stretch-in-c .ensures, c .before .group-stretch .ensures)
-
 pub lamphudet-group-file-spec : {M : Type 1} → statement M
 lamphudet-group-file-spec =
     tie.close
     (tie.spec
     (λ c κs. search needs)
     (λ c κs. search needs)
-    returns)
+    (λ c. rw (c .stretch-in-c .ensures, c .before .group-stretch .ensures)))

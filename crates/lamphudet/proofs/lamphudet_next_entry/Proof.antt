@@ -6,14 +6,11 @@ use Rattle.lamphudet.specs.Calls.{nextInC}
 use Rattle.lamphudet.proofs.lamphudet_next_entry.Statement.{statement}
 use Rattle.lamphudet.proofs.lamphudet_next_entry.Tie as tie
 
-returns : tie.Need-returns
-unfolding standingOf
-returns c = c .next-in-c .ensures ∙ ap (λ (a : Standing). nextInC (a .onward)) (c .before .next .ensures)
-
 pub lamphudet-next-entry-spec : {M : Type 1} → statement M
+unfolding standingOf
 lamphudet-next-entry-spec =
     tie.close
     (tie.spec
     (λ c κs. search needs)
     (λ c κs. search needs)
-    returns)
+    (λ c. c .next-in-c .ensures ∙ ap (λ (a : Standing). nextInC (a .onward)) (c .before .next .ensures)))

@@ -3,9 +3,6 @@ use borrow.Author.Needs.{needs}
 use Rattle.lamphudet.proofs.lamphudet_write_text.Statement.{statement}
 use Rattle.lamphudet.proofs.lamphudet_write_text.Tie as tie
 
-returns : tie.Need-returns
-returns c = let w = c .before .before .before .write-only .ensures in (rw (c .in-c .ensures, w .0), w .1)
-
 pub lamphudet-write-text-spec : {M : Type 1} → statement M
 lamphudet-write-text-spec =
     tie.close
@@ -13,4 +10,4 @@ lamphudet-write-text-spec =
     (λ c κs. search needs)
     (λ c κs. search needs)
     (λ c. search needs)
-    returns)
+    (λ c. let w = c .before .before .before .write-only .ensures in (rw (c .in-c .ensures, w .0), w .1)))

@@ -7,9 +7,6 @@ use Rattle.entry.proofs.Shifts.{power-kept-above, bits-read}
 use Rattle.entry.proofs.bits.bits.Statement.{statement}
 use Rattle.entry.proofs.bits.bits.Tie as tie
 
-rem-result : tie.Need-rem-result
-rem-result c = power-kept-above (c .before .before .before .before .before .args .width) (omega arith)
-
 returns : tie.Need-returns
 returns c =
     let a = c .before .before .before .before .before .args in
@@ -35,5 +32,5 @@ bits-spec =
     (λ c. search needs)
     (λ c. search needs)
     (λ c. search needs)
-    rem-result
+    (λ c. power-kept-above (c .before .before .before .before .before .args .width) (omega arith))
     returns)

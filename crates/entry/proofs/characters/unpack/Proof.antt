@@ -25,9 +25,6 @@ returns c =
     let l = c .before .before .loop in
     l .inv .3 ∙ unpack-ends (a .to .now) (now (a .s)) (a .at) (a .n) (l .i) (l .inv .0) (l .inv .1) (inl (c .if1 .taken))
 
-six-requires : tie.Need-six-requires Inv-loop μ-loop
-six-requires c κs = (omega arith, omega arith, omega arith)
-
 loop-again : tie.Need-loop-again Inv-loop μ-loop
 loop-again c =
     let a = c .before .before .before .before .before .before .before .args in
@@ -64,7 +61,7 @@ unpack-spec =
     returns
     (λ c. search needs)
     (λ c. search needs)
-    six-requires
+    (λ c κs. (omega arith, omega arith, omega arith))
     (λ c. search needs)
     (λ c. search needs)
     (λ c. search needs)

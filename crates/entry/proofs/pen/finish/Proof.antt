@@ -5,12 +5,6 @@ use Rattle.entry.proofs.Ink.{held-octet, finished-octet, finish-some, f
 use Rattle.entry.proofs.pen.finish.Statement.{statement}
 use Rattle.entry.proofs.pen.finish.Tie as tie
 
-returns : tie.Need-returns
-returns c = let a = c .before .before .before .args in finish-none (now (a .out)) (a .pen) (c .if1 .taken)
-
-raised-requires : tie.Need-raised-requires
-raised-requires c κs = let s = c .before .before .before .before in (held-octet (s .args .pen) (s .pre), search needs)
-
 cast-octet : tie.Need-cast-octet
 cast-octet c = let s = c .before .before .before .before .before in
     record { fits = rw (c .raised .ensures) (finished-octet (s .args .pen) (s .pre)) }
@@ -24,9 +18,9 @@ pub finish-spec : {M : Type 1} → statement M
 finish-spec =
     tie.close
     (tie.spec
-    returns
+    (λ c. let a = c .before .before .before .args in finish-none (now (a .out)) (a .pen) (c .if1 .taken))
     (λ c. search needs)
-    raised-requires
+    (λ c κs. let s = c .before .before .before .before in (held-octet (s .args .pen) (s .pre), search needs))
     cast-octet
     (λ c κs. search needs)
     (λ c. search needs)

@@ -5,9 +5,6 @@ use Rattle.entry.proofs.Ink.{held-octet, pushed-word, pushed-over, push
 use Rattle.entry.proofs.pen.push.Statement.{statement}
 use Rattle.entry.proofs.pen.push.Tie as tie
 
-raised-requires : tie.Need-raised-requires
-raised-requires c κs = let s = c .before in (held-octet (s .args .pen) (s .pre .0), s .pre .1)
-
 add-held : tie.Need-add-held
 add-held c = let s = c .before .before in
     record {
@@ -43,7 +40,7 @@ pub push-spec : {M : Type 1} → statement M
 push-spec =
     tie.close
     (tie.spec
-    raised-requires
+    (λ c κs. let s = c .before in (held-octet (s .args .pen) (s .pre .0), s .pre .1))
     add-held
     (λ c. search needs)
     returns

@@ -20,9 +20,6 @@ abbrev μ-loop : tie.MeasureT-loop
 loop-holds : tie.Need-loop-holds Inv-loop μ-loop
 loop-holds c = let s = c .before .before in (search needs, search needs, push-none (now (s .args .out)) (s .args .start) (s .pre))
 
-push-requires : tie.Need-push-requires Inv-loop μ-loop
-push-requires c κs = (c .before .before .before .before .loop .inv .2 .ready, search needs, c .before .code-of .ensures .1)
-
 loop-again : tie.Need-loop-again Inv-loop μ-loop
 loop-again c = let s = now (c .before .before .before .before .before .before .before .before .before .before .args .s) in
     let l = c .before .before .before .before .before .before .before .loop in (
@@ -47,7 +44,7 @@ push-all-spec =
     (λ c. search needs)
     (λ c κs. search needs)
     (λ c. search needs)
-    push-requires
+    (λ c κs. (c .before .before .before .before .loop .inv .2 .ready, search needs, c .before .code-of .ensures .1))
     (λ c. search needs)
     (λ c. search needs)
     loop-again

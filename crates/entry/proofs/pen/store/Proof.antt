@@ -8,9 +8,6 @@ use Rattle.entry.specs.Inner.Ink.{within, past}
 use Rattle.entry.proofs.pen.store.Statement.{statement}
 use Rattle.entry.proofs.pen.store.Tie as tie
 
-returns : tie.Need-returns
-returns c = (refl, within refl)
-
 returns-2 : tie.Need-returns-2
 returns-2 c = let a = c .before .args in
     (sym (set-out (now (a .out)) (a .at) (a .octet) (c .if1 .left)), past (omega arith) (c .if1 .left))
@@ -22,5 +19,5 @@ store-spec =
     (λ c. search needs)
     (λ c. search needs)
     (λ c. search needs)
-    returns
+    (λ c. (refl, within refl))
     returns-2)

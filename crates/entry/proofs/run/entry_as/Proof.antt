@@ -11,9 +11,6 @@ sound-entry-requires c κs =
     let kept = rw (c .before .is-whole .ensures, c .before .before .is-house .ensures) at (c .if1 .taken) in
     ((search needs, search needs, search needs), (c .before .before .before .before .bits .ensures, kept))
 
-returns : tie.Need-returns
-returns c = c .sound-entry .ensures
-
 returns-2 : tie.Need-returns-2
 unfolding houseIn isEntry entryBy
 returns-2 c =
@@ -34,5 +31,5 @@ entry-as-spec =
     (λ c κs. search needs)
     sound-entry-requires
     (λ c κs. search needs)
-    returns
+    (λ c. c .sound-entry .ensures)
     returns-2)

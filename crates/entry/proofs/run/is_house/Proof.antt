@@ -4,9 +4,6 @@ use Rattle.entry.specs.Entry.{isHouse}
 use Rattle.entry.proofs.run.is_house.Statement.{statement}
 use Rattle.entry.proofs.run.is_house.Tie as tie
 
-returns : tie.Need-returns
-unfolding isHouse
-returns c = refl
-
 pub is-house-spec : {M : Type 1} → statement M
-is-house-spec = tie.close (tie.spec returns)
+unfolding isHouse
+is-house-spec = tie.close (tie.spec (λ c. refl))

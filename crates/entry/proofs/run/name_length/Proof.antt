@@ -6,9 +6,11 @@ use Rattle.entry.proofs.Shifts.{bits-below}
 use Rattle.entry.proofs.run.name_length.Statement.{statement}
 use Rattle.entry.proofs.run.name_length.Tie as tie
 
-returns : tie.Need-returns
-unfolding nameLength
-returns c = (c .bits .ensures, rw (c .bits .ensures) (bits-below (now (c .before .before .args .s)) 272 6))
-
 pub name-length-spec : {M : Type 1} → statement M
-name-length-spec = tie.close (tie.spec (λ c κs. search needs) (λ c. search needs) returns)
+unfolding nameLength
+name-length-spec =
+    tie.close
+    (tie.spec
+    (λ c κs. search needs)
+    (λ c. search needs)
+    (λ c. (c .bits .ensures, rw (c .bits .ensures) (bits-below (now (c .before .before .args .s)) 272 6))))

@@ -4,9 +4,11 @@ use Rattle.entry.specs.Run.{standingOf, noEntry}
 use Rattle.entry.proofs.run.no_entry.Statement.{statement}
 use Rattle.entry.proofs.run.no_entry.Tie as tie
 
-returns : tie.Need-returns
-unfolding standingOf noEntry
-returns c = rw (c .blank .ensures, c .before .at .ensures)
-
 pub no-entry-spec : {M : Type 1} → statement M
-no-entry-spec = tie.close (tie.spec (λ c κs. search needs) (λ c κs. search needs) returns)
+unfolding standingOf noEntry
+no-entry-spec =
+    tie.close
+    (tie.spec
+    (λ c κs. search needs)
+    (λ c κs. search needs)
+    (λ c. rw (c .blank .ensures, c .before .at .ensures)))

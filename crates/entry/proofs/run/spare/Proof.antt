@@ -6,10 +6,6 @@ use Rattle.entry.specs.Run.{spare}
 use Rattle.entry.proofs.run.spare.Statement.{statement}
 use Rattle.entry.proofs.run.spare.Tie as tie
 
-sub-result : tie.Need-sub-result
-unfolding size
-sub-result c = omega (arith, c .before .size .ensures .0, c .name-end .ensures)
-
 returns : tie.Need-returns
 unfolding size spare
 returns c = (
@@ -19,11 +15,12 @@ returns c = (
 )
 
 pub spare-spec : {M : Type 1} → statement M
+unfolding size
 spare-spec =
     tie.close
     (tie.spec
     (λ c κs. search needs)
     (λ c. search needs)
     (λ c κs. search needs)
-    sub-result
+    (λ c. omega (arith, c .before .size .ensures .0, c .name-end .ensures))
     returns)

@@ -25,9 +25,6 @@ returns c =
     wrote-as (λ t. put-halves 7 8 (a .house) (put 3 (formCode (a .form)) t))
     (wrote-then (wrote-then (early .push .ensures) low) code)
 
-same-length : tie.Need-same-length
-same-length c = wrote-length (returns c)
-
 pub write-house-spec : {M : Type 1} → statement M
 write-house-spec =
     tie.close
@@ -38,5 +35,5 @@ write-house-spec =
     push-requires-2
     (λ c. search needs)
     (λ c κs. search needs)
-    same-length
+    (λ c. wrote-length (returns c))
     returns)

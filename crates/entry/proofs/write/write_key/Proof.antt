@@ -16,9 +16,6 @@ returns c =
     (wrote-then (second .push-all2 .ensures)
     (wrote-then (third .push-all3 .ensures) (c .before .before .push-all4 .ensures))))
 
-same-length : tie.Need-same-length
-same-length c = wrote-length (returns c)
-
 pub write-key-spec : {M : Type 1} → statement M
 write-key-spec =
     tie.close
@@ -28,5 +25,5 @@ write-key-spec =
     (λ c κs. search needs)
     (λ c κs. search needs)
     (λ c κs. search needs)
-    same-length
+    (λ c. wrote-length (returns c))
     returns)

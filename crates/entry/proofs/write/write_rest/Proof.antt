@@ -17,9 +17,6 @@ returns c =
     wrote-then (code .push-all .ensures)
     (wrote-then (nationality .push-all2 .ensures) (wrote-then sex (wrote-then (length .push2 .ensures) name)))
 
-same-length : tie.Need-same-length
-same-length c = wrote-length (returns c)
-
 pub write-rest-spec : {M : Type 1} → statement M
 write-rest-spec =
     tie.close
@@ -35,5 +32,5 @@ write-rest-spec =
     (λ c κs. search needs)
     (λ c κs. search needs)
     (λ c κs. search needs)
-    same-length
+    (λ c. wrote-length (returns c))
     returns)

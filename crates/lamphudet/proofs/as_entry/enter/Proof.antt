@@ -11,11 +11,8 @@ returns c =
     let w = c .before .before .write .ensures in
     (rw told (w .answer), rw told (w .output))
 
-returns-2 : tie.Need-returns-2
-unfolding enteredAnswer enteredOut
-returns-2 c = (rw (c .before .verdict .given .1), rw (c .before .verdict .given .1))
-
 pub enter-spec : {M : Type 1} → statement M
+unfolding enteredAnswer enteredOut
 enter-spec =
     tie.close
     (tie.spec
@@ -24,4 +21,4 @@ enter-spec =
     (λ c. search needs)
     (λ c. search needs)
     returns
-    returns-2)
+    (λ c. (rw (c .before .verdict .given .1), rw (c .before .verdict .given .1))))

@@ -4,9 +4,6 @@ use Rattle.lamphudet.specs.Answer.{inC}
 use Rattle.lamphudet.proofs.border.denied.Statement.{statement}
 use Rattle.lamphudet.proofs.border.denied.Tie as tie
 
-returns : tie.Need-returns
-unfolding inC
-returns c = rw (c .number .ensures)
-
 pub denied-spec : {M : Type 1} → statement M
-denied-spec = tie.close (tie.spec (λ c κs. search needs) returns)
+unfolding inC
+denied-spec = tie.close (tie.spec (λ c κs. search needs) (λ c. rw (c .number .ensures)))

@@ -6,13 +6,10 @@ use Rattle.lamphudet.specs.Calls.{stretchInC}
 use Rattle.lamphudet.proofs.border.stretch_in_c.Statement.{statement}
 use Rattle.lamphudet.proofs.border.stretch_in_c.Tie as tie
 
-returns : tie.Need-returns
-unfolding stretchInC
-returns c = refl
-
 returns-2 : tie.Need-returns-2
 unfolding stretchInC
 returns-2 c = let e : c .before .before .args .v .to - c .before .before .args .v .from ≡ 0 = omega (arith, c .if1 .left) in rw e
 
 pub stretch-in-c-spec : {M : Type 1} → statement M
-stretch-in-c-spec = tie.close (tie.spec returns returns-2)
+unfolding stretchInC
+stretch-in-c-spec = tie.close (tie.spec (λ c. refl) returns-2)

@@ -4,15 +4,12 @@ use Rattle.text.specs.Order.{digitAt}
 use Rattle.text.proofs.digits.field_digit.Statement.{statement}
 use Rattle.text.proofs.digits.field_digit.Tie as tie
 
-returns : tie.Need-returns
-unfolding digitAt
-returns c = rw (c .judged-digit .ensures, c .before .of .ensures, c .before .before .part .ensures)
-
 pub field-digit-spec : {M : Type 1} → statement M
+unfolding digitAt
 field-digit-spec =
     tie.close
     (tie.spec
     (λ c κs. search needs)
     (λ c κs. search needs)
     (λ c κs. search needs)
-    returns)
+    (λ c. rw (c .judged-digit .ensures, c .before .of .ensures, c .before .before .part .ensures)))

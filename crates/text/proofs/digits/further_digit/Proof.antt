@@ -32,11 +32,8 @@ returns-3 c =
       c .enum-told2 .given .1,
     )
 
-returns-4 : tie.Need-returns-4
-unfolding ifHas
-returns-4 c = rw (rw (c .before .optional-width .ensures) at (le-ltb _ _ (c .if1 .left)))
-
 pub further-digit-spec : {M : Type 1} → statement M
+unfolding ifHas
 further-digit-spec =
     tie.close
     (tie.spec
@@ -48,4 +45,4 @@ further-digit-spec =
     returns
     returns-2
     returns-3
-    returns-4)
+    (λ c. rw (rw (c .before .optional-width .ensures) at (le-ltb _ _ (c .if1 .left)))))

@@ -3,8 +3,10 @@ use borrow.Author.Needs.{needs}
 use Rattle.text.proofs.digits.judged_digit.Statement.{statement}
 use Rattle.text.proofs.digits.judged_digit.Tie as tie
 
-returns : tie.Need-returns
-returns c = rw (c .judged .ensures, c .before .octet .ensures)
-
 pub judged-digit-spec : {M : Type 1} → statement M
-judged-digit-spec = tie.close (tie.spec (λ c κs. search needs) (λ c κs. search needs) returns)
+judged-digit-spec =
+    tie.close
+    (tie.spec
+    (λ c κs. search needs)
+    (λ c κs. search needs)
+    (λ c. rw (c .judged .ensures, c .before .octet .ensures)))

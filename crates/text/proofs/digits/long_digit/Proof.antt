@@ -16,11 +16,8 @@ add-judged-digit c =
     let form = c .before .before .before .args .form in
     omega (arith, ap (λ (p : Places). p .optional) (c .before .places .ensures), within form optional, total-le form)
 
-returns : tie.Need-returns
-unfolding digitCheck furtherDigit digitAt placesOf
-returns c = rw (c .judged-digit .ensures, c .before .long-sum .ensures, c .before .before .before .places .ensures)
-
 pub long-digit-spec : {M : Type 1} → statement M
+unfolding digitCheck furtherDigit digitAt placesOf
 long-digit-spec =
     tie.close
     (tie.spec
@@ -28,4 +25,4 @@ long-digit-spec =
     add-judged-digit
     (λ c κs. search needs)
     (λ c κs. search needs)
-    returns)
+    (λ c. rw (c .judged-digit .ensures, c .before .long-sum .ensures, c .before .before .before .places .ensures)))

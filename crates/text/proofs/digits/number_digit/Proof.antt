@@ -17,15 +17,8 @@ returns c =
       fixed (c .before .before .before .before .before .args .form) .number-width,
     )
 
-returns-2 : tie.Need-returns-2
-unfolding digitCheck numberDigit
-returns-2 c = rw (c .enum-told2 .given .1)
-
-returns-3 : tie.Need-returns-3
-unfolding digitCheck numberDigit
-returns-3 c = rw (c .enum-told3 .given .1)
-
 pub number-digit-spec : {M : Type 1} → statement M
+unfolding digitCheck numberDigit
 number-digit-spec =
     tie.close
     (tie.spec
@@ -35,5 +28,5 @@ number-digit-spec =
     (λ c. search needs)
     (λ c. search needs)
     returns
-    returns-2
-    returns-3)
+    (λ c. rw (c .enum-told2 .given .1))
+    (λ c. rw (c .enum-told3 .given .1)))

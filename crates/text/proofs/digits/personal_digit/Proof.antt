@@ -14,11 +14,8 @@ returns c =
     let has = rw (c .before .before .personal-width .ensures) at (lt-ltb _ _ (c .before .if1 .taken)) in
     rw (c .field-digit .ensures, c .before .before .personal-width .ensures, c .before .before .before .places .ensures, has)
 
-returns-2 : tie.Need-returns-2
-unfolding ifHas
-returns-2 c = λ span. rw (rw (c .before .personal-width .ensures) at (le-ltb _ _ (c .if1 .left)))
-
 pub personal-digit-spec : {M : Type 1} → statement M
+unfolding ifHas
 personal-digit-spec =
     tie.close
     (tie.spec
@@ -26,4 +23,4 @@ personal-digit-spec =
     (λ c κs. search needs)
     (λ c κs. search needs)
     returns
-    returns-2)
+    (λ c. λ span. rw (rw (c .before .personal-width .ensures) at (le-ltb _ _ (c .if1 .left)))))

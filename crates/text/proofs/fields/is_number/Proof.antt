@@ -4,9 +4,11 @@ use Rattle.zone.specs.Alphabet.{isFiller}
 use Rattle.text.proofs.fields.is_number.Statement.{statement}
 use Rattle.text.proofs.fields.is_number.Tie as tie
 
-returns : tie.Need-returns
-unfolding isFiller
-returns c = rw (c .is-ended .ensures, c .before .octet .ensures)
-
 pub is-number-spec : {M : Type 1} → statement M
-is-number-spec = tie.close (tie.spec (λ c κs. search needs) (λ c κs. search needs) returns)
+unfolding isFiller
+is-number-spec =
+    tie.close
+    (tie.spec
+    (λ c κs. search needs)
+    (λ c κs. search needs)
+    (λ c. rw (c .is-ended .ensures, c .before .octet .ensures)))

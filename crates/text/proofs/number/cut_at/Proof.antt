@@ -23,13 +23,13 @@ cast-t9 c =
     let both = and-both (leb 2 (a .filler)) (ltb (a .filler) (wide .result)) (c .if1 .taken) in
     omega (arith, ltb-true (a .filler) (wide .result) (both .1), wide .ensures, within (a .form) optional, total-le (a .form))
 
-returns : tie.Need-returns
-unfolding cutAt
-returns c = rw (rw (c .before .optional-width .ensures) at (c .if1 .taken))
-
-returns-2 : tie.Need-returns-2
-unfolding cutAt
-returns-2 c = rw (rw (c .before .optional-width .ensures) at (c .if1 .left))
-
 pub cut-at-spec : {M : Type 1} → statement M
-cut-at-spec = tie.close (tie.spec (λ c κs. search needs) sub-t8 cast-t9 returns returns-2)
+unfolding cutAt
+cut-at-spec =
+    tie.close
+    (tie.spec
+    (λ c κs. search needs)
+    sub-t8
+    cast-t9
+    (λ c. rw (rw (c .before .optional-width .ensures) at (c .if1 .taken)))
+    (λ c. rw (rw (c .before .optional-width .ensures) at (c .if1 .left))))

@@ -4,9 +4,6 @@ use Rattle.text.specs.Read.{answerOf, answered}
 use Rattle.text.proofs.read.refuse.Statement.{statement}
 use Rattle.text.proofs.read.refuse.Tie as tie
 
-returns : tie.Need-returns
-unfolding answerOf answered
-returns c = rw (c .blank .ensures)
-
 pub refuse-spec : {M : Type 1} → statement M
-refuse-spec = tie.close (tie.spec (λ c κs. search needs) returns)
+unfolding answerOf answered
+refuse-spec = tie.close (tie.spec (λ c κs. search needs) (λ c. rw (c .blank .ensures)))

@@ -3,9 +3,6 @@ use borrow.Author.Needs.{needs}
 use Rattle.writing.proofs.fields.put_name.Statement.{statement}
 use Rattle.writing.proofs.fields.put_name.Tie as tie
 
-returns : tie.Need-returns
-returns c = rw (c .before .before .copy-at .ensures, c .before .before .before .part .ensures)
-
 pub put-name-spec : {M : Type 1} → statement M
 put-name-spec =
     tie.close
@@ -14,4 +11,4 @@ put-name-spec =
     (λ c κs. search needs)
     (λ c κs. search needs)
     (λ c. search needs)
-    returns)
+    (λ c. rw (c .before .before .copy-at .ensures, c .before .before .before .part .ensures)))

@@ -3,9 +3,6 @@ use borrow.Author.Needs.{needs}
 use Rattle.writing.proofs.number.nine_digit.Statement.{statement}
 use Rattle.writing.proofs.number.nine_digit.Tie as tie
 
-returns : tie.Need-returns
-returns c = rw (c .of .ensures, c .before .part .ensures)
-
 pub nine-digit-spec : {M : Type 1} → statement M
 nine-digit-spec =
     tie.close
@@ -13,4 +10,4 @@ nine-digit-spec =
     (λ c. search needs)
     (λ c κs. search needs)
     (λ c κs. search needs)
-    returns)
+    (λ c. rw (c .of .ensures, c .before .part .ensures)))
