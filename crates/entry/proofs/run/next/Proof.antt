@@ -7,14 +7,6 @@ use Rattle.lent.proofs.Lists.{rest-all}
 use Rattle.entry.proofs.run.next.Statement.{statement}
 use Rattle.entry.proofs.run.next.Tie as tie
 
-returns : tie.Need-returns
-unfolding standingOf readEntry
-returns c = rw (c .blank .ensures, eq-eqb _ _ (c .before .if1 .taken))
-
-returns-2 : tie.Need-returns-2
-unfolding readEntry
-returns-2 c = rw (c .no-entry .ensures, ne-eqb _ _ (c .before .before .if1 .left), lt-ltb _ _ (c .before .if2 .taken))
-
 returns-3 : tie.Need-returns-3
 unfolding readEntry
 returns-3 c =
@@ -27,13 +19,14 @@ returns-3 c =
     )
 
 pub next-spec : {M : Type 1} → statement M
+unfolding standingOf readEntry
 next-spec =
     tie.close
     (tie.spec
     (λ c κs. search needs)
-    returns
+    (λ c. rw (c .blank .ensures, eq-eqb _ _ (c .before .if1 .taken)))
     (λ c κs. search needs)
-    returns-2
+    (λ c. rw (c .no-entry .ensures, ne-eqb _ _ (c .before .before .if1 .left), lt-ltb _ _ (c .before .if2 .taken)))
     (λ c. search needs)
     (λ c. search needs)
     (λ c. search needs)
