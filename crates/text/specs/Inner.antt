@@ -1,2 +1,3 @@
 -- No words of the paper: what the promises of the code between are stated in.
 pub mod Checks
+pub mod Spans

@@ -7,6 +7,7 @@ ghost use Rattle.zone.specs.Part.{name};
 ghost use Rattle.zone.specs.Record.{padded, trimmed};
 ghost use Rattle.zone.specs.Rooms.{codeRoom, stateRoom, dateRoom, numberRoom, nameRoom};
 ghost use Rattle.text.specs.Number.{numberBy};
+ghost use Rattle.text.specs.Inner.Spans.{furtherIn};
 ghost use Rattle.text.specs.Read.{recordBy};
 use crate::number::Span;
 use zone::alphabet::FILLER;
@@ -64,17 +65,24 @@ fn joined<'a>(nine: &'a [u8], further: &'a [u8]) -> [u8; Form::NUMBER]
     room
 }
 
+// How many characters of the number stand in the optional field.
+fn further_in(span: Span) -> usize
+    ensures { λ r. ⌜ r ≡ furtherIn span ⌝ }
+{
+    match span {
+        Span::Short => 0,
+        Span::Long(further) => further as usize,
+        Span::Bad => 0,
+    }
+}
+
 fn number_chars(form: Form, text: &[u8], span: Span) -> [u8; Form::NUMBER]
     ensures { λ r. ⌜ r ≡ padded numberRoom (numberBy form (now (text .entry)) span) ⌝ }
 {
     let at = form.places();
     let nine = lent::part(text, at.number, Form::NINE);
     let optional = lent::part(text, at.optional, form.optional_width());
-    match span {
-        Span::Short => joined(nine, lent::part(optional, 0, 0)),
-        Span::Long(further) => joined(nine, lent::part(optional, 0, further as usize)),
-        Span::Bad => joined(nine, lent::part(optional, 0, 0)),
-    }
+    joined(nine, lent::part(optional, 0, further_in(span)))
 }
 
 fn number_length(form: Form, text: &[u8], span: Span) -> usize
