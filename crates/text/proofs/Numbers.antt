@@ -1,4 +1,4 @@
--- What a number leaves in its room: the nine and the further characters, whatever the span, since trailing fillers make no difference.
+-- What a number leaves in its room: the nine and the further characters, whatever the span.
 use Prim.Native.Nat.{ℕ}
 use mathlib.Core.Path.{_≡_, refl, ap, sym, _∙_}
 use mathlib.Core.List.{List, [], _++_, append-nil}
