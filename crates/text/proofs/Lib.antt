@@ -1,3 +1,3 @@
 -- The laws of this crate.
 pub mod Numbers  -- what a number leaves in its room
-pub mod Walks  -- the two orders in which the code joins its checks are the text order
+pub mod Walks  -- the order in which the code joins its checks is the text order

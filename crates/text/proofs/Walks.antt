@@ -1,8 +1,8 @@
--- The two orders in which the code joins its checks are the text order of the forms that it joins them so for.
-use Prim.Native.Nat.{ℕ, _<_, _≤_}
+-- The order in which the code joins its checks is the text order of each form.
+use Prim.Native.Nat.{ℕ}
 use mathlib.Core.Path.{_≡_}
 use mathlib.Core.List.{List}
-use native.Mathlib.Omega.{arith}
+use lib.Dec.{ltb}
 use Rattle.refusal.specs.Outcome.{Outcome, orElse}
 use Rattle.refusal.proofs.Outcomes.{orElse-assoc, orElse-passed}
 use Rattle.zone.specs.declared.form.Form.{Form}
@@ -10,7 +10,7 @@ use Rattle.zone.specs.declared.form.Form.the-variants.{Td1, Td2, Td3}
 use Rattle.zone.specs.Part.{Part, code, state, number, numberCheck, birth, birthCheck, sex, expiry, expiryCheck, nationality, composite, name, personal, personalCheck, optional, rank, same}
 use Rattle.zone.specs.Form.{layout, partOf, parts, start, startIn, width, widthIn}
 use Rattle.text.specs.Order.{fieldCheck, digitCheck, inOrder}
-use Rattle.text.specs.Inner.Checks.{ifHas}
+use Rattle.text.specs.Inner.Checks.{ifHas, inTurn}
 use Rattle.text.specs.declared.number.Span.{Span}
 
 -- what the code joins in every form: code and state, birth, sex and expiry
@@ -20,23 +20,15 @@ opening check = orElse (check code) (check state)
 abbrev person : (Part → Outcome) → Outcome
 person check = orElse (check birth) (orElse (check sex) (check expiry))
 
--- name before number: TD2 and TD3
-pub name-first : (f : Form) (t : List ℕ) (span : Span) → start f name < start f number → let check = fieldCheck f t span in
-    orElse (opening check) (orElse (check name) (orElse (check number) (orElse (check nationality) (person check))))
+-- the name and the nationality stand before number and person, TD2 and TD3, or behind them, TD1
+pub fields-in-order : (f : Form) (t : List ℕ) (span : Span) → let check = fieldCheck f t span in
+    let ahead = ltb (start f name) (start f number) in
+    orElse (opening check) (inTurn ahead (check name) (orElse (check number) (inTurn ahead (check nationality) (person check))))
     ≡ inOrder check (parts f)
-unfolding inOrder fieldCheck parts partOf layout start startIn rank same
-name-first Td1 t span h = absurd (omega arith)
-name-first Td2 t span h = simp (orElse-assoc, orElse-passed)
-name-first Td3 t span h = simp (orElse-assoc, orElse-passed)
-
--- name last: TD1
-pub name-last : (f : Form) (t : List ℕ) (span : Span) → start f number ≤ start f name → let check = fieldCheck f t span in
-    orElse (opening check) (orElse (check number) (orElse (person check) (orElse (check nationality) (check name))))
-    ≡ inOrder check (parts f)
-unfolding inOrder fieldCheck parts partOf layout start startIn rank same
-name-last Td1 t span h = simp (orElse-assoc, orElse-passed)
-name-last Td2 t span h = absurd (omega arith)
-name-last Td3 t span h = absurd (omega arith)
+unfolding inOrder inTurn fieldCheck parts partOf layout start startIn rank same
+fields-in-order Td1 t span = simp (orElse-assoc, orElse-passed)
+fields-in-order Td2 t span = simp (orElse-assoc, orElse-passed)
+fields-in-order Td3 t span = simp (orElse-assoc, orElse-passed)
 
 -- the dates' digits, and the last two: these too stand so in every form
 abbrev dates : (Part → Outcome) → Outcome
@@ -45,20 +37,12 @@ dates check = orElse (check birthCheck) (check expiryCheck)
 abbrev last : Form → (Part → Outcome) → Outcome
 last f check = orElse (ifHas f personal (check personalCheck)) (check composite)
 
--- the optional field before birth: TD1
-pub optional-first : (f : Form) (t : List ℕ) (span : Span) → start f optional < start f birth → let check = digitCheck f t span in
-    orElse (check numberCheck) (orElse (ifHas f optional (check optional)) (orElse (dates check) (last f check)))
+-- the optional field stands before birth, TD1, or behind expiry, or there is none
+pub digits-in-order : (f : Form) (t : List ℕ) (span : Span) → let check = digitCheck f t span in
+    let further = ifHas f optional (check optional) in
+    orElse (check numberCheck) (orElse (inTurn (ltb (start f optional) (start f birth)) further (dates check)) (last f check))
     ≡ inOrder check (parts f)
-unfolding inOrder digitCheck ifHas parts partOf layout start startIn width widthIn rank same
-optional-first Td1 t span h = simp (orElse-assoc, orElse-passed)
-optional-first Td2 t span h = absurd (omega arith)
-optional-first Td3 t span h = absurd (omega arith)
-
--- the optional field behind expiry, or none: TD2 and TD3
-pub optional-last : (f : Form) (t : List ℕ) (span : Span) → start f birth ≤ start f optional → let check = digitCheck f t span in
-    orElse (check numberCheck) (orElse (dates check) (orElse (ifHas f optional (check optional)) (last f check)))
-    ≡ inOrder check (parts f)
-unfolding inOrder digitCheck ifHas parts partOf layout start startIn width widthIn rank same
-optional-last Td1 t span h = absurd (omega arith)
-optional-last Td2 t span h = simp (orElse-assoc, orElse-passed)
-optional-last Td3 t span h = simp (orElse-assoc, orElse-passed)
+unfolding inOrder inTurn digitCheck ifHas parts partOf layout start startIn width widthIn rank same
+digits-in-order Td1 t span = simp (orElse-assoc, orElse-passed)
+digits-in-order Td2 t span = simp (orElse-assoc, orElse-passed)
+digits-in-order Td3 t span = simp (orElse-assoc, orElse-passed)

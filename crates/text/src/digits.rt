@@ -13,6 +13,7 @@ ghost use Rattle.text.specs.Inner.Checks.{ifHas};
 ghost use Rattle.text.specs.declared.number.Span.{Span};
 ghost use Rattle.text.specs.declared.number.Span.the-variants.{Long};
 use crate::number::Span;
+use crate::order::in_turn;
 use digit::Tally;
 use digit::composite::covered_digit;
 use refusal::Cause;
@@ -129,9 +130,5 @@ pub fn digits(form: Form, text: &[u8], span: Span) -> Verdict
     let further = further_digit(form, text, span);
     let dates = dates_digit(form, text);
     let last = personal_digit(form, text).or_else(composite_digit(form, text));
-    if at.optional < at.birth {
-        number.or_else(further.or_else(dates.or_else(last)))
-    } else {
-        number.or_else(dates.or_else(further.or_else(last)))
-    }
+    number.or_else(in_turn(at.optional < at.birth, further, dates).or_else(last))
 }

@@ -10,6 +10,7 @@ ghost use Rattle.text.specs.Number.{spanRule};
 ghost use Rattle.text.specs.Order.{fieldCheck, inOrder};
 ghost use Rattle.text.specs.declared.number.Span.{Span};
 use crate::number::Span;
+use crate::order::in_turn;
 use refusal::Cause;
 use refusal::Verdict;
 use zone::alphabet::FILLER;
@@ -148,9 +149,7 @@ pub fn fields(form: Form, text: &[u8], span: Span) -> Verdict
     let number = number_check(form, text, span);
     let nationality = nationality_check(form, text);
     let person = person_check(form, text);
-    if at.name < at.number {
-        opening.or_else(name.or_else(number.or_else(nationality.or_else(person))))
-    } else {
-        opening.or_else(number.or_else(person.or_else(nationality.or_else(name))))
-    }
+    let name_first = at.name < at.number;
+    let holder = number.or_else(in_turn(name_first, nationality, person));
+    opening.or_else(in_turn(name_first, name, holder))
 }

@@ -2,5 +2,6 @@
 mod digits;
 mod fields;
 pub mod number;
+mod order;
 pub mod read;
 mod record;

@@ -1,48 +1,29 @@
 -- The checks joined in the order of the form's layout.
 use borrow.Author.Needs.{needs}
 use denote.Ref.{now}
-use Rattle.text.proofs.Walks.{name-first, name-last}
 use Rattle.zone.specs.Form.{placesOf}
+use Rattle.text.proofs.Walks.{fields-in-order}
 use Rattle.text.proofs.fields.fields.Statement.{statement}
 use Rattle.text.proofs.fields.fields.Tie as tie
 
 returns : tie.Need-returns
 unfolding placesOf
 returns c =
-    let a = c .before .before .before .before .before .before .before .before .before .before .before .before .before .args in
+    let a = c .before .before .before .before .before .before .before .before .before .before .before .before .args in
+    let s = a .span in
     rw (
-      c .or-else4 .ensures,
-      c .before .or-else3 .ensures,
-      c .before .before .or-else2 .ensures,
-      c .before .before .before .or-else .ensures,
-      c .before .before .before .before .before .before .person-check .ensures (a .span),
-      c .before .before .before .before .before .before .before .nationality-check .ensures (a .span),
-      c .before .before .before .before .before .before .before .before .number-check .ensures,
-      c .before .before .before .before .before .before .before .before .before .name-check .ensures (a .span),
-      c .before .before .before .before .before .before .before .before .before .before .opening-check .ensures (a .span),
+      c .or-else2 .ensures,
+      c .before .in-turn2 .ensures,
+      c .before .before .or-else .ensures,
+      c .before .before .before .in-turn .ensures,
+      c .before .before .before .before .before .person-check .ensures s,
+      c .before .before .before .before .before .before .nationality-check .ensures s,
+      c .before .before .before .before .before .before .before .number-check .ensures,
+      c .before .before .before .before .before .before .before .before .name-check .ensures s,
+      c .before .before .before .before .before .before .before .before .before .opening-check .ensures s,
+      c .before .before .before .before .before .before .before .before .before .before .places .ensures,
     )
-    (name-first (a .form) (now (a .text)) (a .span)
-    (rw (c .before .before .before .before .before .before .before .before .before .before .before .places .ensures) at
-    (c .before .before .before .before .if1 .taken)))
-
-returns-2 : tie.Need-returns-2
-unfolding placesOf
-returns-2 c =
-    let a = c .before .before .before .before .before .before .before .before .before .before .before .before .before .args in
-    rw (
-      c .or-else8 .ensures,
-      c .before .or-else7 .ensures,
-      c .before .before .or-else6 .ensures,
-      c .before .before .before .or-else5 .ensures,
-      c .before .before .before .before .before .before .person-check .ensures (a .span),
-      c .before .before .before .before .before .before .before .nationality-check .ensures (a .span),
-      c .before .before .before .before .before .before .before .before .number-check .ensures,
-      c .before .before .before .before .before .before .before .before .before .name-check .ensures (a .span),
-      c .before .before .before .before .before .before .before .before .before .before .opening-check .ensures (a .span),
-    )
-    (name-last (a .form) (now (a .text)) (a .span)
-    (rw (c .before .before .before .before .before .before .before .before .before .before .before .places .ensures) at
-    (c .before .before .before .before .if1 .left)))
+    (fields-in-order (a .form) (now (a .text)) s)
 
 pub fields-spec : {M : Type 1} → statement M
 fields-spec =
@@ -58,9 +39,4 @@ fields-spec =
     (λ c κs. search needs)
     (λ c κs. search needs)
     (λ c κs. search needs)
-    (λ c κs. search needs)
-    (λ c κs. search needs)
-    (λ c κs. search needs)
-    (λ c κs. search needs)
-    returns
-    returns-2)
+    returns)
