@@ -13,7 +13,7 @@ infix 70 _of_
 pub data Cell : Type 0 where
   _of_ : Part → ℕ → Cell
 
--- all but the name, whose width is told by its length
+-- all but the name, whose width is told by its length. The first six are the key, thirty bytes.
 abbrev pub row : List Cell
 row =
     house of 15 ∷ form of 3 ∷ state of 18 ∷ number of 132 ∷ birth of 36 ∷ expiry of 36
@@ -49,6 +49,6 @@ widthIn (y of w ∷ cells) x = cond (eqb (rank x) (rank y)) w (widthIn cells x)
 abbrev pub width : Part → ℕ
 width x = widthIn row x
 
--- with a name of n characters, each of 6 bits
+-- 278 + 6n: an entry with a name of n characters, each of 6 bits
 abbrev pub allBits : ℕ → ℕ
 allBits n = start name + 6 * n

@@ -42,9 +42,9 @@ pub(crate) fn write_only(only: &[u8], out: &mut [u8]) -> Written
     ensures { λ w. ⌜ lengthOf w ≡ writtenAnswer (now (only .entry)) (now (out .entry)) ⌝ }
     ensures { λ _. ⌜ now (out .exit) ≡ writtenOut (now (only .entry)) (now (out .entry)) ⌝ }
 {
-    let found = entry::run::next(only, 0);
-    let kept = found.kept;
-    let step = found.step;
+    let standing = entry::run::next(only, 0);
+    let kept = standing.kept;
+    let step = standing.step;
     if is_only(step, only.len()) {
         writing::write::write(kept, out)
     } else {

@@ -69,8 +69,8 @@ pub extern "C" fn lamphudet_write_text(entry: &[u8], text: &mut [u8]) -> AnswerI
 pub extern "C" fn lamphudet_next_entry(run: &[u8], offset: u64) -> AnswerInC
     ensures { λ r. ⌜ r ≡ nextInC (readEntry (now (run .entry)) offset .onward) ⌝ }
 {
-    let found = entry::run::next(run, offset as usize);
-    let step = found.step;
+    let standing = entry::run::next(run, offset as usize);
+    let step = standing.step;
     next_in_c(step)
 }
 
