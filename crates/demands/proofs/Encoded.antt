@@ -1,6 +1,6 @@
 -- DEMAND 3, read and written again: where reading a run goes on, the octets that it passed over are the entry of the house and the record that it
 -- answered, which are kept ones; so a reader takes exactly what a writer gives.
-use Prim.Native.Nat.{ℕ, zero, suc, _+_, _-_, _*_, _^_, _≤_, _<_}
+use Prim.Native.Nat.{ℕ, _+_, _-_, _*_, _≤_, _<_}
 use mathlib.Core.Path.{_≡_, refl, ap, sym, _∙_}
 use mathlib.Core.Bool.{Bool, true, false, cond, _&&_}
 use mathlib.Core.List.{List, [], _++_}
@@ -19,6 +19,7 @@ use Rattle.zone.specs.Record.{padded, blank}
 use Rattle.zone.specs.Alphabet.{isCharacter, every}
 use Rattle.zone.proofs.Padded.{take-padded}
 use Rattle.sound.specs.Sound.{isSound}
+use Rattle.entry.proofs.Fields.{length-characters}
 use Rattle.entry.proofs.Shifts.{bits-below}
 use Rattle.entry.specs.Bits.{put, octets, bitsAt}
 use Rattle.entry.specs.Codes.{formCode, sexCode, sexBy}
@@ -38,11 +39,6 @@ take-bits n s h =
     let long : length (bitsOf (take n s)) ≡ 8 * n = length-bits (take n s) ∙ ap (λ (k : ℕ). 8 * k) (length-take-le n s h) in
     let parted : bitsOf s ≡ bitsOf (take n s) ++ bitsOf (drop n s) = ap bitsOf (sym (take-append-drop n s)) ∙ bits-append (take n s) (drop n s) in
     sym (ap (take (8 * n)) parted ∙ take-at (bitsOf (take n s)) (bitsOf (drop n s)) (8 * n) long)
-
-length-characters : (s : List ℕ) (k n : ℕ) → length (charactersAt s k n) ≡ n
-unfolding charactersAt
-length-characters s k zero = refl
-length-characters s k (suc n) = ap suc (length-characters s (k + 6) n)
 
 length-said : (s : List ℕ) (u : List ℕ) → put 6 (nameLength s) u ≡ put 6 (bitsAt s 272 6) u
 unfolding nameLength
