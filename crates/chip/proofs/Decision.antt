@@ -14,13 +14,14 @@ use Rattle.chip.specs.Told.{tableOf}
 use Rattle.chip.specs.Lent.{filesIn, filesBy}
 use Rattle.chip.specs.Presentation.{groupOne}
 use Rattle.chip.proofs.Sums.{table-has, table-length}
-use Rattle.chip.proofs.Lending.{refused-not-passed, table-decides}
+use Rattle.refusal.proofs.Outcomes.{refused-not-passed}
+use Rattle.chip.proofs.Lending.{table-decides}
 use Rattle.chip.proofs.First.{in-then}
 
 walked-all : (m : Read (List File)) → toldOf m ≡ passed → m ≡ value (filesIn m)
 unfolding toldOf filesIn
 walked-all (value fs) e = refl
-walked-all (refusal n p) e = absurd (refused-not-passed n p e)
+walked-all (refusal n p) e = absurd (refused-not-passed e)
 
 -- what is left to do once the entries are known
 unfoldable pub onward : List ℕ → List ℕ → ℕ → List Entry → Read Record
@@ -29,7 +30,7 @@ onward w tags at es = andThen (files w at) (λ fs. checked (filesCheck w tags []
 pub by-entries : (w tags : List ℕ) (at : ℕ) (x : Read (List Entry)) (table : List ℕ) → toldOf x ≡ passed → table ≡ tableOf x → toldOf (files w at) ≡ passed
     → checked (filesBy w tags table (filesIn (files w at))) (groupOne w (filesIn (files w at))) ≡ andThen x (λ es. onward w tags at es)
 unfolding andThen onward toldOf
-by-entries w tags at (refusal n p) table e d t = absurd (refused-not-passed n p e)
+by-entries w tags at (refusal n p) table e d t = absurd (refused-not-passed e)
 by-entries w tags at (value es) table e d t =
     let fs = filesIn (files w at) in
     let all = walked-all (files w at) t in

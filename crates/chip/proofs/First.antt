@@ -12,13 +12,14 @@ use Rattle.chip.specs.Outer.{File, fileAt, files}
 use Rattle.chip.specs.Lent.{filesIn}
 use Rattle.chip.specs.Presentation.{firstFile}
 use Rattle.chip.proofs.Walks.{files-done}
-use Rattle.chip.proofs.Lending.{refused-not-passed, in-next}
+use Rattle.refusal.proofs.Outcomes.{refused-not-passed}
+use Rattle.chip.proofs.Lending.{in-next}
 
 -- what goes on from files that were walked to the end
 pub in-then : {B : Type 0} (m : Read (List File)) (go : List File → Read B) → toldOf m ≡ passed → andThen m go ≡ go (filesIn m)
 unfolding toldOf andThen filesIn
 in-then (value fs) go e = refl
-in-then (refusal n p) go e = absurd (refused-not-passed n p e)
+in-then (refusal n p) go e = absurd (refused-not-passed e)
 
 module _ (w : List ℕ) (group at : ℕ) (t : toldOf (files w at) ≡ passed) where
   pub first-here : (v : Stretch) → at < length w → fileAt w at ≡ value v → groupOf (getD w at 0) ≡ group

@@ -21,11 +21,9 @@ use Rattle.chip.specs.Object.{Entry}
 use Rattle.sha256.specs.Hash.{sha256}
 use Rattle.chip.specs.Files.{fileOctets, digestFor, isExpected, isDigested, fileCheck, filesCheck}
 use Rattle.chip.specs.Lent.{filesIn, fileBy, filesBy}
+use Rattle.refusal.proofs.Outcomes.{refused-not-passed}
 use Rattle.tlv.proofs.Told.{never-value, same-value, first-value, checked-value}
-use Rattle.chip.proofs.Walks.{before, files-next, files-refused, files-done}
-
-pub refused-not-passed : (n p : ℕ) → refused n p ≡ passed → ⊥
-refused-not-passed n p e = let z : _≡_ {A = ℕ} 0 1 = cc in omega arith
+use Rattle.chip.proofs.Walks.{before, group-there, files-next, files-refused, files-done}
 
 -- ---- one file after the other
 
@@ -33,7 +31,7 @@ in-before : (at : ℕ) (v : Stretch) (rest : Read (List File)) → toldOf (befor
     → (filesIn (before at v rest) ≡ record { start = at; held = v } ∷ filesIn rest) × (toldOf rest ≡ passed)
 unfolding before filesIn toldOf andThen
 in-before at v (value fs) e = (refl, refl)
-in-before at v (refusal n p) e = absurd (refused-not-passed n p e)
+in-before at v (refusal n p) e = absurd (refused-not-passed e)
 
 pub in-next : (w : List ℕ) (at : ℕ) (v : Stretch) → at < length w → fileAt w at ≡ value v → toldOf (files w at) ≡ passed
     → (filesIn (files w at) ≡ record { start = at; held = v } ∷ filesIn (files w (v .to))) × (toldOf (files w (v .to)) ≡ passed)
@@ -49,7 +47,7 @@ walked-files w o e =
     let one = first-value (element w 0 96) _ o (checked-value (sizeCheck w) (outer w) o e .1) in
     let two = first-value (element w (one .0 .to) 48) _ o (one .2) in
     let three = first-value (files w (two .0 .to)) _ o (two .2) in
-    let q : two .0 ≡ o .object = ap (λ (x : Outer). x .object) (same-value _ o (three .2)) in
+    let q : two .0 ≡ o .object = ap (λ (x : Outer). x .object) (same-value (three .2)) in
     rw (← q, three .1)
 
 -- ---- every file walked has a group's tag
@@ -58,17 +56,9 @@ allGroups : List ℕ → List File → Bool
 allGroups w [] = true
 allGroups w (f ∷ fs) = isGroup (getD w (f .start) 0) && allGroups w fs
 
-group-there : (w : List ℕ) (at : ℕ) (v : Stretch) → fileAt w at ≡ value v → isGroup (getD w at 0) ≡ true
-unfolding fileAt
-group-there w at v e = go (isGroup (getD w at 0)) e
-  where
-    go : (b : Bool) → cond b (element w at (getD w at 0)) (refusal 10 at) ≡ value v → b ≡ true
-    go true h = refl
-    go false h = absurd (never-value 10 at v h)
-
 all-groups : (k : ℕ) (w : List ℕ) (at : ℕ) (fs : List File) → filesFrom k w at ≡ value fs → allGroups w fs ≡ true
 unfolding filesFrom allGroups
-all-groups zero w at fs e = rw (← same-value [] fs e)
+all-groups zero w at fs e = rw (← same-value e)
 all-groups (suc k) w at fs e = go (leb (length w) at) e (λ v more h. all-groups k w (v .to) more h)
   where
     rest : Read (List File)
@@ -77,11 +67,11 @@ all-groups (suc k) w at fs e = go (leb (length w) at) e (λ v more h. all-groups
     go : (b : Bool) → cond b (value []) rest ≡ value fs
         → ((v : Stretch) (more : List File) → filesFrom k w (v .to) ≡ value more → allGroups w more ≡ true)
         → allGroups w fs ≡ true
-    go true h ih = rw (← same-value [] fs h)
+    go true h ih = rw (← same-value h)
     go false h ih =
         let one = first-value (fileAt w at) _ fs h in
         let two = first-value (filesFrom k w (one .0 .to)) _ fs (one .2) in
-        let q = same-value _ fs (two .2) in
+        let q = same-value (two .2) in
         rw (← q, group-there w at (one .0) (one .1)) (ih (one .0) (two .0) (two .1))
 
 -- ---- a group's tag is told by its number
@@ -213,7 +203,7 @@ module _ (w tags table : List ℕ) (at : ℕ) (t : toldOf (files w at) ≡ passe
   -- no file fails to be one
   pub lent-never : (n p : ℕ) → at < length w → fileAt w at ≡ refusal n p → ⊥
   unfolding toldOf
-  lent-never n p h e = refused-not-passed n p (sym (ap toldOf (files-refused w at n p h e)) ∙ t)
+  lent-never n p h e = refused-not-passed (sym (ap toldOf (files-refused w at n p h e)) ∙ t)
 
   -- none is left
   pub lent-done : length w ≤ at → passed ≡ filesBy w tags table (filesIn (files w at))

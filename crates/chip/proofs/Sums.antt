@@ -1,6 +1,6 @@
 -- What was seen of the entries decides as the list of entries does: the first repeated number, how many there are, and each group's digest.
 use Prim.Native.Nat.{ℕ, zero, suc, _+_, _≤_, _<_}
-use mathlib.Core.Path.{_≡_, refl, ap, sym, _∙_}
+use mathlib.Core.Path.{_≡_, refl, ap, sym, _∙_, subst}
 use mathlib.Core.Bool.{Bool, true, false, cond, not}
 use mathlib.Core.List.{List, [], _∷_}
 use native.Mathlib.Nat.{zero-add, add-zero}
@@ -18,7 +18,8 @@ use Rattle.chip.specs.Object.{Entry, entryAt, entriesFrom, numbersOnce, 
 use Rattle.chip.specs.Files.{digestFor}
 use Rattle.chip.specs.Told.{none, isNew, counted, tallied, tallyFrom, seenIn, seenCheck, digestsFrom, tableOf, Told, told, settled}
 use Rattle.chip.proofs.Tags.{Marks, none-marked, one-marked}
-use Rattle.chip.proofs.Behind.{Sound, entry-stands, by-step}
+use Rattle.tlv.proofs.Told.{same-value, first-value}
+use Rattle.chip.proofs.Behind.{Sound, entry-stands}
 use Rattle.chip.proofs.Tally.{entries-enough}
 
 -- ---- entries that were read
@@ -27,30 +28,20 @@ unfoldable pub AllSound : List Entry → Type 0
 AllSound [] = Unit {0}
 AllSound (e ∷ es) = Sound e × AllSound es
 
-value-list : (u v : List Entry) → value u ≡ value v → u ≡ v
-value-list u v e = ap held e
-  where
-    held : Read (List Entry) → List Entry
-    held (value a) = a
-    held (refusal n p) = u
-
-sound-from : (u v : List Entry) → value u ≡ value v → AllSound u → AllSound v
-sound-from u v e h = rw (value-list u v e) at h
-
 pub all-sound : (k : ℕ) (s : List ℕ) (at : ℕ) (es : List Entry) → entriesFrom k s at ≡ value es → AllSound es
 unfolding entriesFrom AllSound
-all-sound zero s at es h = sound-from [] es h tt
+all-sound zero s at es h = subst AllSound (same-value h) tt
 all-sound (suc k) s at es h = go (leb (length s) at) h (λ from rest. all-sound k s from rest)
   where
     go : (b : Bool)
         → cond b (value []) (andThen (entryAt s at) (λ e. andThen (entriesFrom k s (e .end)) (λ rest. value (e ∷ rest)))) ≡ value es
         → ((from : ℕ) (rest : List Entry) → entriesFrom k s from ≡ value rest → AllSound rest)
         → AllSound es
-    go true q below = sound-from [] es q tt
+    go true q below = subst AllSound (same-value q) tt
     go false q below =
-        by-step (entryAt s at) _ es q (λ e read went.
-        by-step (entriesFrom k s (e .end)) _ es went (λ rest inner join.
-        sound-from (e ∷ rest) es join (entry-stands s at e read .2, below (e .end) rest inner)))
+        let one = first-value (entryAt s at) _ es q in
+        let more = first-value (entriesFrom k s (one .0 .end)) _ es (one .2) in
+        subst AllSound (same-value (more .2)) (entry-stands s at (one .0) (one .1) .2, below (one .0 .end) (more .0) (more .1))
 
 -- ---- one entry more
 

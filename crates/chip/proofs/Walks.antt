@@ -11,7 +11,8 @@ use Rattle.tlv.specs.declared.Stretch.{Stretch}
 use Rattle.tlv.specs.Read.{Read, value, refusal, andThen, toldOf}
 use Rattle.tlv.specs.Element.{element}
 use Rattle.tlv.proofs.Steps.{steps-enough}
-use Rattle.tlv.proofs.Past.{ends-behind, refusal-not-value}
+use Rattle.tlv.proofs.Told.{kept-value}
+use Rattle.tlv.proofs.Past.{value-within}
 use Rattle.chip.specs.Groups.{isGroup}
 use Rattle.chip.specs.Outer.{File, fileAt, filesFrom, files}
 
@@ -20,14 +21,17 @@ unfolding toldOf andThen
 told-then (value a) go = refl
 told-then (refusal n p) go = refl
 
+-- the element that a file is, and its group
+file-there : (w : List ℕ) (at : ℕ) (v : Stretch) → fileAt w at ≡ value v → (isGroup (getD w at 0) ≡ true) × (element w at (getD w at 0) ≡ value v)
+unfolding fileAt
+file-there w at v e = kept-value (isGroup (getD w at 0)) (element w at (getD w at 0)) 10 at v e
+
+pub group-there : (w : List ℕ) (at : ℕ) (v : Stretch) → fileAt w at ≡ value v → isGroup (getD w at 0) ≡ true
+group-there w at v e = file-there w at v e .0
+
 -- a file ends behind its start
 pub file-behind : (w : List ℕ) (at : ℕ) (v : Stretch) → fileAt w at ≡ value v → (at < v .to) × (v .to ≤ length w)
-unfolding fileAt
-file-behind w at v e = go (isGroup (getD w at 0)) e
-  where
-    go : (b : Bool) → cond b (element w at (getD w at 0)) (refusal 10 at) ≡ value v → (at < v .to) × (v .to ≤ length w)
-    go true h = ends-behind w at (getD w at 0) v h
-    go false h = absurd (refusal-not-value 10 at v h)
+file-behind w at v e = let k = value-within w at (getD w at 0) v (file-there w at v e .1) in (omega (arith, k .0, k .1), k .2)
 
 -- a file before those that follow it
 unfoldable pub before : ℕ → Stretch → Read (List File) → Read (List File)

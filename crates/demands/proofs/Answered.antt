@@ -27,7 +27,7 @@ use Rattle.demands.specs.Answered.{Accepted, of-text, of-presentation}
 use Rattle.demands.proofs.Record.{kept-and-sound}
 use Rattle.demands.proofs.Keys.{key-exactly}
 use Rattle.demands.proofs.Unique.{answer-tells}
-use Rattle.demands.proofs.Elements.{then-value, checked-value}
+use Rattle.tlv.proofs.Told.{first-value, checked-value}
 use Rattle.demands.proofs.GroupOne.{passed-moved}
 use Rattle.demands.proofs.Presented.{from-files, from-object, from-common, passed-value}
 
@@ -35,7 +35,7 @@ use Rattle.demands.proofs.Presented.{from-files, from-object, from-comm
 text-held : (s : List ℕ) (at : ℕ) (r : Record) → textAt s at ≡ value r → (t : List ℕ) × (readText t .outcome ≡ passed) × (readText t .kept ≡ r)
 unfolding textAt
 text-held s at r e =
-    let a = then-value (element s at 24351) (λ (u : Stretch). checked (endCheck s (u .to)) (moved (u .from) (readText (cut s u)))) r e in
+    let a = first-value (element s at 24351) (λ (u : Stretch). checked (endCheck s (u .to)) (moved (u .from) (readText (cut s u)))) r e in
     let v = a .0 in
     let t = cut s v in
     let b = checked-value (endCheck s (v .to)) (moved (v .from) (readText t)) r (a .2) in
@@ -45,15 +45,15 @@ text-held s at r e =
 group-held : (w : List ℕ) (fs : List File) (r : Record) → groupOne w fs ≡ value r → (t : List ℕ) × (readText t .outcome ≡ passed) × (readText t .kept ≡ r)
 unfolding groupOne
 group-held w fs r e =
-    let a = then-value (firstFile w 1 fs) (λ (f : File). textAt (take (f .held .to) w) (f .held .from)) r e in
+    let a = first-value (firstFile w 1 fs) (λ (f : File). textAt (take (f .held .to) w) (f .held .from)) r e in
     text-held (take (a .0 .held .to) w) (a .0 .held .from) r (a .2)
 
 decided-held : (w : List ℕ) (o : Outer) (r : Record) → decided w o ≡ value r → (t : List ℕ) × (readText t .outcome ≡ passed) × (readText t .kept ≡ r)
 unfolding decided
 decided-held w o r e =
-    let a = then-value (common w (o .efcom)) (from-common w o) r e in
-    let b = then-value (object w (o .object)) (from-object w o (a .0)) r (a .2) in
-    let c = then-value (files w (o .object .to)) (from-files w o (a .0) (b .0)) r (b .2) in
+    let a = first-value (common w (o .efcom)) (from-common w o) r e in
+    let b = first-value (object w (o .object)) (from-object w o (a .0)) r (a .2) in
+    let c = first-value (files w (o .object .to)) (from-files w o (a .0) (b .0)) r (b .2) in
     let d = checked-value (filesCheck w (cut w (a .0)) [] (b .0) (c .0)) (groupOne w (c .0)) r (c .2) in
     group-held w (c .0) r (d .1)
 
@@ -62,7 +62,7 @@ pub presentation-held : (w : List ℕ) → readPresentation w .outcome ≡ passe
 unfolding readPresentation readStages
 presentation-held w e =
     let a = passed-value (readStages w) e in
-    let b = then-value (walked w) (λ (o : Outer). decided w o) (a .0) (a .1) in
+    let b = first-value (walked w) (λ (o : Outer). decided w o) (a .0) (a .1) in
     let t = decided-held w (b .0) (a .0) (b .2) in
     (t .0, t .1, a .2 ∙ sym (t .2))
 

@@ -18,7 +18,7 @@ use Rattle.chip.specs.Object.{Entry}
 use Rattle.chip.specs.Files.{fileOctets, digestFor, isExpected, isDigested, fileCheck, filesCheck}
 use Rattle.demands.specs.Presented.{Signed, Lent, fileOf, isIn, isOnce, numbers, tagsOf}
 use Rattle.demands.proofs.Span.{false-not-true}
-use Rattle.demands.proofs.Walk.{both-passed, unless-kept, kept-unless}
+use Rattle.refusal.proofs.Outcomes.{both-passed, unless-kept, kept-unless}
 use Rattle.demands.proofs.Repeated.{onceAfter, not-kept, stands-later}
 use Rattle.demands.proofs.Elements.{alike-same, same-alike}
 use Rattle.demands.proofs.Signed.{signedAt, signedIn, heldIn}

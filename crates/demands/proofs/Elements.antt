@@ -15,40 +15,12 @@ use Rattle.zone.specs.Alphabet.{every}
 use Rattle.tlv.specs.declared.Stretch.{Stretch}
 use Rattle.tlv.specs.Read.{Read, value, refusal, andThen, checked}
 use Rattle.tlv.specs.Element.{tlv, element}
-use Rattle.tlv.proofs.Encoded.{refusal-not-value, Stands, reads, back, length-tlv, some-head}
+use Rattle.tlv.proofs.Told.{never-value}
+use Rattle.tlv.proofs.Encoded.{Stands, reads, back, length-tlv, some-head}
 use Rattle.chip.specs.Cut.{cut, hasOctets, alike, endCheck}
 use Rattle.demands.specs.Runs.{isOctet, areOctets}
-use Rattle.demands.proofs.Walk.{unless-kept, kept-unless}
+use Rattle.refusal.proofs.Outcomes.{unless-kept, kept-unless}
 use Rattle.demands.proofs.Endings.{every-take}
-
--- ---- steps
-
-pub then-value : {A B : Type 0} (m : Read A) (go : A → Read B) (b : B) → andThen m go ≡ value b → (a : A) × (m ≡ value a) × (go a ≡ value b)
-unfolding andThen
-then-value (value a) go b e = (a, refl, e)
-then-value (refusal n p) go b e = absurd (refusal-not-value n p b e)
-
-pub value-then : {A B : Type 0} (m : Read A) (go : A → Read B) (a : A) (r : Read B) → m ≡ value a → go a ≡ r → andThen m go ≡ r
-unfolding andThen
-value-then m go a r e f = rw e f
-
--- what goes on from a value that is known
-pub then-known : {A B : Type 0} (m : Read A) (go : A → Read B) (a : A) (r : Read B) → m ≡ value a → andThen m go ≡ r → go a ≡ r
-unfolding andThen
-then-known m go a r e f = rw e at f
-
--- a reading gives one value
-pub one-value : {A : Type 0} (m : Read A) (a b : A) → m ≡ value a → m ≡ value b → a ≡ b
-one-value m a b e f = cc
-
-pub checked-value : {A : Type 0} (o : Outcome) (m : Read A) (a : A) → checked o m ≡ value a → (o ≡ passed) × (m ≡ value a)
-unfolding checked
-checked-value passed m a e = (refl, e)
-checked-value (refused n p) m a e = absurd (refusal-not-value n p a e)
-
-pub value-checked : {A : Type 0} (o : Outcome) (m r : Read A) → o ≡ passed → m ≡ r → checked o m ≡ r
-unfolding checked
-value-checked o m r e f = rw e f
 
 -- ---- elements
 

@@ -14,14 +14,15 @@ use Rattle.refusal.specs.Outcome.{Outcome, passed, refused, unless, orElse}
 use Rattle.tlv.specs.declared.Stretch.{Stretch}
 use Rattle.tlv.specs.Read.{Read, value, andThen, checked}
 use Rattle.tlv.specs.Element.{tlv, element}
-use Rattle.tlv.proofs.Encoded.{inside, same-value, length-tlv, some-head}
+use Rattle.tlv.proofs.Told.{same-value, first-value, value-then, checked-value, value-checked}
+use Rattle.tlv.proofs.Encoded.{inside, length-tlv, some-head}
 use Rattle.chip.specs.Cut.{cut, stands, endCheck}
 use Rattle.chip.specs.Object.{Entry, entryAt, entriesFrom, numbersOnce, count, entriesCheck, entryList}
 use Rattle.demands.specs.Runs.{areOctets}
 use Rattle.demands.specs.Presented.{Signed, signedOf, allSigned, isIn, isOnce, numbers, EntryKept}
-use Rattle.demands.proofs.Walk.{refused-not-passed, both-passed, unless-kept}
+use Rattle.refusal.proofs.Outcomes.{refused-not-passed, both-passed, unless-kept}
 use Rattle.demands.proofs.Repeated.{onceAfter, once-none, none-once, not-kept}
-use Rattle.demands.proofs.Elements.{then-value, value-then, checked-value, value-checked, take-octets, take-most, read-element, last-read, place-behind, nothing-left, left-nothing}
+use Rattle.demands.proofs.Elements.{take-octets, take-most, read-element, last-read, place-behind, nothing-left, left-nothing}
 use Rattle.demands.proofs.Signed.{signedAt, signedIn, heldIn, signed-before, held-more, EntryRead, entry-read, read-entry}
 
 -- ---- entries, one behind the other
@@ -70,10 +71,10 @@ entries-read (suc more) s at es small h k e =
         → EntriesRead s at es
     go true p f rest = subst (EntriesRead s at) (same-value f) (no-entries s at (leb-true (length s) at p))
     go false p f rest =
-        let a = then-value (entryAt s at) onwards es f in
+        let a = first-value (entryAt s at) onwards es f in
         let x = a .0 in
         let r = entry-read s at small x (a .1) in
-        let b = then-value (entriesFrom more s (x .end)) (λ (q : List Entry). value (x ∷ q)) es (a .2) in
+        let b = first-value (entriesFrom more s (x .end)) (λ (q : List Entry). value (x ∷ q)) es (a .2) in
         let last = rest (x .end) (b .0) (r .entry-ends) (omega (arith, r .entry-behind)) (b .1) in
         subst (EntriesRead s at) (same-value (b .2)) (more-entries s at x (b .0) r last)
 
@@ -180,10 +181,10 @@ module _ (s : List ℕ) (at : ℕ) where
       → (drop at s ≡ tlv 48 (allSigned (signedIn s es))) × SignedKept (signedIn s es) × (heldIn (length s) es ≡ true)
   unfolding entryList
   list-of-entries small es e =
-      let a = then-value (element s at 48) then-entries es e in
+      let a = first-value (element s at 48) then-entries es e in
       let v = a .0 in
       let t = take (v .to) s in
-      let b = then-value (entriesFrom (length s) t (v .from)) (then-checks v) es (a .2) in
+      let b = first-value (entriesFrom (length s) t (v .from)) (then-checks v) es (a .2) in
       let x = b .0 in
       let c = checked-value (entriesCheck x at) (checked (endCheck s (v .to)) (value x)) es (b .2) in
       let d = checked-value (endCheck s (v .to)) (value x) es (c .1) in

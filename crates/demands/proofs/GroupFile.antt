@@ -15,7 +15,7 @@ use Rattle.lent.proofs.Bools.{and-both}
 use Rattle.tlv.specs.declared.Stretch.{Stretch}
 use Rattle.tlv.specs.Read.{Read, value, refusal, andThen}
 use Rattle.tlv.specs.Element.{tlv}
-use Rattle.tlv.proofs.Encoded.{same-value}
+use Rattle.tlv.proofs.Told.{same-value, first-value, then-known, value-then}
 use Rattle.chip.specs.declared.outer.Outer.{Outer}
 use Rattle.chip.specs.Cut.{cut}
 use Rattle.chip.specs.Groups.{groupOf, isGroup}
@@ -24,7 +24,7 @@ use Rattle.chip.specs.Presentation.{firstFile, fileOrNone, groupStretch}
 use Rattle.demands.specs.Runs.{areOctets}
 use Rattle.demands.specs.Presented.{Lent, fileOf, allLent, isIn, Outside, NoFile, FirstFile, placeOf}
 use Rattle.demands.proofs.Span.{false-not-true}
-use Rattle.demands.proofs.Elements.{then-value, then-known, value-then, to-behind}
+use Rattle.demands.proofs.Elements.{to-behind}
 use Rattle.demands.proofs.Lent.{lentAt, lentIn, FileStands, EachGroup, some-file, read-file, behind-file}
 use Rattle.demands.proofs.Outer.{Walked, walked-parts, parts-walked}
 
@@ -73,7 +73,7 @@ step more w at l rest fs most g e f =
         → drop (held .to) w ≡ rest → andThen (fileAt w at) onwards ≡ value fs → Step w at more l rest fs
     go held a b c d h =
         let k = then-known (fileAt w at) onwards held (value fs) a h in
-        let m = then-value (filesFrom more w (held .to)) (λ (q : List File). value (record { start = at; held = held } ∷ q)) fs k in
+        let m = first-value (filesFrom more w (held .to)) (λ (q : List File). value (record { start = at; held = held } ∷ q)) fs k in
         step-so more w at l rest fs held (m .0) b c d (m .1) (m .2)
 
 -- ---- the first file of a group

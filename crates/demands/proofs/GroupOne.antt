@@ -15,7 +15,8 @@ use Rattle.text.specs.Read.{readText}
 use Rattle.tlv.specs.declared.Stretch.{Stretch}
 use Rattle.tlv.specs.Read.{value, checked}
 use Rattle.tlv.specs.Element.{tlv, element}
-use Rattle.tlv.proofs.Encoded.{inside, same-value, refusal-not-value}
+use Rattle.tlv.proofs.Told.{same-value, never-value, first-value, value-then, checked-value, value-checked}
+use Rattle.tlv.proofs.Encoded.{inside}
 use Rattle.chip.specs.Cut.{cut, stands, endCheck}
 use Rattle.chip.specs.Groups.{groupOf}
 use Rattle.chip.specs.Outer.{File}
@@ -24,7 +25,7 @@ use Rattle.demands.specs.Runs.{areOctets}
 use Rattle.demands.specs.Presented.{Lent, isIn, isOnce, tagsOf}
 use Rattle.demands.proofs.Span.{false-not-true}
 use Rattle.demands.proofs.Repeated.{stands-later}
-use Rattle.demands.proofs.Elements.{then-value, value-then, checked-value, value-checked, take-octets, take-most, read-element, last-read, cut-there, place-behind, nothing-left, left-nothing}
+use Rattle.demands.proofs.Elements.{take-octets, take-most, read-element, last-read, cut-there, place-behind, nothing-left, left-nothing}
 use Rattle.demands.proofs.Lent.{lentAt, lentIn, FileStands, EachStands}
 
 -- ---- the tag of group 1
@@ -55,7 +56,7 @@ tag-one = refl
 pub passed-moved : (at : ℕ) (o : Outcome) (k r : Record) → moved at (record { outcome = o; kept = k }) ≡ value r → (o ≡ passed) × (k ≡ r)
 unfolding moved checked
 passed-moved at passed k r e = (refl, same-value e)
-passed-moved at (refused n p) k r e = absurd (refusal-not-value n (at + p) r e)
+passed-moved at (refused n p) k r e = absurd (never-value n (at + p) r e)
 
 moved-passed : (at : ℕ) (o : Outcome) (k : Record) → o ≡ passed → moved at (record { outcome = o; kept = k }) ≡ value k
 unfolding moved checked
@@ -65,7 +66,7 @@ module _ (s : List ℕ) (at : ℕ) where
   text-read : areOctets s → (r : Record) → textAt s at ≡ value r → (t : List ℕ) × (drop at s ≡ tlv 24351 t) × (readText t .outcome ≡ passed) × (readText t .kept ≡ r)
   unfolding textAt
   text-read small r e =
-      let a = then-value (element s at 24351) (λ (u : Stretch). checked (endCheck s (u .to)) (moved (u .from) (readText (cut s u)))) r e in
+      let a = first-value (element s at 24351) (λ (u : Stretch). checked (endCheck s (u .to)) (moved (u .from) (readText (cut s u)))) r e in
       let v = a .0 in
       let b = checked-value (endCheck s (v .to)) (moved (v .from) (readText (cut s v))) r (a .2) in
       let h = read-element s at 24351 small v (a .1) in
@@ -94,7 +95,7 @@ module _ (s : List ℕ) (at : ℕ) where
 first-found : (w : List ℕ) (g : ℕ) (fs : List File) (f : File) → firstFile w g fs ≡ value f
     → isIn f fs × isIn (lentAt w f) (lentIn w fs) × (groupOf (getD w (f .start) 0) ≡ g)
 unfolding firstFile isIn lentIn
-first-found w g [] f e = absurd (refusal-not-value 14 (length w) f e)
+first-found w g [] f e = absurd (never-value 14 (length w) f e)
 first-found w g (x ∷ fs) f e = go (eqb (groupOf (getD w (x .start) 0)) g) refl e (first-found w g fs f)
   where
     go : (b : Bool) → eqb (groupOf (getD w (x .start) 0)) g ≡ b → cond b (value x) (firstFile w g fs) ≡ value f
@@ -136,7 +137,7 @@ module _ (w : List ℕ) (fs : List File) (each : EachStands w fs) where
       → (t : List ℕ) × isIn (record { tag = 97; content = tlv 24351 t }) (lentIn w fs) × (readText t .outcome ≡ passed) × (readText t .kept ≡ r)
   unfolding groupOne EachStands FileStands lentAt
   one-read small r e =
-      let a = then-value (firstFile w 1 fs) (λ (f : File). textAt (take (f .held .to) w) (f .held .from)) r e in
+      let a = first-value (firstFile w 1 fs) (λ (f : File). textAt (take (f .held .to) w) (f .held .from)) r e in
       let f = a .0 in
       let found = first-found w 1 fs f (a .1) in
       let h = each f (found .0) in

@@ -11,14 +11,15 @@ use lib.ListN.{length, drop, getD, length-append, length-drop, drop-of-length-le
 use Rattle.tlv.specs.declared.Stretch.{Stretch}
 use Rattle.tlv.specs.Read.{Read, value, andThen}
 use Rattle.tlv.specs.Element.{tlv, element}
-use Rattle.tlv.proofs.Encoded.{Stands, same-value, kept-value, length-tlv, some-head, tag-first}
+use Rattle.tlv.proofs.Told.{same-value, kept-value, first-value, value-then}
+use Rattle.tlv.proofs.Encoded.{Stands, length-tlv, some-head, tag-first}
 use Rattle.chip.specs.Cut.{cut}
 use Rattle.chip.specs.Groups.{groupOf, isGroup}
 use Rattle.chip.specs.Outer.{File, fileAt, filesFrom}
 use Rattle.chip.specs.Files.{fileOctets}
 use Rattle.demands.specs.Runs.{areOctets}
 use Rattle.demands.specs.Presented.{Lent, fileOf, allLent, isIn}
-use Rattle.demands.proofs.Elements.{then-value, value-then, read-element, element-read, cut-there, place-behind, whole-there}
+use Rattle.demands.proofs.Elements.{read-element, element-read, cut-there, place-behind, whole-there}
 
 -- ---- group tags
 
@@ -123,11 +124,11 @@ files-read (suc more) w at fs small h k e =
         → FilesRead w at fs
     go true p f rest = subst (FilesRead w at) (same-value f) (no-files w at (leb-true (length w) at p))
     go false p f rest =
-        let a = then-value (fileAt w at) onwards fs f in
+        let a = first-value (fileAt w at) onwards fs f in
         let held = a .0 in
         let r = file-read w at small held (a .1) in
         let places = behind-file w at held (r .1) in
-        let b = then-value (filesFrom more w (held .to)) (λ (q : List File). value (record { start = at; held = held } ∷ q)) fs (a .2) in
+        let b = first-value (filesFrom more w (held .to)) (λ (q : List File). value (record { start = at; held = held } ∷ q)) fs (a .2) in
         let last = rest (held .to) (b .0) (places .1) (omega (arith, places .0)) (b .1) in
         subst (FilesRead w at) (same-value (b .2)) (more-files w at held (b .0) (r .0) (r .1) last)
 

@@ -14,15 +14,16 @@ use Rattle.zone.specs.Alphabet.{isDigit, every}
 use Rattle.tlv.specs.declared.Stretch.{Stretch}
 use Rattle.tlv.specs.Read.{value, checked}
 use Rattle.tlv.specs.Element.{tlv, element}
-use Rattle.tlv.proofs.Encoded.{Stands, inside, same-value}
+use Rattle.tlv.proofs.Told.{same-value, first-value, value-then, checked-value, value-checked}
+use Rattle.tlv.proofs.Encoded.{Stands, inside}
 use Rattle.chip.specs.Cut.{cut, hasOctets, alike, stands, endCheck}
 use Rattle.chip.specs.Groups.{isGroup}
 use Rattle.chip.specs.Common.{knownFrom, onceFrom, tagsCheck, tagList, isUnicode, unicode, isVersion, version, common}
 use Rattle.demands.specs.Runs.{areOctets}
 use Rattle.demands.specs.Presented.{isOnce, commonInside}
-use Rattle.demands.proofs.Walk.{refused-not-passed, both-passed, unless-kept, kept-unless}
+use Rattle.refusal.proofs.Outcomes.{refused-not-passed, both-passed, unless-kept, kept-unless}
 use Rattle.demands.proofs.Repeated.{onceAfter, once-none, none-once, not-kept}
-use Rattle.demands.proofs.Elements.{then-value, value-then, checked-value, value-checked, take-octets, take-most, read-element, element-read, last-read, cut-there, has-octets, octets-had, place-behind, followed-by, nothing-left, left-nothing, alike-same, same-alike, cut-before}
+use Rattle.demands.proofs.Elements.{take-octets, take-most, read-element, element-read, last-read, cut-there, has-octets, octets-had, place-behind, followed-by, nothing-left, left-nothing, alike-same, same-alike, cut-before}
 
 -- ---- the tag list
 
@@ -90,7 +91,7 @@ module _ (s : List ℕ) (at : ℕ) where
   list-read : areOctets s → (v : Stretch) → tagList s at ≡ value v → (drop at s ≡ tlv 92 (cut s v)) × TagsKept (cut s v) × (v .from ≤ v .to) × (v .to ≤ length s)
   unfolding tagList
   list-read small v e =
-      let a = then-value (element s at 92) (λ (u : Stretch). checked (tagsCheck s u at) (checked (endCheck s (u .to)) (value u))) v e in
+      let a = first-value (element s at 92) (λ (u : Stretch). checked (tagsCheck s u at) (checked (endCheck s (u .to)) (value u))) v e in
       let u = a .0 in
       let b = checked-value (tagsCheck s u at) (checked (endCheck s (u .to)) (value u)) v (a .2) in
       let d = checked-value (endCheck s (u .to)) (value u) v (b .1) in
@@ -140,7 +141,7 @@ module _ (s : List ℕ) (at : ℕ) where
   unicode-read : areOctets s → (v : Stretch) → unicode s at ≡ value v → Listing s at digitsInside v
   unfolding unicode isUnicode digitsInside
   unicode-read small v e =
-      let a = then-value (element s at 24374) (λ (u : Stretch). checked (unless (isUnicode s u) 11 at) (tagList s (u .to))) v e in
+      let a = first-value (element s at 24374) (λ (u : Stretch). checked (unless (isUnicode s u) 11 at) (tagList s (u .to))) v e in
       let u = a .0 in
       let b = checked-value (unless (isUnicode s u) 11 at) (tagList s (u .to)) v (a .2) in
       let c = and-both (hasOctets 6 u) (every isDigit (cut s u)) (unless-kept (isUnicode s u) 11 at (b .0)) in
@@ -177,7 +178,7 @@ module _ (s : List ℕ) (at : ℕ) where
   version-read : areOctets s → (v : Stretch) → version s at ≡ value v → Listing s at commonInside v
   unfolding version isVersion commonInside digitsInside
   version-read small v e =
-      let a = then-value (element s at 24321) (λ (u : Stretch). checked (unless (isVersion s u) 11 at) (unicode s (u .to))) v e in
+      let a = first-value (element s at 24321) (λ (u : Stretch). checked (unless (isVersion s u) 11 at) (unicode s (u .to))) v e in
       let u = a .0 in
       let b = checked-value (unless (isVersion s u) 11 at) (unicode s (u .to)) v (a .2) in
       let four : List ℕ = 48 ∷ 49 ∷ 48 ∷ 55 ∷ [] in

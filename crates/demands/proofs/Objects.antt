@@ -18,8 +18,9 @@ use Rattle.chip.specs.Cut.{cut, hasOctets, alike}
 use Rattle.chip.specs.Object.{Entry, entryList, sha256Name, isSha256, algorithm, isZero, objectVersion, object}
 use Rattle.demands.specs.Runs.{areOctets}
 use Rattle.demands.specs.Presented.{Signed, allSigned, algorithmOf, objectInside}
-use Rattle.demands.proofs.Walk.{unless-kept, kept-unless}
-use Rattle.demands.proofs.Elements.{then-value, value-then, checked-value, value-checked, take-octets, take-most, read-element, element-read, cut-there, has-octets, octets-had, one-octet, followed-by, alike-same, same-alike}
+use Rattle.refusal.proofs.Outcomes.{unless-kept, kept-unless}
+use Rattle.tlv.proofs.Told.{first-value, value-then, checked-value, value-checked}
+use Rattle.demands.proofs.Elements.{take-octets, take-most, read-element, element-read, cut-there, has-octets, octets-had, one-octet, followed-by, alike-same, same-alike}
 use Rattle.demands.proofs.Signed.{signedIn, heldIn, signed-before, held-more}
 use Rattle.demands.proofs.Entries.{SignedKept, list-of-entries, entries-listed}
 
@@ -55,7 +56,7 @@ module _ (s : List ℕ) (at : ℕ) where
   algorithm-read : areOctets s → (es : List Entry) → algorithm s at ≡ value es → ObjectRead s at algorithmInside es
   unfolding algorithm algorithmInside
   algorithm-read small es e =
-      let a = then-value (element s at 48) (λ (u : Stretch). checked (unless (isSha256 (cut s u)) 13 at) (entryList s (u .to))) es e in
+      let a = first-value (element s at 48) (λ (u : Stretch). checked (unless (isSha256 (cut s u)) 13 at) (entryList s (u .to))) es e in
       let v = a .0 in
       let b = checked-value (unless (isSha256 (cut s v)) 13 at) (entryList s (v .to)) es (a .2) in
       let n = named (cut s v) (unless-kept (isSha256 (cut s v)) 13 at (b .0)) in
@@ -90,7 +91,7 @@ module _ (s : List ℕ) (at : ℕ) where
   version-read : areOctets s → (es : List Entry) → objectVersion s at ≡ value es → ObjectRead s at objectInside es
   unfolding objectVersion isZero objectInside algorithmInside
   version-read small es e =
-      let a = then-value (element s at 2) (λ (u : Stretch). checked (unless (isZero s u) 12 at) (algorithm s (u .to))) es e in
+      let a = first-value (element s at 2) (λ (u : Stretch). checked (unless (isZero s u) 12 at) (algorithm s (u .to))) es e in
       let v = a .0 in
       let b = checked-value (unless (isZero s v) 12 at) (algorithm s (v .to)) es (a .2) in
       let n = getD s (v .from) 0 in

@@ -10,14 +10,15 @@ use Rattle.refusal.specs.Outcome.{passed}
 use Rattle.tlv.specs.declared.Stretch.{Stretch}
 use Rattle.tlv.specs.Read.{Read, value, andThen}
 use Rattle.tlv.specs.Element.{tlv, element}
-use Rattle.tlv.proofs.Encoded.{Stands, same-value}
+use Rattle.tlv.proofs.Told.{same-value, first-value, value-then, checked-value, value-checked}
+use Rattle.tlv.proofs.Encoded.{Stands}
 use Rattle.chip.specs.declared.outer.Outer.{Outer}
 use Rattle.chip.specs.Cut.{cut}
 use Rattle.chip.specs.Outer.{sizeCheck, File, files, outer, walked}
 use Rattle.demands.specs.Runs.{areOctets}
 use Rattle.demands.specs.Presented.{Lent, allLent}
-use Rattle.demands.proofs.Walk.{unless-kept, kept-unless}
-use Rattle.demands.proofs.Elements.{then-value, value-then, checked-value, value-checked, read-element, element-read, place-behind, followed-by}
+use Rattle.refusal.proofs.Outcomes.{unless-kept, kept-unless}
+use Rattle.demands.proofs.Elements.{read-element, element-read, place-behind, followed-by}
 use Rattle.demands.proofs.Lent.{lentIn, EachStands, EachGroup, files-read, read-files}
 
 -- the parts of walked bytes: what EF.COM and the object hold, and the files
@@ -52,11 +53,11 @@ module _ (w : List ℕ) where
   unfolding walked outer files
   walked-parts small o e =
       let z = checked-value (sizeCheck w) (outer w) o e in
-      let a = then-value (element w 0 96) then-object o (z .1) in
+      let a = first-value (element w 0 96) then-object o (z .1) in
       let c = a .0 in
-      let b = then-value (element w (c .to) 48) (then-files c) o (a .2) in
+      let b = first-value (element w (c .to) 48) (then-files c) o (a .2) in
       let d = b .0 in
-      let x = then-value (files w (d .to)) (λ (all : List File). value (walked-so c d)) o (b .2) in
+      let x = first-value (files w (d .to)) (λ (all : List File). value (walked-so c d)) o (b .2) in
       let fs = x .0 in
       let h = read-element w 0 96 small c (a .1) in
       let k = read-element w (c .to) 48 small d (b .1) in

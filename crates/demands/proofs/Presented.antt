@@ -22,10 +22,10 @@ use Rattle.chip.specs.Files.{filesCheck}
 use Rattle.chip.specs.Presentation.{groupOne, decided, readStages, answerBy, readPresentation}
 use Rattle.demands.specs.Runs.{areOctets}
 use Rattle.demands.specs.Presented.{Signed, Lent, Contents, commonInside, commonOf, objectInside, objectOf, allLent, octetsOf, isIn, isOnce, numbers, tagsOf, FileKept, Presented}
-use Rattle.demands.proofs.Walk.{refused-not-passed}
+use Rattle.refusal.proofs.Outcomes.{refused-not-passed}
 use Rattle.demands.proofs.Rules.{accepted-exactly}
 use Rattle.demands.proofs.Repeated.{once-none, none-once}
-use Rattle.demands.proofs.Elements.{then-value, value-then, one-value, checked-value, value-checked}
+use Rattle.tlv.proofs.Told.{first-value, value-then, one-value, checked-value, value-checked}
 use Rattle.demands.proofs.Listed.{common-read, read-common}
 use Rattle.demands.proofs.Signed.{signedIn}
 use Rattle.demands.proofs.Objects.{object-read, read-object}
@@ -59,11 +59,11 @@ module _ (w : List ℕ) (small : areOctets w) (r : Record) where
   decided-read o fs h most there e =
       let c = cut w (o .efcom) in
       let d = cut w (o .object) in
-      let a = then-value (common w (o .efcom)) (from-common w o) r e in
+      let a = first-value (common w (o .efcom)) (from-common w o) r e in
       let tags = a .0 in
-      let b = then-value (object w (o .object)) (from-object w o tags) r (a .2) in
+      let b = first-value (object w (o .object)) (from-object w o tags) r (a .2) in
       let es = b .0 in
-      let x = then-value (files w (o .object .to)) (from-files w o tags es) r (b .2) in
+      let x = first-value (files w (o .object .to)) (from-files w o tags es) r (b .2) in
       let same : fs ≡ x .0 = one-value (files w (o .object .to)) fs (x .0) (h .files-walked) (x .1) in
       let last : from-files w o tags es fs ≡ value r = subst (λ (q : List File). from-files w o tags es q ≡ value r) (sym same) (x .2) in
       let y = checked-value (filesCheck w (cut w tags) [] es fs) (groupOne w fs) r last in
@@ -100,7 +100,7 @@ module _ (w : List ℕ) (small : areOctets w) (r : Record) where
   stages-read : readStages w ≡ value r → (p : Contents) × (w ≡ octetsOf p) × Presented p × (readText (p .text) .kept ≡ r)
   unfolding readStages
   stages-read e =
-      let a = then-value (walked w) (λ (o : Outer). decided w o) r e in
+      let a = first-value (walked w) (λ (o : Outer). decided w o) r e in
       let b = walked-parts w small (a .0) (a .1) in
       decided-read (a .0) (b .0) (b .2) (b .1) (b .3) (a .2)
 

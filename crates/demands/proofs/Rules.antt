@@ -27,7 +27,8 @@ use Rattle.text.specs.Read.{readText, readBy, answered, recordBy}
 use Rattle.demands.specs.Accepted.{Keeps, has, filler}
 use Rattle.demands.proofs.Order.{answered-outcome}
 use Rattle.demands.proofs.Form.{told-by, by-told, common}
-use Rattle.demands.proofs.Walk.{refused-not-passed, both-passed, unless-kept, kept-unless, digit-kept, kept-digit, walk-each, each-walk}
+use Rattle.refusal.proofs.Outcomes.{refused-not-passed, both-passed, unless-kept, kept-unless}
+use Rattle.demands.proofs.Walk.{digit-kept, kept-digit, walk-each, each-walk}
 use Rattle.demands.proofs.Span.{short-span, long-span, span-ends, long-has}
 
 -- a test that was not passed

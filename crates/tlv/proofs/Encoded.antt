@@ -16,19 +16,8 @@ use Rattle.tlv.specs.declared.Count.{Count}
 use Rattle.tlv.specs.declared.Size.{Size}
 use Rattle.tlv.specs.declared.Size.the-variants.{Of, Unknown}
 use Rattle.tlv.specs.Read.{Read, value, refusal}
+use Rattle.tlv.proofs.Told.{never-value, same-value, kept-value}
 use Rattle.tlv.specs.Element.{tagOctets, lengthOctets, tlv, sizeOf, tagWidth, tagAt, endsWithin, sized, sizeAt, element}
-
--- ---- values and refusals
-
-pub refusal-not-value : {A : Type 0} (n p : ℕ) (a : A) → _≡_ {A = Read A} (refusal n p) (value a) → ⊥
-refusal-not-value n p a e = let z : _≡_ {A = ℕ} 0 1 = cc in omega arith
-
-pub same-value : {A : Type 0} {a b : A} → _≡_ {A = Read A} (value a) (value b) → a ≡ b
-same-value e = cc
-
-pub kept-value : {A : Type 0} (b : Bool) (m : Read A) (n p : ℕ) (a : A) → cond b m (refusal n p) ≡ value a → (b ≡ true) × (m ≡ value a)
-kept-value true m n p a e = (refl, e)
-kept-value false m n p a e = absurd (refusal-not-value n p a e)
 
 -- ---- two octets of a number
 
@@ -271,7 +260,7 @@ module _ (s : List ℕ) (at tag : ℕ) where
       go : tagAt s at tag ≡ tag → (n : Size) → sizeAt s (at + tagWidth tag) ≡ n → sized s at (at + tagWidth tag) n ≡ value v
           → Stands s at tag (take (v .to - v .from) (drop (v .from) s)) (drop (v .to) s) v
       go t (Of n) f h = sized-stands small t n f v h
-      go t Unknown f h = absurd (refusal-not-value 10 at v h)
+      go t Unknown f h = absurd (never-value 10 at v h)
 
   -- where an encoding stands, it is read
   pub back : (c rest : List ℕ) → length c ≤ 65535 → drop at s ≡ tlv tag c ++ rest → (v : Stretch) × (element s at tag ≡ value v) × Stands s at tag c rest v

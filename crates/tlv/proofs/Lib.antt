@@ -1,4 +1,4 @@
-pub mod Past
 pub mod Told
+pub mod Past
 pub mod Steps
 pub mod Encoded

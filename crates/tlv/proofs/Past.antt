@@ -11,6 +11,7 @@ use Rattle.tlv.specs.declared.Stretch.{Stretch}
 use Rattle.tlv.specs.declared.Size.{Size}
 use Rattle.tlv.specs.declared.Size.the-variants.{Of, Unknown}
 use Rattle.tlv.specs.Read.{Read, value, refusal}
+use Rattle.tlv.proofs.Told.{never-value, same-value, kept-value}
 use Rattle.tlv.specs.Element.{sized, sizeAt, endsWithin, tagAt, tagWidth, element}
 
 sized-past : (s : List ℕ) (at place : ℕ) (z : Size) → length s < place → sized s at place z ≡ refusal 10 at
@@ -38,61 +39,21 @@ none-past s at tag h =
     go true e = sym e
     go false e = refl
 
-heldIn : Read Stretch → Stretch
-heldIn (value v) = v
-heldIn (refusal n p) = record { from = 0; to = 0 }
-
-pub value-tells : (u v : Stretch) → value u ≡ value v → u ≡ v
-unfolding heldIn
-value-tells u v e = ap heldIn e
-
-pub refusal-not-value : (n p : ℕ) (v : Stretch) → refusal n p ≡ value v → ⊥
-refusal-not-value n p v e = let z : _≡_ {A = ℕ} 0 1 = cc in omega arith
-
-sized-ends : (s : List ℕ) (at place : ℕ) (z : Size) (v : Stretch) → sized s at place z ≡ value v → (place ≤ v .to) × (v .to ≤ length s)
+-- where a value stands whose length was read at a place
+sized-within : (s : List ℕ) (at place : ℕ) (z : Size) (v : Stretch) → sized s at place z ≡ value v
+    → (place ≤ v .from) × (v .from ≤ v .to) × (v .to ≤ length s)
 unfolding sized endsWithin
-sized-ends s at place (Of z) v e = go (leb (place + z .told + z .count) (length s)) refl e
-  where
-    u : Stretch
-    u = record { from = place + z .told; to = place + z .told + z .count }
+sized-within s at place (Of z) v e =
+    let a = place + z .told in
+    let b = a + z .count in
+    let k = kept-value (leb b (length s)) (value (record { from = a; to = b })) 10 at v e in
+    let within : b ≤ length s = leb-true b (length s) (k .0) in
+    rw (← same-value (k .1)) (omega arith, omega arith, within)
+sized-within s at place Unknown v e = absurd (never-value 10 at v e)
 
-    go : (b : Bool) → leb (place + z .told + z .count) (length s) ≡ b → cond b (value u) (refusal 10 at) ≡ value v → (place ≤ v .to) × (v .to ≤ length s)
-    go true p h =
-        let q : place + z .told + z .count ≡ v .to = ap (λ (x : Stretch). x .to) (value-tells u v h) in
-        (omega arith, omega (arith, leb-true (place + z .told + z .count) (length s) p))
-    go false p h = absurd (refusal-not-value 10 at v h)
-sized-ends s at place Unknown v e = absurd (refusal-not-value 10 at v e)
-
-pub ends-behind : (s : List ℕ) (at tag : ℕ) (v : Stretch) → element s at tag ≡ value v → (at < v .to) × (v .to ≤ length s)
+pub value-within : (s : List ℕ) (at tag : ℕ) (v : Stretch) → element s at tag ≡ value v → (at < v .from) × (v .from ≤ v .to) × (v .to ≤ length s)
 unfolding element
-ends-behind s at tag v e = go (eqb (tagAt s at tag) tag) e
-  where
-    p : ℕ
-    p = at + tagWidth tag
-
-    go : (b : Bool) → cond b (sized s at p (sizeAt s p)) (refusal 10 at) ≡ value v → (at < v .to) × (v .to ≤ length s)
-    go true h = let k = sized-ends s at p (sizeAt s p) v h in (omega (arith, some-tag tag, k .0), k .1)
-    go false h = absurd (refusal-not-value 10 at v h)
-
-sized-from : (s : List ℕ) (at place : ℕ) (z : Size) (v : Stretch) → sized s at place z ≡ value v → v .from ≤ v .to
-unfolding sized endsWithin
-sized-from s at place (Of z) v e = go (leb (place + z .told + z .count) (length s)) e
-  where
-    u : Stretch
-    u = record { from = place + z .told; to = place + z .told + z .count }
-
-    go : (b : Bool) → cond b (value u) (refusal 10 at) ≡ value v → v .from ≤ v .to
-    go true h = rw (← value-tells u v h) (omega arith)
-    go false h = absurd (refusal-not-value 10 at v h)
-sized-from s at place Unknown v e = absurd (refusal-not-value 10 at v e)
-
-pub from-to : (s : List ℕ) (at tag : ℕ) (v : Stretch) → element s at tag ≡ value v → v .from ≤ v .to
-unfolding element
-from-to s at tag v e = go (eqb (tagAt s at tag) tag) e
-  where
-    p : ℕ
-    p = at + tagWidth tag
-
-    go : (b : Bool) → cond b (sized s at p (sizeAt s p)) (refusal 10 at) ≡ value v → v .from ≤ v .to
-    go true h = sized-from s at p (sizeAt s p) v h
-    go false h = absurd (refusal-not-value 10 at v h)
+value-within s at tag v e =
+    let p = at + tagWidth tag in
+    let k = sized-within s at p (sizeAt s p) v (kept-value (eqb (tagAt s at tag) tag) (sized s at p (sizeAt s p)) 10 at v e .1) in
+    (omega (arith, some-tag tag, k .0), k .1, k .2)

@@ -1,12 +1,11 @@
--- What is known of a joined reading from what its first step told.
+-- The laws of a reading step by step: what it gives by what its steps give, and what they must have given.
 use Prim.Native.Nat.{ℕ}
 use mathlib.Core.Path.{_≡_, refl, ap, sym}
+use mathlib.Core.Bool.{Bool, true, false, cond}
 use native.Mathlib.Omega.{arith}
 use Rattle.refusal.specs.Outcome.{Outcome, passed, refused}
+use Rattle.refusal.proofs.Outcomes.{refused-not-passed}
 use Rattle.tlv.specs.Read.{Read, value, refusal, andThen, checked, toldOf}
-
-refused-not-passed : (n p : ℕ) → refused n p ≡ passed → ⊥
-refused-not-passed n p e = let z : _≡_ {A = ℕ} 0 1 = cc in omega arith
 
 refusedAs : {A : Type 0} → Outcome → Read A
 refusedAs passed = refusal 0 0
@@ -15,30 +14,20 @@ refusedAs (refused n p) = refusal n p
 pub passed-then : {A B : Type 0} (m : Read A) (b : B) → toldOf m ≡ passed → andThen m (λ a. value b) ≡ value b
 unfolding toldOf andThen
 passed-then (value a) b e = refl
-passed-then (refusal n p) b e = absurd (refused-not-passed n p e)
+passed-then (refusal n p) b e = absurd (refused-not-passed e)
 
 pub refused-then : {A B : Type 0} (m : Read A) (go : A → Read B) (n p : ℕ) → toldOf m ≡ refused n p → andThen m go ≡ refusal n p
 unfolding toldOf andThen refusedAs
-refused-then (value a) go n p e = absurd (refused-not-passed n p (sym e))
+refused-then (value a) go n p e = absurd (refused-not-passed (sym e))
 refused-then {A} {B} (refusal k q) go n p e = ap (refusedAs {A = B}) e
 
 -- ---- what must have been, where a joined reading gave a value
 
-isValue : {A : Type 0} → Read A → ℕ
-isValue (value a) = 1
-isValue (refusal n p) = 0
+pub never-value : {A : Type 0} (n p : ℕ) (a : A) → _≡_ {A = Read A} (refusal n p) (value a) → ⊥
+never-value n p a e = let z : _≡_ {A = ℕ} 0 1 = cc in omega arith
 
-pub never-value : {A : Type 0} (n p : ℕ) (a : A) → refusal n p ≡ value a → ⊥
-unfolding isValue
-never-value n p a e = let z : _≡_ {A = ℕ} 0 1 = ap isValue e in omega arith
-
-heldBy : {A : Type 0} → A → Read A → A
-heldBy a (value b) = b
-heldBy a (refusal n p) = a
-
-pub same-value : {A : Type 0} (a b : A) → value a ≡ value b → a ≡ b
-unfolding heldBy
-same-value a b e = ap (heldBy a) e
+pub same-value : {A : Type 0} {a b : A} → _≡_ {A = Read A} (value a) (value b) → a ≡ b
+same-value e = cc
 
 pub first-value : {A B : Type 0} (m : Read A) (go : A → Read B) (b : B) → andThen m go ≡ value b → (a : A) × (m ≡ value a) × (go a ≡ value b)
 unfolding andThen
@@ -49,3 +38,26 @@ pub checked-value : {A : Type 0} (o : Outcome) (m : Read A) (a : A) → checked 
 unfolding checked
 checked-value passed m a e = (refl, e)
 checked-value (refused n p) m a e = absurd (never-value n p a e)
+
+pub kept-value : {A : Type 0} (b : Bool) (m : Read A) (n p : ℕ) (a : A) → cond b m (refusal n p) ≡ value a → (b ≡ true) × (m ≡ value a)
+kept-value true m n p a e = (refl, e)
+kept-value false m n p a e = absurd (never-value n p a e)
+
+-- ---- what it gives, where its step is known
+
+pub value-then : {A B : Type 0} (m : Read A) (go : A → Read B) (a : A) (r : Read B) → m ≡ value a → go a ≡ r → andThen m go ≡ r
+unfolding andThen
+value-then m go a r e f = rw e f
+
+-- what goes on from a value that is known
+pub then-known : {A B : Type 0} (m : Read A) (go : A → Read B) (a : A) (r : Read B) → m ≡ value a → andThen m go ≡ r → go a ≡ r
+unfolding andThen
+then-known m go a r e f = rw e at f
+
+-- a reading gives one value
+pub one-value : {A : Type 0} (m : Read A) (a b : A) → m ≡ value a → m ≡ value b → a ≡ b
+one-value m a b e f = cc
+
+pub value-checked : {A : Type 0} (o : Outcome) (m r : Read A) → o ≡ passed → m ≡ r → checked o m ≡ r
+unfolding checked
+value-checked o m r e f = rw e f

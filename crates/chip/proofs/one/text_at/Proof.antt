@@ -10,7 +10,7 @@ use Rattle.refusal.specs.Outcome.{outcomeOf}
 use Rattle.text.specs.Read.{Answer, answerOf, readText}
 use Rattle.tlv.specs.Read.{andThen, checked}
 use Rattle.tlv.specs.Element.{takenOf}
-use Rattle.tlv.proofs.Past.{ends-behind, from-to}
+use Rattle.tlv.proofs.Past.{value-within}
 use Rattle.chip.specs.Cut.{cut}
 use Rattle.chip.specs.Presentation.{moved, textAt, answerBy}
 use Rattle.chip.proofs.Near.{moved-near}
@@ -43,7 +43,8 @@ move-by-requires c κs = λ n p r.
     let e = sym (c .before .before .before .before .before .before .before .before .element .ensures) ∙ ap takenOf (c .before .before .before .before .before .before .v .given .1) in
     let told = sym (ap (λ (a : Answer). a .outcome) (c .read .ensures ∙ ap readText (c .before .cut .ensures))) ∙ r in
     let small : length s < 2 ^ 63 = search needs in
-    let near = moved-near s v n p (le-trans (from-to s (c .before .before .before .before .before .before .before .before .before .before .args .at) 24351 v e) (ends-behind s (c .before .before .before .before .before .before .before .before .before .before .args .at) 24351 v e .1)) told in
+    let stood = value-within s (c .before .before .before .before .before .before .before .before .before .before .args .at) 24351 v e in
+    let near = moved-near s v n p (le-trans (stood .1) (stood .2)) told in
     omega (arith, near, small)
 
 enum-known-why : tie.Need-enum-known-why
