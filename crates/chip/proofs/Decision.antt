@@ -8,12 +8,13 @@ use Rattle.refusal.specs.Outcome.{passed}
 use Rattle.zone.specs.declared.record.Record.{Record}
 use Rattle.tlv.specs.Read.{Read, value, refusal, andThen, checked, toldOf}
 use Rattle.chip.specs.Outer.{File, files}
-use Rattle.chip.specs.Object.{Entry}
-use Rattle.chip.specs.Files.{digestFor, filesCheck}
-use Rattle.chip.specs.Told.{tableOf}
+use Rattle.object.specs.Object.{Entry}
+use Rattle.object.specs.Object.{digestFor}
+use Rattle.chip.specs.Files.{filesCheck}
+use Rattle.object.specs.Seen.{tableOf}
 use Rattle.chip.specs.Lent.{filesIn, filesBy}
 use Rattle.chip.specs.Presentation.{groupOne}
-use Rattle.chip.proofs.Sums.{table-has, table-length}
+use Rattle.object.proofs.Sums.{table-has, table-length}
 use Rattle.refusal.proofs.Outcomes.{refused-not-passed}
 use Rattle.chip.proofs.Lending.{table-decides}
 use Rattle.chip.proofs.First.{in-then}

@@ -7,7 +7,7 @@ use lib.ListN.{length, getD}
 use Rattle.refusal.specs.Outcome.{passed}
 use Rattle.tlv.specs.declared.Stretch.{Stretch}
 use Rattle.tlv.specs.Read.{Read, value, refusal, andThen, toldOf}
-use Rattle.chip.specs.Groups.{groupOf}
+use Rattle.tlv.specs.Tags.{groupOf}
 use Rattle.chip.specs.Outer.{File, fileAt, files}
 use Rattle.chip.specs.Lent.{filesIn}
 use Rattle.chip.specs.Presentation.{firstFile}

@@ -13,16 +13,17 @@ use Rattle.refusal.specs.Outcome.{Outcome, passed, refused, unless, orElse}
 use Rattle.tlv.specs.declared.Stretch.{Stretch}
 use Rattle.tlv.specs.Read.{Read, value, refusal, andThen, toldOf}
 use Rattle.tlv.specs.Element.{element}
-use Rattle.chip.specs.Cut.{alike, stands}
-use Rattle.chip.specs.Groups.{groupOf, isGroup}
+use Rattle.lent.specs.Octets.{alike, stands}
+use Rattle.tlv.specs.Tags.{groupOf, isGroup}
 use Rattle.chip.specs.Outer.{File, fileAt, filesFrom, files, sizeCheck, outer, walked}
 use Rattle.chip.specs.declared.outer.Outer.{Outer}
-use Rattle.chip.specs.Object.{Entry}
+use Rattle.object.specs.Object.{Entry}
 use Rattle.sha256.specs.Hash.{sha256}
-use Rattle.chip.specs.Files.{fileOctets, digestFor, isExpected, isDigested, fileCheck, filesCheck}
+use Rattle.chip.specs.Files.{fileOctets, isExpected, isDigested, fileCheck, filesCheck}
+use Rattle.object.specs.Object.{digestFor}
 use Rattle.chip.specs.Lent.{filesIn, fileBy, filesBy}
 use Rattle.refusal.proofs.Outcomes.{refused-not-passed}
-use Rattle.tlv.proofs.Told.{never-value, same-value, first-value, checked-value}
+use Rattle.tlv.proofs.Told.{same-value, first-value, checked-value}
 use Rattle.chip.proofs.Walks.{before, group-there, files-next, files-refused, files-done}
 
 -- ---- one file after the other

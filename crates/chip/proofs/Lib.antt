@@ -1,10 +1,4 @@
-pub mod Octets
-pub mod Tags
-pub mod Behind
-pub mod Tally
-pub mod Sums
 pub mod Walks
-pub mod Standing
 pub mod Lending
 pub mod First
 pub mod Near

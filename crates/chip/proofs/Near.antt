@@ -26,7 +26,7 @@ use Rattle.digit.specs.Check.{digitOf}
 use Rattle.text.specs.Number.{isLong, cutAt, spanOf, checkedBy, numberRule}
 use Rattle.text.specs.Order.{characters, fieldCheck, digitAt, numberDigit, furtherDigit, digitCheck, inOrder, verdictBy}
 use Rattle.tlv.specs.declared.Stretch.{Stretch}
-use Rattle.chip.specs.Cut.{cut}
+use Rattle.tlv.specs.Cut.{cut}
 use Rattle.text.specs.Read.{readText, readBy, answered, recordBy}
 
 -- a refusal within m, or none

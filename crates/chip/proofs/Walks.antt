@@ -1,7 +1,7 @@
 -- A walk over files goes on from the end of each, whatever number of steps is allowed, as long as it is enough.
 use Prim.Native.Nat.{ℕ, zero, suc, _+_, _-_, _≤_, _<_}
 use mathlib.Core.Path.{_≡_, refl, ap, sym, _∙_}
-use mathlib.Core.Bool.{Bool, true, false, cond}
+use mathlib.Core.Bool.{true, false}
 use mathlib.Core.List.{List, [], _∷_}
 use native.Mathlib.Omega.{arith}
 use borrow.Author.Tests.{le-leb, lt-leb}
@@ -13,7 +13,7 @@ use Rattle.tlv.specs.Element.{element}
 use Rattle.tlv.proofs.Steps.{steps-enough}
 use Rattle.tlv.proofs.Told.{kept-value}
 use Rattle.tlv.proofs.Past.{value-within}
-use Rattle.chip.specs.Groups.{isGroup}
+use Rattle.tlv.specs.Tags.{isGroup}
 use Rattle.chip.specs.Outer.{File, fileAt, filesFrom, files}
 
 pub told-then : {A B : Type 0} (m : Read A) (go : A → B) → toldOf (andThen m (λ a. value (go a))) ≡ toldOf m

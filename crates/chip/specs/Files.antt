@@ -1,24 +1,20 @@
 -- Stage 5, per group file, in lent order: 14, then 15. The digest is over the whole file, tag and length included.
 use Prim.Native.Nat.{ℕ}
-use mathlib.Core.Bool.{Bool, cond, not, _&&_}
+use mathlib.Core.Bool.{Bool, not, _&&_}
 use mathlib.Core.List.{List, [], _∷_}
-use lib.Dec.{eqb, ltb}
+use lib.Dec.{ltb}
 use lib.ListN.{take, drop, getD}
 use Rattle.refusal.specs.Outcome.{Outcome, passed, unless, orElse}
 use Rattle.sha256.specs.Hash.{sha256}
-use Rattle.chip.specs.Cut.{cut, alike, stands}
-use Rattle.chip.specs.Groups.{groupOf}
+use Rattle.tlv.specs.Cut.{cut}
+use Rattle.lent.specs.Octets.{alike, stands}
+use Rattle.tlv.specs.Tags.{groupOf}
 use Rattle.chip.specs.Outer.{File}
-use Rattle.chip.specs.Object.{Entry}
+use Rattle.object.specs.Object.{Entry}
 
 -- the octets of a file
 unfoldable pub fileOctets : List ℕ → File → List ℕ
 fileOctets w f = cut w (record { from = f .start; to = f .held .to })
-
--- where the digest of a group begins, 0 where it has no entry
-unfoldable pub digestFor : ℕ → List Entry → ℕ
-digestFor group [] = 0
-digestFor group (e ∷ es) = cond (eqb (e .group) group) (e .digest) (digestFor group es)
 
 -- 14: a group unlisted, lent before, or without entry
 unfoldable pub isExpected : List ℕ → List ℕ → List Entry → ℕ → Bool

@@ -8,8 +8,8 @@ use lib.ListN.{take, drop, getD, set}
 use Rattle.refusal.specs.Outcome.{Outcome, passed, unless, orElse}
 use Rattle.sha256.specs.Hash.{sha256}
 use Rattle.tlv.specs.Read.{Read, value, refusal}
-use Rattle.chip.specs.Cut.{alike, stands}
-use Rattle.chip.specs.Groups.{groupOf}
+use Rattle.lent.specs.Octets.{alike, stands}
+use Rattle.tlv.specs.Tags.{groupOf}
 use Rattle.chip.specs.Outer.{File}
 use Rattle.chip.specs.Files.{fileOctets}
 

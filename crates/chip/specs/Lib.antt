@@ -1,10 +1,5 @@
-pub mod Groups
-pub mod Cut
 pub mod Outer
-pub mod Common
-pub mod Object
 pub mod Files
-pub mod Told
 pub mod Lent
 pub mod Presentation
 pub mod Found

@@ -12,7 +12,7 @@ use Rattle.tlv.specs.Element.{element}
 use Rattle.chip.specs.declared.outer.Outer.{Outer}
 use Rattle.chip.specs.declared.outer.Walked.{Walked}
 use Rattle.chip.specs.declared.outer.Walked.the-variants.{Parts, Refused}
-use Rattle.chip.specs.Groups.{isGroup}
+use Rattle.tlv.specs.Tags.{isGroup}
 
 -- 1: a presentation over 65,535, at 0
 unfoldable pub sizeCheck : List ℕ → Outcome

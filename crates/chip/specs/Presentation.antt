@@ -12,11 +12,11 @@ use Rattle.tlv.specs.declared.Stretch.{Stretch}
 use Rattle.tlv.specs.Read.{Read, value, refusal, andThen, checked}
 use Rattle.tlv.specs.Element.{element}
 use Rattle.chip.specs.declared.outer.Outer.{Outer}
-use Rattle.chip.specs.Cut.{cut, endCheck}
-use Rattle.chip.specs.Groups.{groupOf}
+use Rattle.tlv.specs.Cut.{cut, endCheck}
+use Rattle.tlv.specs.Tags.{groupOf}
 use Rattle.chip.specs.Outer.{File, files, walked}
-use Rattle.chip.specs.Common.{common}
-use Rattle.chip.specs.Object.{object}
+use Rattle.efcom.specs.EfCom.{common}
+use Rattle.object.specs.Object.{object}
 use Rattle.chip.specs.Files.{filesCheck}
 
 -- the first file with that group's tag; where there is none, 14 at the presentation's length

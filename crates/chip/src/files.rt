@@ -5,36 +5,23 @@ ghost use lib.ListN.{length, take, drop};
 ghost use Rattle.refusal.specs.Outcome.{outcomeOf, passed};
 ghost use Rattle.sha256.specs.Hash.{sha256};
 ghost use Rattle.tlv.specs.Read.{toldOf};
-ghost use Rattle.chip.specs.Cut as C;
+ghost use Rattle.lent.specs.Octets as Octets;
 ghost use Rattle.chip.specs.Outer as O;
 ghost use Rattle.chip.specs.Lent.{filesIn, fileBy, filesBy};
-use crate::cut::alike;
-use crate::cut::cut;
-use crate::groups::group_of;
 use crate::outer::file_at;
+use lent::alike;
+use lent::stands;
 use refusal::Cause;
 use refusal::Refusal;
 use refusal::Verdict;
 use tlv::Stretch;
 use tlv::Taken;
-
-// Whether an octet stands among others.
-fn stands(c: u8, s: &[u8]) -> bool
-    ensures { λ r. ⌜ r ≡ C.stands c (now (s .entry)) ⌝ }
-{
-    let mut i = 0;
-    while i < s.len() {
-        if c == s[i] {
-            return true;
-        }
-        i += 1;
-    }
-    false
-}
+use tlv::cut::cut;
+use tlv::tags::group_of;
 
 // The digest is over the whole file, tag and length included.
 fn is_digested<'a>(file: &'a [u8], digest: &'a [u8]) -> bool
-    ensures { λ r. ⌜ r ≡ C.alike (sha256 (now (file .entry))) (now (digest .entry)) ⌝ }
+    ensures { λ r. ⌜ r ≡ Octets.alike (sha256 (now (file .entry))) (now (digest .entry)) ⌝ }
 {
     let own = sha256::digest_of(file);
     alike(&own, digest)

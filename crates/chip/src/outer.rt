@@ -4,12 +4,12 @@ ghost use Rattle.refusal.specs.Outcome.{outcomeOf};
 ghost use Rattle.tlv.specs.Read.{value, andThen, toldOf};
 ghost use Rattle.tlv.specs.Element.{element, takenOf};
 ghost use Rattle.chip.specs.Outer as O;
-use crate::groups::is_group;
 use refusal::Cause;
 use refusal::Refusal;
 use refusal::Verdict;
 use tlv::Stretch;
 use tlv::Taken;
+use tlv::tags::is_group;
 
 // Where the contents of EF.COM and of the security object stand. The group files follow the object.
 pub struct Outer {

@@ -4,25 +4,24 @@ ghost use Rattle.refusal.specs.Outcome.{passed};
 ghost use mathlib.Core.List.{[]};
 ghost use Rattle.tlv.specs.Read.{andThen, checked, toldOf};
 ghost use Rattle.text.specs.Read.{answerOf};
-ghost use Rattle.chip.specs.Cut as C;
+ghost use Rattle.tlv.specs.Cut as C;
 ghost use Rattle.chip.specs.Outer as O;
-ghost use Rattle.chip.specs.Object as S;
+ghost use Rattle.object.specs.Object as S;
 ghost use Rattle.chip.specs.Files.{filesCheck};
 ghost use Rattle.chip.specs.Lent.{filesIn, filesBy};
 ghost use Rattle.chip.specs.Presentation.{groupOne, decided, readPresentation, answerBy};
-use crate::common::common;
-use crate::cut::cut;
 use crate::files::files_check;
-use crate::object;
-use crate::one::group_one;
-use crate::one::refuse;
+use crate::group_one::group_one;
+use crate::group_one::refuse;
 use crate::outer::Outer;
 use crate::outer::Walked;
 use crate::outer::walk;
+use efcom::common;
 use refusal::Verdict;
 use text::read::Reading;
 use tlv::Stretch;
 use tlv::Taken;
+use tlv::cut::cut;
 
 // Stages 5 and 6.
 fn with_digests(w: &[u8], start: usize, tags: Stretch, digests: [usize; 17]) -> Reading

@@ -16,7 +16,7 @@ use Rattle.entry.specs.Codes.{formCode, sexCode}
 use Rattle.zone.specs.Codes.{codeOf}
 use Rattle.entry.specs.Entry.{puts, putKey, putRest, entryOf}
 use Rattle.tlv.specs.Element.{element, tagAt, tagWidth, sizeAt, sizeOf, sized, endsWithin}
-use Rattle.chip.specs.Cut.{alike}
+use Rattle.lent.specs.Octets.{alike}
 use Rattle.demands.specs.Examples.{octets, told, isRead, isRefused, isDigitAt, isRight, T3, examples, allRight}
 
 pub starred : allRight examples ≡ true

@@ -18,7 +18,7 @@ use Rattle.entry.specs.Entry.{entryOf}
 use Rattle.tlv.specs.declared.Stretch.{Stretch}
 use Rattle.tlv.specs.Read.{Read, value, refusal}
 use Rattle.tlv.specs.Element.{element}
-use Rattle.chip.specs.Cut.{alike}
+use Rattle.lent.specs.Octets.{alike}
 
 -- the octets of a text
 unfoldable pub octets : String → List ℕ

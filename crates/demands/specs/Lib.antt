@@ -1,8 +1,4 @@
-pub mod Accepted
-pub mod Ordered
-pub mod Held
+-- the starred examples, as one table
 pub mod Examples
-pub mod Runs
-pub mod Keys
-pub mod Presented
+-- an accepted answer, of a text or of a presentation
 pub mod Answered

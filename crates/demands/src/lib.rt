@@ -1,1 +1,1 @@
-// The owner's demands, as theorems about the definitions: there is no code here. What each says is in specs/, and proofs/ shows it.
+// What joins the demands on texts, runs and presentations, as theorems about the definitions: there is no code here.

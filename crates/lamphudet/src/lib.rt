@@ -88,5 +88,5 @@ pub extern "C" fn lamphudet_digest(input: &[u8], digest: &mut [u8]) -> AnswerInC
 pub extern "C" fn lamphudet_group_file(presentation: &[u8], group: u32) -> StretchInC
     ensures { λ r. ⌜ r ≡ stretchInC (groupStretch (now (presentation .entry)) group) ⌝ }
 {
-    stretch_in_c(chip::group::group_stretch(presentation, group))
+    stretch_in_c(chip::group_file::group_stretch(presentation, group))
 }

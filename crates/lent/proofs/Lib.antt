@@ -2,3 +2,6 @@
 pub mod Bools  -- what a test that joins others by `&&` or `||` says of them
 pub mod Lists  -- parts of a list, and a range that is copied to or filled
 pub mod Tests  -- the set `tests`, that closes a function of tests on numbers
+pub mod Comparing  -- octets that are compared
+pub mod Standing  -- an octet among others
+pub mod Marks  -- a table with a mark for each number of a list

@@ -2,6 +2,7 @@
 ghost use mathlib.Core.Path.{_≡_};
 ghost use lib.ListN.{length, take, drop, getD, set, replicate};
 ghost use Rattle.lent.specs.Copied.{copied, copiedAt};
+ghost use Rattle.lent.specs.Octets as Octets;
 
 // The octet at a place, 0 past the end.
 pub fn octet(s: &[u8], at: usize) -> u8
@@ -22,6 +23,38 @@ pub fn part(s: &[u8], at: usize, n: usize) -> &[u8]
     } else {
         &s[at..]
     }
+}
+
+// The same octets.
+pub fn alike(a: &[u8], b: &[u8]) -> bool
+    ensures { λ r. ⌜ r ≡ Octets.alike (now (a .entry)) (now (b .entry)) ⌝ }
+{
+    if a.len() != b.len() {
+        return false;
+    }
+    let mut i = 0;
+    while i < a.len() {
+        if a[i] == b[i] {
+            i += 1;
+        } else {
+            return false;
+        }
+    }
+    true
+}
+
+// Whether an octet stands among others.
+pub fn stands(c: u8, s: &[u8]) -> bool
+    ensures { λ r. ⌜ r ≡ Octets.stands c (now (s .entry)) ⌝ }
+{
+    let mut i = 0;
+    while i < s.len() {
+        if c == s[i] {
+            return true;
+        }
+        i += 1;
+    }
+    false
 }
 
 // The first octets of a range become those of another, as many as both have.

@@ -15,7 +15,7 @@ use Rattle.tlv.specs.declared.Stretch.{Stretch}
 use Rattle.tlv.specs.declared.Count.{Count}
 use Rattle.tlv.specs.declared.Size.{Size}
 use Rattle.tlv.specs.declared.Size.the-variants.{Of, Unknown}
-use Rattle.tlv.specs.Read.{Read, value, refusal}
+use Rattle.tlv.specs.Read.{value}
 use Rattle.tlv.proofs.Told.{never-value, same-value, kept-value}
 use Rattle.tlv.specs.Element.{tagOctets, lengthOctets, tlv, sizeOf, tagWidth, tagAt, endsWithin, sized, sizeAt, element}
 

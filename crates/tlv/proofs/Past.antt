@@ -1,6 +1,6 @@
 -- An element ends behind its place and within what holds it, so that none stands at its end or past it.
 use Prim.Native.Nat.{ℕ, _+_, _≤_, _<_}
-use mathlib.Core.Path.{_≡_, refl, ap, sym}
+use mathlib.Core.Path.{_≡_, refl, sym}
 use mathlib.Core.Bool.{Bool, true, false, cond}
 use mathlib.Core.List.{List}
 use native.Mathlib.Omega.{arith}
@@ -10,7 +10,7 @@ use lib.ListN.{length}
 use Rattle.tlv.specs.declared.Stretch.{Stretch}
 use Rattle.tlv.specs.declared.Size.{Size}
 use Rattle.tlv.specs.declared.Size.the-variants.{Of, Unknown}
-use Rattle.tlv.specs.Read.{Read, value, refusal}
+use Rattle.tlv.specs.Read.{value, refusal}
 use Rattle.tlv.proofs.Told.{never-value, same-value, kept-value}
 use Rattle.tlv.specs.Element.{sized, sizeAt, endsWithin, tagAt, tagWidth, element}
 

@@ -1,2 +1,4 @@
 pub mod Read
 pub mod Element
+pub mod Cut
+pub mod Tags

@@ -8,7 +8,7 @@ use lib.ListN.{length, length-set}
 use Rattle.refusal.specs.Outcome.{outcomeOf, passed}
 use Rattle.tlv.specs.Read.{toldOf}
 use Rattle.tlv.specs.Element.{takenOf}
-use Rattle.chip.specs.Groups.{groupOf}
+use Rattle.tlv.specs.Tags.{groupOf}
 use Rattle.chip.specs.Outer.{files}
 use Rattle.chip.specs.Lent.{filesIn, filesBy}
 use Rattle.chip.proofs.Walks.{file-behind}

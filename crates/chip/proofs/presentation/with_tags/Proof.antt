@@ -4,8 +4,8 @@ use mathlib.Core.Path.{ap, sym, _∙_}
 use denote.Ref.{now}
 use Rattle.refusal.specs.Outcome.{outcomeOf}
 use Rattle.tlv.proofs.Told.{refused-then}
-use Rattle.chip.specs.Cut.{cut}
-use Rattle.chip.specs.Object.{object}
+use Rattle.tlv.specs.Cut.{cut}
+use Rattle.object.specs.Object.{object}
 use Rattle.chip.specs.Presentation.{answerBy}
 use Rattle.chip.proofs.Decision.{onward, by-entries}
 use Rattle.chip.proofs.presentation.with_tags.Statement.{statement}

@@ -1,0 +1,42 @@
+-- The two tests.
+use Rattle.efcom.specs.EfCom.{isVersion}
+use borrow.Author.Needs.{needs}
+use mathlib.Core.Path.{sym, _∙_}
+use Rattle.efcom.proofs.is_version.Statement.{statement}
+use Rattle.efcom.proofs.is_version.Tie as tie
+
+has-octets-requires : tie.Need-has-octets-requires
+has-octets-requires c κs = search needs
+
+cut-requires : tie.Need-cut-requires
+cut-requires c κs = search needs
+
+slice-aggregate-alike : tie.Need-slice-aggregate-alike
+slice-aggregate-alike c = search needs
+
+alike-requires : tie.Need-alike-requires
+alike-requires c κs = search needs
+
+returns : tie.Need-returns
+unfolding isVersion
+returns c =
+    rw (
+      c .alike .ensures,
+      c .before .before .cut .ensures,
+      (sym (c .before .before .before .before .has-octets .ensures) ∙ c .before .before .before .if1 .taken),
+    )
+
+returns-2 : tie.Need-returns-2
+unfolding isVersion
+returns-2 c = rw (sym (c .before .has-octets .ensures) ∙ c .if1 .left)
+
+pub is-version-spec : {M : Type 1} → statement M
+is-version-spec =
+    tie.close
+    (tie.spec
+    has-octets-requires
+    cut-requires
+    slice-aggregate-alike
+    alike-requires
+    returns
+    returns-2)

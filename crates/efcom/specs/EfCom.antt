@@ -1,0 +1,50 @@
+-- Stage 3, EF.COM: 5F01 of length 4, `0107`; 5F36 of length 6, six digits; 5C, the tag list. 11 at the element's tag.
+use Prim.Native.Nat.{ℕ, suc}
+use mathlib.Core.Bool.{Bool, cond, _&&_}
+use mathlib.Core.List.{List, [], _∷_}
+use lib.Dec.{leb}
+use lib.ListN.{length, take}
+use Rattle.refusal.specs.Outcome.{Outcome, passed, refused, unless, orElse}
+use Rattle.zone.specs.Alphabet.{isDigit, every}
+use Rattle.tlv.specs.declared.Stretch.{Stretch}
+use Rattle.tlv.specs.Read.{Read, value, andThen, checked}
+use Rattle.tlv.specs.Element.{element}
+use Rattle.tlv.specs.Cut.{cut, hasOctets, endCheck}
+use Rattle.lent.specs.Octets.{alike, stands}
+use Rattle.tlv.specs.Tags.{isGroup}
+
+-- in the list, first an unknown tag, at its octet
+unfoldable pub knownFrom : ℕ → List ℕ → Outcome
+knownFrom place [] = passed
+knownFrom place (c ∷ t) = cond (isGroup c) (knownFrom (suc place) t) (refused 11 place)
+
+-- then a repeated one, at its octet
+unfoldable pub onceFrom : ℕ → List ℕ → List ℕ → Outcome
+onceFrom place before [] = passed
+onceFrom place before (c ∷ t) = cond (stands c before) (refused 11 place) (onceFrom (suc place) (c ∷ before) t)
+
+-- then more than fifteen, at 5C
+unfoldable pub tagsCheck : List ℕ → Stretch → ℕ → Outcome
+tagsCheck s v at =
+    orElse (knownFrom (v .from) (cut s v)) (orElse (onceFrom (v .from) [] (cut s v)) (unless (leb (length (cut s v)) 15) 11 at))
+
+unfoldable pub tagList : List ℕ → ℕ → Read Stretch
+tagList s at = andThen (element s at 92) (λ v. checked (tagsCheck s v at) (checked (endCheck s (v .to)) (value v)))
+
+-- six digits
+unfoldable pub isUnicode : List ℕ → Stretch → Bool
+isUnicode s v = hasOctets 6 v && every isDigit (cut s v)
+
+unfoldable pub unicode : List ℕ → ℕ → Read Stretch
+unicode s at = andThen (element s at 24374) (λ v. checked (unless (isUnicode s v) 11 at) (tagList s (v .to)))
+
+-- `0107`
+unfoldable pub isVersion : List ℕ → Stretch → Bool
+isVersion s v = hasOctets 4 v && alike (cut s v) (48 ∷ 49 ∷ 48 ∷ 55 ∷ [])
+
+unfoldable pub version : List ℕ → ℕ → Read Stretch
+version s at = andThen (element s at 24321) (λ v. checked (unless (isVersion s v) 11 at) (unicode s (v .to)))
+
+-- the tag list of an EF.COM whose value stands here
+unfoldable pub common : List ℕ → Stretch → Read Stretch
+common w efcom = version (take (efcom .to) w) (efcom .from)

@@ -1,0 +1,126 @@
+// Stage 3, EF.COM: the version, the Unicode version and the tag list, each from where the one before it ends.
+ghost use mathlib.Core.Path.{_≡_};
+ghost use Rattle.zone.specs.Alphabet.{isDigit};
+ghost use Rattle.zone.specs.Alphabet.{every};
+ghost use Rattle.tlv.specs.Read.{value, refusal, checked};
+ghost use Rattle.tlv.specs.Element.{takenOf};
+ghost use Rattle.tlv.specs.Cut.{endCheck};
+ghost use Rattle.efcom.specs.EfCom as C;
+mod list;
+use crate::list::tags_check;
+use lent::alike;
+use refusal::Cause;
+use refusal::Refusal;
+use refusal::Verdict;
+use tlv::Stretch;
+use tlv::Taken;
+use tlv::cut::cut;
+use tlv::cut::end_check;
+use tlv::cut::has_octets;
+use zone::alphabet::is_digit;
+
+// 11, at the element's tag or at a tag of the list.
+fn refuse(at: usize) -> Taken
+    ensures { λ r. ⌜ takenOf r ≡ refusal 11 at ⌝ }
+{
+    Taken::Refused(Refusal {
+        cause: Cause::EfCom,
+        place: at,
+    })
+}
+
+fn listed(s: &[u8], v: Stretch) -> Taken
+    ensures { λ r. ⌜ takenOf r ≡ checked (endCheck (now (s .entry)) (v .to)) (value v) ⌝ }
+{
+    match end_check(s, v.to) {
+        Verdict::Passed => Taken::Value(v),
+        Verdict::Refused(refusal) => Taken::Refused(refusal),
+    }
+}
+
+fn tag_list(s: &[u8], at: usize) -> Taken
+    ensures { λ r. ⌜ takenOf r ≡ C.tagList (now (s .entry)) at ⌝ }
+{
+    match tlv::element(s, at, 92) {
+        Taken::Value(v) => match tags_check(s, v, at) {
+            Verdict::Passed => listed(s, v),
+            Verdict::Refused(refusal) => Taken::Refused(refusal),
+        },
+        Taken::Refused(refusal) => Taken::Refused(refusal),
+    }
+}
+
+fn all_digits(s: &[u8]) -> bool
+    ensures { λ r. ⌜ r ≡ every isDigit (now (s .entry)) ⌝ }
+{
+    let mut i = 0;
+    while i < s.len() {
+        let c = s[i];
+        if is_digit(c) {
+            i += 1;
+        } else {
+            return false;
+        }
+    }
+    true
+}
+
+// Six digits.
+fn is_unicode(s: &[u8], v: Stretch) -> bool
+    ensures { λ r. ⌜ r ≡ C.isUnicode (now (s .entry)) v ⌝ }
+{
+    if has_octets(6, v) {
+        all_digits(cut(s, v))
+    } else {
+        false
+    }
+}
+
+fn unicode(s: &[u8], at: usize) -> Taken
+    ensures { λ r. ⌜ takenOf r ≡ C.unicode (now (s .entry)) at ⌝ }
+{
+    match tlv::element(s, at, 24374) {
+        Taken::Value(v) => {
+            if is_unicode(s, v) {
+                tag_list(s, v.to)
+            } else {
+                refuse(at)
+            }
+        }
+        Taken::Refused(refusal) => Taken::Refused(refusal),
+    }
+}
+
+// `0107`.
+fn is_version(s: &[u8], v: Stretch) -> bool
+    ensures { λ r. ⌜ r ≡ C.isVersion (now (s .entry)) v ⌝ }
+{
+    let named = [48u8, 49, 48, 55];
+    if has_octets(4, v) {
+        alike(cut(s, v), &named)
+    } else {
+        false
+    }
+}
+
+fn version(s: &[u8], at: usize) -> Taken
+    ensures { λ r. ⌜ takenOf r ≡ C.version (now (s .entry)) at ⌝ }
+{
+    match tlv::element(s, at, 24321) {
+        Taken::Value(v) => {
+            if is_version(s, v) {
+                unicode(s, v.to)
+            } else {
+                refuse(at)
+            }
+        }
+        Taken::Refused(refusal) => Taken::Refused(refusal),
+    }
+}
+
+// The tag list of an EF.COM whose value stands here.
+pub fn common(w: &[u8], efcom: Stretch) -> Taken
+    ensures { λ r. ⌜ takenOf r ≡ C.common (now (w .entry)) efcom ⌝ }
+{
+    version(lent::part(w, 0, efcom.to), efcom.from)
+}

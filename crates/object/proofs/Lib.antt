@@ -1,0 +1,3 @@
+pub mod EntryPlaces
+pub mod Tally
+pub mod Sums

@@ -1,0 +1,111 @@
+-- What was seen so far, with what is left from here, is what is seen of the whole.
+use Rattle.object.specs.Object.{Entry}
+use Rattle.object.specs.Seen.{entryOf, none, tallyFrom, seenIn}
+use Rattle.object.proofs.EntryPlaces.{entry-stands}
+use Rattle.object.proofs.Tally.{tally-step, tally-refused, tally-done}
+use Rattle.object.proofs.Sums.{counted-count}
+use Rattle.tlv.specs.Read.{toldOf}
+use Rattle.refusal.specs.Numbers.{numberOf}
+use borrow.Author.Needs.{needs}
+use denote.Ref.{now}
+use native.Mathlib.Omega.{arith}
+use mathlib.Core.Path.{_≡_, refl, sym, ap, _∙_}
+use Prim.Native.Nat.{_≤_, _<_, _-_}
+use lib.ListN.{length}
+use Rattle.object.proofs.entries.entries.Statement.{statement}
+use Rattle.object.proofs.entries.entries.Tie as tie
+
+abbrev Inv-loop : tie.InvT-loop
+Inv-loop s start at₀ seen₀ at seen = (seen .count ≤ at) × (tallyFrom s at seen ≡ tallyFrom s start none)
+
+abbrev μ-loop : tie.MeasureT-loop
+μ-loop s start at₀ seen₀ at seen = length s - at
+
+none-requires : tie.Need-none-requires Inv-loop μ-loop
+none-requires c κs = search needs
+
+loop-holds : tie.Need-loop-holds Inv-loop μ-loop
+loop-holds c = rw (c .none .ensures) (search needs, refl)
+
+entry-at-requires : tie.Need-entry-at-requires Inv-loop μ-loop
+entry-at-requires c κs = search needs
+
+enum-known-e : tie.Need-enum-known-e Inv-loop μ-loop
+enum-known-e c = search needs
+
+counted-requires : tie.Need-counted-requires Inv-loop μ-loop
+counted-requires c κs =
+    let s = now (c .before .before .before .before .before .before .before .before .args .s) in
+    let l = c .before .before .before .before .before .loop in
+    let here : l .at < length s = c .before .before .before .before .loop-test .taken in
+    let x = c .before .e .given .0 .0 in
+    let e : Entry = record { group = x .group; place = x .place; digest = x .digest; end = x .end } in
+    let read = sym (c .before .before .before .entry-at .ensures) ∙ ap entryOf (c .before .e .given .1) in
+    let k = entry-stands s (l .at) e read in
+    (omega (arith, k .2 .numbered .1), omega (arith, l .inv .0, here))
+
+loop-less : tie.Need-loop-less Inv-loop μ-loop
+loop-less c =
+    let s = now (c .before .before .before .before .before .before .before .before .before .args .s) in
+    let l = c .before .before .before .before .before .before .loop in
+    let here : l .at < length s = c .before .before .before .before .before .loop-test .taken in
+    let x = c .before .before .e .given .0 .0 in
+    let e : Entry = record { group = x .group; place = x .place; digest = x .digest; end = x .end } in
+    let read = sym (c .before .before .before .before .entry-at .ensures) ∙ ap entryOf (c .before .before .e .given .1) in
+    let k = entry-stands s (l .at) e read in
+    omega (arith, k .0, here)
+
+loop-again : tie.Need-loop-again Inv-loop μ-loop
+loop-again c =
+    let s = now (c .before .before .before .before .before .before .before .before .before .args .s) in
+    let l = c .before .before .before .before .before .before .loop in
+    let here : l .at < length s = c .before .before .before .before .before .loop-test .taken in
+    let x = c .before .before .e .given .0 .0 in
+    let e : Entry = record { group = x .group; place = x .place; digest = x .digest; end = x .end } in
+    let read = sym (c .before .before .before .before .entry-at .ensures) ∙ ap entryOf (c .before .before .e .given .1) in
+    let k = entry-stands s (l .at) e read in
+    let n = counted-count (l .seen) e in
+    rw (c .counted .ensures) (omega (arith, k .0, n, l .inv .0), tally-step s (l .at) (l .seen) e here read ∙ l .inv .1)
+
+enum-known-refusal : tie.Need-enum-known-refusal Inv-loop μ-loop
+enum-known-refusal c = search needs
+
+none-requires-2 : tie.Need-none-requires-2 Inv-loop μ-loop
+none-requires-2 c κs = search needs
+
+returns : tie.Need-returns Inv-loop μ-loop
+unfolding toldOf seenIn
+returns c =
+    let s = now (c .before .before .before .before .before .before .before .before .before .args .s) in
+    let l = c .before .before .before .before .before .before .loop in
+    let here : l .at < length s = c .before .before .before .before .before .loop-test .taken in
+    let r = c .before .before .refusal .given .0 .0 in
+    let read = sym (c .before .before .before .before .entry-at .ensures) ∙ ap entryOf (c .before .before .refusal .given .1) in
+    let q = sym (l .inv .1) ∙ tally-refused s (l .at) (l .seen) (numberOf (r .cause)) (r .place) here read in
+    (rw q, rw (q, c .none2 .ensures))
+
+returns-2 : tie.Need-returns-2 Inv-loop μ-loop
+unfolding toldOf seenIn
+returns-2 c =
+    let s = now (c .before .before .before .before .args .s) in
+    let l = c .before .loop in
+    let q = sym (l .inv .1) ∙ tally-done s (l .at) (l .seen) (c .loop-test .left) in
+    (rw q, rw q)
+
+pub entries-spec : {M : Type 1} → statement M
+entries-spec =
+    tie.close
+    (tie.spec
+    Inv-loop
+    μ-loop
+    none-requires
+    loop-holds
+    entry-at-requires
+    enum-known-e
+    counted-requires
+    loop-less
+    loop-again
+    enum-known-refusal
+    none-requires-2
+    returns
+    returns-2)

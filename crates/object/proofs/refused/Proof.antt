@@ -1,0 +1,13 @@
+-- A refusal has no digests.
+use Rattle.tlv.specs.Read.{toldOf}
+use Rattle.object.specs.Seen.{told, tableOf}
+use mathlib.Core.Path.{refl}
+use Rattle.object.proofs.refused.Statement.{statement}
+use Rattle.object.proofs.refused.Tie as tie
+
+returns : tie.Need-returns
+unfolding told tableOf toldOf
+returns c = refl
+
+pub refused-spec : {M : Type 1} → statement M
+refused-spec = tie.close (tie.spec returns)

@@ -1,0 +1,188 @@
+-- DEMAND 2 for presentations: bytes are accepted exactly when they are the joined encodings of an EF.COM, a security object and group files that
+-- belong together, and the record is that of the text in group 1.
+use Prim.Native.Nat.{ℕ, _≤_}
+use mathlib.Core.Path.{_≡_, refl, ap, sym, _∙_, subst}
+use mathlib.Core.Logic.{_↔_}
+use mathlib.Core.Bool.{true}
+use mathlib.Core.List.{List, [], _++_}
+use lib.ListN.{length, drop}
+use Rattle.refusal.specs.Outcome.{passed, refused}
+use Rattle.zone.specs.declared.record.Record.{Record}
+use Rattle.zone.specs.Record.{blank}
+use Rattle.text.specs.Read.{Answer, readText}
+use Rattle.tlv.specs.declared.Stretch.{Stretch}
+use Rattle.tlv.specs.Read.{Read, value, refusal, andThen, checked}
+use Rattle.tlv.specs.Element.{tlv}
+use Rattle.chip.specs.declared.outer.Outer.{Outer}
+use Rattle.tlv.specs.Cut.{cut}
+use Rattle.chip.specs.Outer.{File, files, walked}
+use Rattle.efcom.specs.EfCom.{common}
+use Rattle.object.specs.Object.{Entry, object}
+use Rattle.chip.specs.Files.{filesCheck}
+use Rattle.chip.specs.Presentation.{groupOne, decided, readStages, answerBy, readPresentation}
+use Rattle.text_theorems.specs.Octets.{areOctets}
+use Rattle.presentation_theorems.specs.Presented.{Signed, Lent, Contents, commonInside, commonOf, objectInside, objectOf, allLent, octetsOf, isIn, isOnce, numbers, tagsOf, FileKept, Presented}
+use Rattle.refusal.proofs.Outcomes.{refused-not-passed}
+use Rattle.text_theorems.proofs.Acceptance.{accepted-exactly}
+use Rattle.presentation_theorems.proofs.NoneTwice.{once-none, none-once}
+use Rattle.tlv.proofs.Told.{first-value, value-then, one-value, checked-value, value-checked}
+use Rattle.presentation_theorems.proofs.EfCom.{common-read, read-common}
+use Rattle.presentation_theorems.proofs.ObjectEntry.{signedIn}
+use Rattle.presentation_theorems.proofs.SecurityObject.{object-read, read-object}
+use Rattle.presentation_theorems.proofs.GroupFiles.{lentIn, EachGroup}
+use Rattle.presentation_theorems.proofs.FilesSigned.{EachBacked, files-backed, backed-files}
+use Rattle.presentation_theorems.proofs.GroupOne.{one-read, read-one}
+use Rattle.presentation_theorems.proofs.OuterWalk.{Walked, walked-parts, parts-walked}
+
+-- ---- the stages in order
+
+module _ (w : List ℕ) (o : Outer) where
+  abbrev pub from-files : Stretch → List Entry → List File → Read Record
+  from-files tags es fs = checked (filesCheck w (cut w tags) [] es fs) (groupOne w fs)
+
+  abbrev pub from-object : Stretch → List Entry → Read Record
+  from-object tags es = andThen (files w (o .object .to)) (from-files tags es)
+
+  abbrev pub from-common : Stretch → Read Record
+  from-common tags = andThen (object w (o .object)) (from-object tags)
+
+file-kept : (tags : List ℕ) (xs : List Signed) (ls : List Lent) → EachGroup ls → EachBacked tags xs ls → (l : Lent) → isIn l ls → FileKept tags xs l
+unfolding EachGroup EachBacked
+file-kept tags xs ls g b l m = record { of-group = g l m; listed = b l m .is-listed; signed = b l m .is-signed }
+
+module _ (w : List ℕ) (small : areOctets w) (r : Record) where
+  -- what was decided, of what was walked
+  decided-read : (o : Outer) (fs : List File) → Walked w (cut w (o .efcom)) (cut w (o .object)) o fs → length w ≤ 65535
+      → w ≡ tlv 96 (cut w (o .efcom)) ++ (tlv 48 (cut w (o .object)) ++ allLent (lentIn w fs)) → decided w o ≡ value r
+      → (p : Contents) × (w ≡ octetsOf p) × Presented p × (readText (p .text) .kept ≡ r)
+  unfolding decided octetsOf commonOf objectOf
+  decided-read o fs h most there e =
+      let c = cut w (o .efcom) in
+      let d = cut w (o .object) in
+      let a = first-value (common w (o .efcom)) (from-common w o) r e in
+      let tags = a .0 in
+      let b = first-value (object w (o .object)) (from-object w o tags) r (a .2) in
+      let es = b .0 in
+      let x = first-value (files w (o .object .to)) (from-files w o tags es) r (b .2) in
+      let same : fs ≡ x .0 = one-value (files w (o .object .to)) fs (x .0) (h .files-walked) (x .1) in
+      let last : from-files w o tags es fs ≡ value r = subst (λ (q : List File). from-files w o tags es q ≡ value r) (sym same) (x .2) in
+      let y = checked-value (filesCheck w (cut w tags) [] es fs) (groupOne w fs) r last in
+      let l = common-read w 0 96 c (drop (o .efcom .to) w) (o .efcom) (h .common-stands) small tags (a .1) in
+      let s = object-read w (o .efcom .to) 48 d (drop (o .object .to) w) (o .object) (h .object-stands) small es (b .1) in
+      let k = files-backed w (cut w tags) es [] fs (h .files-stand) (y .0) in
+      let t = one-read w fs (h .files-stand) small r (y .1) in
+      let p : Contents = record { tags = cut w tags; digits = l .0; followed = s .0; entries = signedIn w es; lent = lentIn w fs; text = t .0 } in
+      let whole : w ≡ tlv 96 (commonInside (l .0) (cut w tags)) ++ (tlv 48 (objectInside (s .0) (signedIn w es)) ++ allLent (lentIn w fs)) =
+      there
+      ∙ ap (λ (q : List ℕ). tlv 96 q ++ (tlv 48 d ++ allLent (lentIn w fs))) (l .1)
+      ∙ ap (λ (q : List ℕ). tlv 96 (commonInside (l .0) (cut w tags)) ++ (tlv 48 q ++ allLent (lentIn w fs))) (s .1) in (
+        p,
+        whole,
+        record {
+          size = subst (λ (q : List ℕ). length q ≤ 65535) whole most;
+          digits-six = l .2 .six-digits;
+          digits-only = l .2 .only-digits;
+          tags-known = l .3 .known-tags;
+          tags-once = l .3 .once-tags;
+          tags-most = l .3 .most-tags;
+          entry-kept = s .2 .each-kept;
+          numbers-once = s .2 .once-kept;
+          entries-least = s .2 .least-kept;
+          entries-most = s .2 .most-kept;
+          file-kept = file-kept (cut w tags) (signedIn w es) (lentIn w fs) (h .files-group) (k .1);
+          lent-once = once-none (tagsOf (lentIn w fs)) (k .0);
+          group-one = t .1;
+          text-kept = accepted-exactly (t .0) .0 (t .2);
+        },
+        t .3,
+      )
+
+  stages-read : readStages w ≡ value r → (p : Contents) × (w ≡ octetsOf p) × Presented p × (readText (p .text) .kept ≡ r)
+  unfolding readStages
+  stages-read e =
+      let a = first-value (walked w) (λ (o : Outer). decided w o) r e in
+      let b = walked-parts w small (a .0) (a .1) in
+      decided-read (a .0) (b .0) (b .2) (b .1) (b .3) (a .2)
+
+-- ---- and back
+
+each-group : (p : Contents) → Presented p → EachGroup (p .lent)
+unfolding EachGroup
+each-group p k l m = k .file-kept l m .of-group
+
+each-backed : (p : Contents) → Presented p → EachBacked (p .tags) (p .entries) (p .lent)
+unfolding EachBacked
+each-backed p k l m = record { is-listed = k .file-kept l m .listed; is-signed = k .file-kept l m .signed }
+
+read-stages : (p : Contents) → Presented p → readStages (octetsOf p) ≡ value (readText (p .text) .kept)
+unfolding readStages decided octetsOf commonOf objectOf
+read-stages p k =
+    let w = octetsOf p in
+    let most = k .size in
+    let c = commonInside (p .digits) (p .tags) in
+    let d = objectInside (p .followed) (p .entries) in
+    let r = readText (p .text) .kept in
+    let a = parts-walked w most c d (p .lent) (each-group p k) refl in
+    let o = a .0 in
+    let fs = a .1 in
+    let h = a .4 in
+    let lent : lentIn w fs ≡ p .lent = a .3 in
+    let l = read-common w 0 96 c (drop (o .efcom .to) w) (o .efcom) (h .common-stands) most (p .digits) (p .tags) refl
+    (record { six-digits = k .digits-six; only-digits = k .digits-only })
+    (record { known-tags = k .tags-known; once-tags = k .tags-once; most-tags = k .tags-most }) in
+    let tags = l .0 in
+    let s = read-object w (o .efcom .to) 48 d (drop (o .object .to) w) (o .object) (h .object-stands) most (p .followed) (p .entries) refl
+    (record { each-kept = k .entry-kept; once-kept = k .numbers-once; least-kept = k .entries-least; most-kept = k .entries-most }) in
+    let es = s .0 in
+    let once = subst (λ (q : List Signed). isOnce (numbers q) ≡ true) (sym (s .2)) (k .numbers-once) in
+    let tags-once = subst (λ (q : List Lent). isOnce (tagsOf q) ≡ true) (sym lent) (k .lent-once) in
+    let backed = subst (λ (q : List Lent). EachBacked (cut w tags) (signedIn w es) q) (sym lent)
+    (subst (λ (q : List Signed). EachBacked (cut w tags) q (p .lent)) (sym (s .2))
+    (subst (λ (q : List ℕ). EachBacked q (p .entries) (p .lent)) (sym (l .2)) (each-backed p k))) in
+    let check = backed-files w (cut w tags) es (length w) (s .3) once [] fs (h .files-stand) (none-once (tagsOf (lentIn w fs)) tags-once) backed in
+    let one = subst (λ (q : List Lent). isIn (record { tag = 97; content = tlv 24351 (p .text) }) q) (sym lent) (k .group-one) in
+    let text = read-one w fs (h .files-stand) most (p .text) tags-once one (accepted-exactly (p .text) .1 (k .text-kept)) in
+    value-then (walked w) (λ (q : Outer). decided w q) o (value r) (a .2)
+    (value-then (common w (o .efcom)) (from-common w o) tags (value r) (l .1)
+    (value-then (object w (o .object)) (from-object w o tags) es (value r) (s .1)
+    (value-then (files w (o .object .to)) (from-files w o tags es) fs (value r) (h .files-walked)
+    (value-checked (filesCheck w (cut w tags) [] es fs) (groupOne w fs) (value r) check text))))
+
+-- ---- what is answered
+
+pub passed-value : (m : Read Record) → answerBy m .outcome ≡ passed → (r : Record) × (m ≡ value r) × (answerBy m .kept ≡ r)
+unfolding answerBy
+passed-value (value r) e = (r, refl, refl)
+passed-value (refusal n p) e = absurd (refused-not-passed e)
+
+-- every refusal gives the blank record
+pub presentation-blank : (w : List ℕ) (n p : ℕ) → readPresentation w .outcome ≡ refused n p → readPresentation w .kept ≡ blank
+unfolding readPresentation answerBy
+presentation-blank w n p e = go (readStages w) e
+  where
+    go : (m : Read Record) → answerBy m .outcome ≡ refused n p → answerBy m .kept ≡ blank
+    go (value r) h = absurd (refused-not-passed (sym h))
+    go (refusal a b) h = refl
+
+-- the answer to the bytes of contents that belong together is the answer to their text
+pub presented-text : (p : Contents) → Presented p → readPresentation (octetsOf p) ≡ readText (p .text)
+unfolding readPresentation answerBy
+presented-text p k =
+    let good : readText (p .text) .outcome ≡ passed = accepted-exactly (p .text) .1 (k .text-kept) in
+    ap answerBy (read-stages p k) ∙ (λ i. record { outcome = sym good i; kept = readText (p .text) .kept })
+
+-- accepted bytes are those of contents that belong together, and their record is that of the text
+pub presented-contents : (w : List ℕ) → areOctets w → readPresentation w .outcome ≡ passed
+    → (p : Contents) × (w ≡ octetsOf p) × Presented p × (readPresentation w .kept ≡ readText (p .text) .kept)
+unfolding readPresentation
+presented-contents w small e =
+    let a = passed-value (readStages w) e in
+    let b = stages-read w small (a .0) (a .1) in
+    (b .0, b .1, b .2, a .2 ∙ sym (b .3))
+
+-- bytes are accepted exactly when they are those of contents that belong together
+pub presented-exactly : (w : List ℕ) → areOctets w → (readPresentation w .outcome ≡ passed) ↔ ((p : Contents) × (w ≡ octetsOf p) × Presented p)
+presented-exactly w small = (
+  λ e. let a = presented-contents w small e in (a .0, a .1, a .2),
+  λ h. ap (λ (v : List ℕ). readPresentation v .outcome) (h .1) ∙ ap (λ (x : Answer). x .outcome) (presented-text (h .0) (h .2)) ∙ accepted-exactly (h .0 .text) .1 (h .2 .text-kept),
+)

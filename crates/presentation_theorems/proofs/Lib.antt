@@ -1,0 +1,28 @@
+-- elements in the words of the stages
+pub mod Elements
+-- a walk that keeps what stood before passes lists without a repeat
+pub mod NoneTwice
+-- stage 3: EF.COM is read exactly when its encoding stands there
+pub mod EfCom
+-- stage 4: one entry
+pub mod ObjectEntry
+-- stage 4: the list of entries
+pub mod ObjectEntries
+-- stage 4 as a whole
+pub mod SecurityObject
+-- stage 2: the group files
+pub mod GroupFiles
+-- stage 5: each file listed, lent once, and signed
+pub mod FilesSigned
+-- stage 6: group 1 and its text
+pub mod GroupOne
+-- stages 1 and 2
+pub mod OuterWalk
+-- DEMAND 2: accepted exactly when it is the encodings of what belongs together (`presented-exactly`)
+pub mod Acceptance
+-- DEMAND 2: the file of a group (`group-stretch` and what is around it)
+pub mod GroupFile
+-- DEMAND 2: every accepted text is carried by an accepted presentation (`every-text-carried`)
+pub mod TextsCarried
+-- no two contents have the same octets (`octets-tell`)
+pub mod ContentsByOctets

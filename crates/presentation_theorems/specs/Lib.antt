@@ -1,0 +1,2 @@
+-- demand 2: what it is to be a presentation, said with encoders
+pub mod Presented

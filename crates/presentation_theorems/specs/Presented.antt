@@ -1,0 +1,182 @@
+-- Demand 2 for a presentation: what it is to be the joined encodings of an EF.COM, a security object and group files that belong together, said with
+-- encoders and without the reader. The words in quotes are those of document 01, "Stages of a presentation"; its tags are numbers here: 5F01 is 24321,
+-- 5F36 is 24374, 5F1F is 24351, 5C is 92, 60 is 96, 61 is 97 and 30 is 48.
+use Prim.Native.Nat.{ℕ, _≤_}
+use mathlib.Core.Path.{_≡_}
+use mathlib.Core.Logic.{_⊎_}
+use mathlib.Core.Bool.{Bool, true, false, cond, not, _&&_}
+use mathlib.Core.List.{List, [], _∷_, _++_}
+use lib.ListN.{length, replicate}
+use Rattle.zone.specs.declared.form.Form.{Form}
+use Rattle.zone.specs.Alphabet.{isDigit, every}
+use Rattle.sha256.specs.Hash.{sha256}
+use Rattle.tlv.specs.Element.{tlv}
+use Rattle.tlv.specs.Tags.{groupOf, isGroup}
+use Rattle.lent.specs.Octets.{stands}
+use Rattle.object.specs.Object.{sha256Name}
+use Rattle.text_theorems.specs.Accepted.{Keeps}
+
+-- ---- what a presentation holds
+
+-- an entry of the security object: "a sequence of a one-octet integer 1-16 and an octet string of 32"
+pub record Signed : Type 0 where
+  pub number : ℕ
+  pub digest : List ℕ
+
+-- a group file: its tag, and what it holds
+pub record Lent : Type 0 where
+  pub tag : ℕ
+  pub content : List ℕ
+
+-- all of it
+pub record Contents : Type 0 where
+  -- "5C, the tag list"
+  pub tags : List ℕ
+  -- "5F36 of length 6, six digits"
+  pub digits : List ℕ
+  -- the algorithm's name "alone or followed by 05 00"
+  pub followed : Bool
+  -- "a sequence of entries"
+  pub entries : List Signed
+  -- "then group files, joined"
+  pub lent : List Lent
+  -- "5F1F and the text, exactly filling 61"
+  pub text : List ℕ
+
+-- ---- its bytes
+
+-- "5F01 of length 4, `0107`; 5F36 of length 6, six digits; 5C, the tag list"
+unfoldable pub commonInside : List ℕ → List ℕ → List ℕ
+commonInside digits tags = tlv 24321 (48 ∷ 49 ∷ 48 ∷ 55 ∷ []) ++ (tlv 24374 digits ++ tlv 92 tags)
+
+-- EF.COM, "tag 60"
+unfoldable pub commonOf : Contents → List ℕ
+commonOf p = tlv 96 (commonInside (p .digits) (p .tags))
+
+-- "each itself a sequence of a one-octet integer 1-16 and an octet string of 32"
+unfoldable pub signedOf : Signed → List ℕ
+signedOf e = tlv 48 (tlv 2 (e .number ∷ []) ++ tlv 4 (e .digest))
+
+-- "a sequence of entries", joined
+unfoldable pub allSigned : List Signed → List ℕ
+allSigned [] = []
+allSigned (e ∷ es) = signedOf e ++ allSigned es
+
+-- "exactly 06 09 60 86 48 01 65 03 04 02 01, alone or followed by 05 00"
+unfoldable pub algorithmOf : Bool → List ℕ
+algorithmOf followed = cond followed (sha256Name ++ (5 ∷ 0 ∷ [])) sha256Name
+
+-- "version integer 0; AlgorithmIdentifier of SHA-256; a sequence of entries"
+unfoldable pub objectInside : Bool → List Signed → List ℕ
+objectInside followed entries = tlv 2 (0 ∷ []) ++ (tlv 48 (algorithmOf followed) ++ tlv 48 (allSigned entries))
+
+-- the content of the security object, "tag 30"
+unfoldable pub objectOf : Contents → List ℕ
+objectOf p = tlv 48 (objectInside (p .followed) (p .entries))
+
+-- a whole file, "tag and length included"
+unfoldable pub fileOf : Lent → List ℕ
+fileOf f = tlv (f .tag) (f .content)
+
+-- "group files, joined"
+unfoldable pub allLent : List Lent → List ℕ
+allLent [] = []
+allLent (f ∷ fs) = fileOf f ++ allLent fs
+
+-- "The bytes are EF.COM, the content of the security object, then group files, joined."
+unfoldable pub octetsOf : Contents → List ℕ
+octetsOf p = commonOf p ++ (objectOf p ++ allLent (p .lent))
+
+-- ---- what belongs together
+
+-- to be one of those on a list
+unfoldable pub isIn : {A : Type 0} → A → List A → Type 0
+isIn x [] = ⊥
+isIn x (y ∷ ys) = (x ≡ y) ⊎ isIn x ys
+
+-- none stands twice
+unfoldable pub isOnce : List ℕ → Bool
+isOnce [] = true
+isOnce (c ∷ t) = not (stands c t) && isOnce t
+
+-- the numbers of entries, of which none is "a repeated number"
+unfoldable pub numbers : List Signed → List ℕ
+numbers [] = []
+numbers (e ∷ es) = e .number ∷ numbers es
+
+-- the tags of files, of which none is "lent before"
+unfoldable pub tagsOf : List Lent → List ℕ
+tagsOf [] = []
+tagsOf (f ∷ fs) = f .tag ∷ tagsOf fs
+
+-- "a one-octet integer 1-16 and an octet string of 32"
+pub record EntryKept (e : Signed) : Type 0 where
+  pub number-least : 1 ≤ e .number
+  pub number-most : e .number ≤ 16
+  pub digest-octets : length (e .digest) ≡ 32
+
+-- a lent file: not "unlisted" nor "without entry", and "the digest is over the whole file, tag and length included"
+pub record FileKept (tags : List ℕ) (entries : List Signed) (f : Lent) : Type 0 where
+  pub of-group : isGroup (f .tag) ≡ true
+  pub listed : stands (f .tag) tags ≡ true
+  pub signed : isIn (record { number = groupOf (f .tag); digest = sha256 (fileOf f) }) entries
+
+-- every stage
+pub record Presented (p : Contents) : Type 0 where
+  -- not "over 65,535"
+  pub size : length (octetsOf p) ≤ 65535
+  -- "six digits"
+  pub digits-six : length (p .digits) ≡ 6
+  pub digits-only : every isDigit (p .digits) ≡ true
+  -- in the list not "an unknown tag", nor "a repeated one", nor "more than fifteen"
+  pub tags-known : every isGroup (p .tags) ≡ true
+  pub tags-once : isOnce (p .tags) ≡ true
+  pub tags-most : length (p .tags) ≤ 15
+  -- of the entries not "a repeated number", nor "fewer than 2", nor "more than 16"
+  pub entry-kept : (e : Signed) → isIn e (p .entries) → EntryKept e
+  pub numbers-once : isOnce (numbers (p .entries)) ≡ true
+  pub entries-least : 2 ≤ length (p .entries)
+  pub entries-most : length (p .entries) ≤ 16
+  -- "Per group file", and none "lent before"
+  pub file-kept : (f : Lent) → isIn f (p .lent) → FileKept (p .tags) (p .entries) f
+  pub lent-once : isOnce (tagsOf (p .lent)) ≡ true
+  -- "Inside group 1: 5F1F and the text, exactly filling 61", and the text keeps every rule
+  pub group-one : isIn (record { tag = 97; content = tlv 24351 (p .text) }) (p .lent)
+  pub text-kept : (f : Form) × Keeps f (p .text)
+
+-- ---- the file of a group
+
+-- stages 1 and 2 alone: not "over 65,535"; "tag 60, tag 30, then group tags only, every file ending within the bytes"
+pub record Outside (w c d : List ℕ) (fs : List Lent) : Type 0 where
+  pub outside-size : length w ≤ 65535
+  pub outside-octets : w ≡ tlv 96 c ++ (tlv 48 d ++ allLent fs)
+  pub outside-groups : (f : Lent) → isIn f fs → isGroup (f .tag) ≡ true
+
+-- no file of that group
+unfoldable pub NoFile : ℕ → List Lent → Type 0
+NoFile group fs = (f : Lent) → isIn f fs → groupOf (f .tag) ≡ group → ⊥
+
+-- "the first file with that group's tag", what is lent before it, and what behind
+pub record FirstFile (group : ℕ) (fs before : List Lent) (f : Lent) (after : List Lent) : Type 0 where
+  pub lent-so : fs ≡ before ++ (f ∷ after)
+  pub none-before : NoFile group before
+  pub its-group : groupOf (f .tag) ≡ group
+
+-- where a file stands: behind EF.COM, the object and the files before it
+unfoldable pub placeOf : (c d : List ℕ) → List Lent → ℕ
+placeOf c d before = length (tlv 96 c ++ (tlv 48 d ++ allLent before))
+
+-- ---- a presentation of a text
+
+-- the least that carries a text: group 1 alone, listed and signed, and a second entry, since "fewer than 2" are refused
+unfoldable pub around : List ℕ → Contents
+around t =
+    let one : Lent = record { tag = 97; content = tlv 24351 t } in
+    record {
+      tags = 97 ∷ [];
+      digits = 48 ∷ 52 ∷ 48 ∷ 48 ∷ 48 ∷ 48 ∷ [];
+      followed = false;
+      entries = record { number = 1; digest = sha256 (fileOf one) } ∷ (record { number = 2; digest = replicate 32 0 } ∷ []);
+      lent = one ∷ [];
+      text = t;
+    }

@@ -1,0 +1,24 @@
+-- a range of octets as its bits
+pub mod BitsOfOctets
+-- bits gathered by eights
+pub mod OctetsOfBits
+-- the codes of characters, forms and sexes tell them
+pub mod Codes
+-- numbers and characters in bits, put and read
+pub mod FieldBits
+-- the bits of an entry
+pub mod EntryBits
+-- DEMAND 3: an entry that stands in a run is read as its house and record (`decoded`)
+pub mod WrittenThenRead
+-- DEMAND 3: what the reader passes over is the entry of what it answers (`passed-over`)
+pub mod ReadThenWritten
+-- DEMAND 3: the key (`key-exactly`)
+pub mod Keys
+-- DEMAND 3: a list is read back from its octets, and no two lists give the same (`read-joined`, `joined-tells`)
+pub mod ListReadBack
+-- what one answer of the reader says of its place
+pub mod OneAnswer
+-- DEMAND 3: any octets are read up to their end or to the first place where no entry stands (`read-any`)
+pub mod AnyRun
+-- DEMAND 3: 278 + 6n bits rounded up (`entry-length`)
+pub mod EntryLengths

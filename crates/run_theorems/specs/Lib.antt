@@ -1,0 +1,4 @@
+-- demand 3: lists, their octets, and what the reading of any octets says
+pub mod Runs
+-- demand 3: what two entries with one key have in common
+pub mod Keys

@@ -1,0 +1,206 @@
+-- DEMAND 2, acceptance: a text is accepted exactly when it keeps every rule of one form.
+use Prim.Native.Nat.{ℕ, _+_, _-_, _≤_, _<_}
+use mathlib.Core.Path.{_≡_, refl, ap, sym, _∙_}
+use mathlib.Core.Logic.{_↔_}
+use mathlib.Core.Bool.{Bool, true, false, not}
+use mathlib.Core.List.{List, _++_}
+use lib.ListN.{length, take, getD}
+use borrow.Author.Tests.{eqb-true, eq-eqb}
+use lib.Dec.{eqb}
+use Rattle.lent.proofs.Bools.{and-both}
+use Rattle.refusal.specs.Outcome.{passed, refused, orElse}
+use Rattle.zone.specs.declared.form.Form.{Form}
+use Rattle.zone.specs.declared.form.Recognised.{Recognised}
+use Rattle.zone.specs.declared.form.Recognised.the-variants.{As, Unknown}
+use Rattle.zone.specs.Alphabet.{isCharacter, isFiller, isForeign, firstForeign}
+use Rattle.zone.proofs.First.{first-none, none-first}
+use Rattle.zone.specs.Part.{Part, code, state, number, numberCheck, optional, birth, birthCheck, sex, expiry, expiryCheck, nationality, optional2, composite, name, personal, personalCheck}
+use Rattle.zone.specs.Form.{formOf, parts, start, width, total, field, covered}
+use Rattle.digit.specs.Check.{digitOf}
+use Rattle.field.specs.Code.{codeRule}
+use Rattle.field.specs.Letters.{stateRule, sexRule, nameRule}
+use Rattle.field.specs.Date.{birthRule, expiryRule}
+use Rattle.text.specs.declared.number.Span.{Span}
+use Rattle.text.specs.Number.{isLong, spanOf, spanRule, numberRule, checkedBy}
+use Rattle.text.specs.Order.{characters, fieldCheck, numberDigit, furtherDigit, digitCheck, inOrder, verdictBy}
+use Rattle.text.specs.Read.{readText, readBy, answered, recordBy}
+use Rattle.text_theorems.specs.Accepted.{Keeps, has, filler}
+use Rattle.text_theorems.proofs.FirstFailing.{answered-outcome}
+use Rattle.text_theorems.proofs.FormByLength.{told-by, by-told, common}
+use Rattle.refusal.proofs.Outcomes.{refused-not-passed, both-passed, unless-kept, kept-unless}
+use Rattle.text_theorems.proofs.PartByPart.{digit-kept, kept-digit, walk-each, each-walk}
+use Rattle.text_theorems.proofs.NumberSpan.{short-span, long-span, span-ends, long-has}
+
+-- a test that was not passed
+not-true : (b : Bool) → not b ≡ true → b ≡ false
+not-true true e = sym e
+not-true false e = refl
+
+not-false : (b : Bool) → not b ≡ false → b ≡ true
+not-false true e = refl
+not-false false e = sym e
+
+-- ---- from an accepted text to its rules
+
+module _ (f : Form) (t : List ℕ) (told : length t ≡ total f) (accepted : verdictBy f t (spanOf f t) ≡ passed) where
+  span : Span
+  span = spanOf f t
+
+  stages : (characters t ≡ passed) × (inOrder (fieldCheck f t span) (parts f) ≡ passed) × (inOrder (digitCheck f t span) (parts f) ≡ passed)
+  unfolding verdictBy span
+  stages =
+      let one = both-passed (characters t) (orElse (inOrder (fieldCheck f t span) (parts f)) (inOrder (digitCheck f t span) (parts f))) accepted in
+      let two = both-passed (inOrder (fieldCheck f t span) (parts f)) (inOrder (digitCheck f t span) (parts f)) (one .1) in
+      (one .0, two .0, two .1)
+
+  field-passed : (x : Part) → has f x ≡ true → fieldCheck f t span x ≡ passed
+  unfolding has
+  field-passed x h = walk-each (fieldCheck f t span) (parts f) (stages .1) x h
+
+  digit-passed : (x : Part) → has f x ≡ true → digitCheck f t span x ≡ passed
+  unfolding has
+  digit-passed x h = walk-each (digitCheck f t span) (parts f) (stages .2) x h
+
+  number-kept : (isFiller (getD (field f number t) 0 0) ≡ false) × (spanRule span ≡ true)
+  unfolding fieldCheck numberRule
+  number-kept =
+      let both = and-both (not (isFiller (getD (field f number t) 0 0))) (spanRule span)
+      (unless-kept (numberRule f t span) 5 (start f number) (field-passed number (common f .has-number))) in
+      (not-true (isFiller (getD (field f number t) 0 0)) (both .0), both .1)
+
+  ends : isLong f t ≡ true → (2 ≤ filler f t) × (filler f t < width f optional)
+  unfolding span
+  ends long = span-ends f t (number-kept .1) long
+
+  short-kept : isLong f t ≡ false → getD t (start f numberCheck) 0 ≡ digitOf (field f number t)
+  unfolding span digitCheck numberDigit checkedBy
+  short-kept short =
+      digit-kept t (start f numberCheck) (field f number t) (rw (short-span f t short) at (digit-passed numberCheck (common f .has-number-check)))
+
+  long-kept : isLong f t ≡ true
+      → getD t (start f optional + (filler f t - 1)) 0 ≡ digitOf (field f number t ++ take (filler f t - 1) (field f optional t))
+  unfolding span digitCheck furtherDigit checkedBy
+  long-kept long =
+      digit-kept t (start f optional + (filler f t - 1)) (field f number t ++ take (filler f t - 1) (field f optional t))
+      (rw (long-span f t long (ends long .0) (ends long .1)) at (digit-passed optional (long-has f t long)))
+
+  characters-kept : (i : ℕ) → i < length t → isCharacter (getD t i 0) ≡ true
+  unfolding characters firstForeign isForeign
+  characters-kept i h =
+      not-false (isCharacter (getD t i 0))
+      (first-none isForeign t (eqb-true (firstForeign t) (length t) (unless-kept (eqb (firstForeign t) (length t)) 2 (firstForeign t) (stages .0))) i h)
+
+  pub keeps : Keeps f t
+  unfolding fieldCheck digitCheck
+  keeps = record {
+    size = told;
+    alphabet = characters-kept;
+    code-kept = unless-kept (codeRule f (field f code t)) 3 (start f code) (field-passed code (common f .has-code));
+    state-kept = unless-kept (stateRule (field f state t)) 4 (start f state) (field-passed state (common f .has-state));
+    number-begins = number-kept .0;
+    number-ends = ends;
+    nationality-kept = unless-kept (stateRule (field f nationality t)) 4 (start f nationality) (field-passed nationality (common f .has-nationality));
+    birth-kept = unless-kept (birthRule (field f birth t)) 6 (start f birth) (field-passed birth (common f .has-birth));
+    sex-kept = unless-kept (sexRule (getD t (start f sex) 0)) 7 (start f sex) (field-passed sex (common f .has-sex));
+    expiry-kept = unless-kept (expiryRule (field f expiry t)) 6 (start f expiry) (field-passed expiry (common f .has-expiry));
+    name-kept = unless-kept (nameRule (field f name t)) 8 (start f name) (field-passed name (common f .has-name));
+    number-digit = short-kept;
+    long-digit = long-kept;
+    birth-digit = digit-kept t (start f birthCheck) (field f birth t) (digit-passed birthCheck (common f .has-birth-check));
+    expiry-digit = digit-kept t (start f expiryCheck) (field f expiry t) (digit-passed expiryCheck (common f .has-expiry-check));
+    personal-digit = λ h. digit-kept t (start f personalCheck) (field f personal t) (digit-passed personalCheck h);
+    composite-digit = digit-kept t (start f composite) (covered f t) (digit-passed composite (common f .has-composite));
+  }
+
+-- ---- and back
+
+module _ (f : Form) (t : List ℕ) (k : Keeps f t) where
+  -- short or long, the number's own digit is right at the one place where it stands
+  number-right : (b : Bool) → isLong f t ≡ b → (spanRule (spanOf f t) ≡ true) × (numberDigit f t (spanOf f t) ≡ passed) × (furtherDigit f t (spanOf f t) ≡ passed)
+  unfolding spanRule numberDigit furtherDigit checkedBy
+  number-right false e = rw (short-span f t e) (refl, kept-digit t (start f numberCheck) (field f number t) (k .number-digit e), refl)
+  number-right true e =
+      rw (long-span f t e (k .number-ends e .0) (k .number-ends e .1)) (
+        refl,
+        refl,
+        kept-digit t (start f optional + (filler f t - 1)) (field f number t ++ take (filler f t - 1) (field f optional t)) (k .long-digit e),
+      )
+
+  characters-pass : characters t ≡ passed
+  unfolding characters firstForeign isForeign
+  characters-pass =
+      kept-unless (eqb (firstForeign t) (length t)) 2 (firstForeign t)
+      (eq-eqb (firstForeign t) (length t) (none-first isForeign t (λ i h. ap not (k .alphabet i h))))
+
+  fields-pass : (x : Part) → has f x ≡ true → fieldCheck f t (spanOf f t) x ≡ passed
+  unfolding fieldCheck numberRule
+  fields-pass code h = kept-unless _ 3 (start f code) (k .code-kept)
+  fields-pass state h = kept-unless _ 4 (start f state) (k .state-kept)
+  fields-pass number h = rw (k .number-begins, number-right (isLong f t) refl .0)
+  fields-pass numberCheck h = refl
+  fields-pass optional h = refl
+  fields-pass birth h = kept-unless _ 6 (start f birth) (k .birth-kept)
+  fields-pass birthCheck h = refl
+  fields-pass sex h = kept-unless _ 7 (start f sex) (k .sex-kept)
+  fields-pass expiry h = kept-unless _ 6 (start f expiry) (k .expiry-kept)
+  fields-pass expiryCheck h = refl
+  fields-pass nationality h = kept-unless _ 4 (start f nationality) (k .nationality-kept)
+  fields-pass optional2 h = refl
+  fields-pass composite h = refl
+  fields-pass name h = kept-unless _ 8 (start f name) (k .name-kept)
+  fields-pass personal h = refl
+  fields-pass personalCheck h = refl
+
+  digits-pass : (x : Part) → has f x ≡ true → digitCheck f t (spanOf f t) x ≡ passed
+  unfolding digitCheck
+  digits-pass code h = refl
+  digits-pass state h = refl
+  digits-pass number h = refl
+  digits-pass numberCheck h = number-right (isLong f t) refl .1
+  digits-pass optional h = number-right (isLong f t) refl .2
+  digits-pass birth h = refl
+  digits-pass birthCheck h = kept-digit t (start f birthCheck) (field f birth t) (k .birth-digit)
+  digits-pass sex h = refl
+  digits-pass expiry h = refl
+  digits-pass expiryCheck h = kept-digit t (start f expiryCheck) (field f expiry t) (k .expiry-digit)
+  digits-pass nationality h = refl
+  digits-pass optional2 h = refl
+  digits-pass composite h = kept-digit t (start f composite) (covered f t) (k .composite-digit)
+  digits-pass name h = refl
+  digits-pass personal h = refl
+  digits-pass personalCheck h = kept-digit t (start f personalCheck) (field f personal t) (k .personal-digit h)
+
+  pub passes : verdictBy f t (spanOf f t) ≡ passed
+  unfolding verdictBy has
+  passes =
+      rw (
+        characters-pass,
+        each-walk (fieldCheck f t (spanOf f t)) (parts f) fields-pass,
+        each-walk (digitCheck f t (spanOf f t)) (parts f) digits-pass,
+      )
+
+-- a text of a form's length is read as that form
+pub read-as : (f : Form) (t : List ℕ) → length t ≡ total f → readText t ≡ answered (verdictBy f t (spanOf f t)) (recordBy f t (spanOf f t))
+unfolding readText readBy
+read-as f t e = rw (told-by f (length t) e)
+
+accepted-by : (told : Recognised) (t : List ℕ) → readBy told t .outcome ≡ passed → (f : Form) × (told ≡ As f) × (verdictBy f t (spanOf f t) ≡ passed)
+unfolding readBy
+accepted-by Unknown t e = absurd (refused-not-passed (sym (answered-outcome (refused 1 0) _) ∙ e))
+accepted-by (As f) t e = (f, refl, sym (answered-outcome (verdictBy f t (spanOf f t)) (recordBy f t (spanOf f t))) ∙ e)
+
+-- the form of an accepted text, and that its checks passed
+pub accepted-form : (t : List ℕ) → readText t .outcome ≡ passed → (f : Form) × (formOf (length t) ≡ As f) × (verdictBy f t (spanOf f t) ≡ passed)
+unfolding readText
+accepted-form t e = accepted-by (formOf (length t)) t e
+
+pub accepted-exactly : (t : List ℕ) → (readText t .outcome ≡ passed) ↔ ((f : Form) × Keeps f t)
+accepted-exactly t = (forth, λ w. back (w .0) (w .1))
+  where
+    forth : readText t .outcome ≡ passed → (f : Form) × Keeps f t
+    forth e =
+        let w = accepted-form t e in
+        (w .0, keeps (w .0) t (by-told (w .0) (length t) (w .1)) (w .2))
+
+    back : (f : Form) → Keeps f t → readText t .outcome ≡ passed
+    back f k = rw (read-as f t (k .size)) (answered-outcome (verdictBy f t (spanOf f t)) (recordBy f t (spanOf f t)) ∙ passes f t k)

@@ -1,0 +1,108 @@
+-- DEMAND 2, the answer: reading a text answers `refused n p` exactly where n at p is the first failing check in the paper's order.
+use Prim.Native.Nat.{ℕ, _+_, _<_}
+use mathlib.Core.Path.{_≡_, refl, ap, sym, _∙_}
+use mathlib.Core.Logic.{_↔_}
+use mathlib.Core.List.{List, [], _∷_, _++_, map}
+use mathlib.Core.Bool.{true}
+use lib.ListN.{length}
+use native.Mathlib.Omega.{arith}
+use Rattle.refusal.specs.Outcome.{Outcome, passed, refused, orElse}
+use Rattle.zone.specs.declared.form.Recognised.{Recognised}
+use Rattle.zone.specs.declared.form.Recognised.the-variants.{As, Unknown}
+use Rattle.zone.specs.Part.{Part, optional, rank, same}
+use Rattle.zone.specs.Record.{blank}
+use Rattle.zone.specs.declared.form.Form.{Form}
+use Rattle.zone.specs.declared.form.Form.the-variants.{Td1, Td2, Td3}
+use Rattle.zone.specs.Form.{formOf, layout, partOf, parts, start, startIn, width}
+use Rattle.text.specs.declared.number.Span.the-variants.{Long}
+use Rattle.text.specs.Number.{spanOf}
+use Rattle.text_theorems.proofs.NumberSpan.{span-within}
+use Rattle.text.specs.Order.{inOrder, verdictBy, fieldCheck, digitCheck}
+use Rattle.text.specs.Read.{readText, readBy, answered, recordBy}
+use Rattle.zone.specs.declared.record.Record.{Record}
+use Rattle.text_theorems.specs.Ordered.{checksBy, checksOf, FirstFailing, here, later, isRising}
+
+never : (n p : ℕ) → passed ≡ refused n p → ⊥
+never n p e = let z : _≡_ {A = ℕ} 0 1 = cc in omega arith
+
+-- the first of a list that is a refusal
+unfoldable pub firstOf : List Outcome → Outcome
+firstOf [] = passed
+firstOf (o ∷ os) = orElse o (firstOf os)
+
+first-append : (a b : List Outcome) → firstOf (a ++ b) ≡ orElse (firstOf a) (firstOf b)
+unfolding firstOf
+first-append [] b = refl
+first-append (passed ∷ a) b = first-append a b
+first-append (refused n p ∷ a) b = refl
+
+in-order : (check : Part → Outcome) (xs : List Part) → inOrder check xs ≡ firstOf (map check xs)
+unfolding firstOf inOrder
+in-order check [] = refl
+in-order check (x ∷ xs) = ap (orElse (check x)) (in-order check xs)
+
+pub answered-outcome : (o : Outcome) (r : Record) → answered o r .outcome ≡ o
+unfolding answered
+answered-outcome passed r = refl
+answered-outcome (refused n p) r = refl
+
+answered-blank : (o : Outcome) (r : Record) (n p : ℕ) → answered o r .outcome ≡ refused n p → answered o r .kept ≡ blank
+unfolding answered
+answered-blank passed r n p e = absurd (never n p e)
+answered-blank (refused m q) r n p e = refl
+
+read-first-by : (told : Recognised) (t : List ℕ) → readBy told t .outcome ≡ firstOf (checksBy told t)
+unfolding readBy checksBy verdictBy firstOf
+read-first-by Unknown t = answered-outcome (refused 1 0) _
+read-first-by (As f) t =
+    answered-outcome (verdictBy f t (spanOf f t)) (recordBy f t (spanOf f t))
+    ∙ rw (
+      in-order (fieldCheck f t (spanOf f t)) (parts f),
+      in-order (digitCheck f t (spanOf f t)) (parts f),
+      first-append (map (fieldCheck f t (spanOf f t)) (parts f)) (map (digitCheck f t (spanOf f t)) (parts f)),
+    )
+
+pub read-first : (t : List ℕ) → readText t .outcome ≡ firstOf (checksOf t)
+unfolding readText checksOf
+read-first t = read-first-by (formOf (length t)) t
+
+first-failing : (os : List Outcome) (n p : ℕ) → firstOf os ≡ refused n p → FirstFailing os n p
+unfolding firstOf
+first-failing [] n p e = absurd (never n p e)
+first-failing (passed ∷ os) n p e = later (first-failing os n p e)
+first-failing (refused m q ∷ os) n p e = rw (sym same-number, sym same-place) here
+  where
+    same-number : m ≡ n
+    same-number = cc
+
+    same-place : q ≡ p
+    same-place = cc
+
+failing-first : (os : List Outcome) (n p : ℕ) → FirstFailing os n p → firstOf os ≡ refused n p
+unfolding firstOf
+failing-first (refused m q ∷ os) n p here = refl
+failing-first (passed ∷ os) n p (later h) = failing-first os n p h
+
+-- every refusal gives the blank record
+pub refused-blank : (t : List ℕ) (n p : ℕ) → readText t .outcome ≡ refused n p → readText t .kept ≡ blank
+unfolding readText readBy
+refused-blank t n p e = by-told (formOf (length t)) e
+  where
+    by-told : (told : Recognised) → readBy told t .outcome ≡ refused n p → readBy told t .kept ≡ blank
+    by-told Unknown h = answered-blank (refused 1 0) blank n p h
+    by-told (As f) h = answered-blank (verdictBy f t (spanOf f t)) (recordBy f t (spanOf f t)) n p h
+
+pub refused-exactly : (t : List ℕ) (n p : ℕ) → (readText t .outcome ≡ refused n p) ↔ FirstFailing (checksOf t) n p
+refused-exactly t n p =
+    (λ e. first-failing (checksOf t) n p (sym (read-first t) ∙ e), λ h. read-first t ∙ failing-first (checksOf t) n p h)
+
+-- the order is by place: in the walk over a form's parts each part starts behind the one before
+pub in-text-order : (f : Form) → isRising (map (start f) (parts f)) ≡ true
+unfolding isRising parts partOf layout start startIn rank same
+in-text-order Td1 = refl
+in-text-order Td2 = refl
+in-text-order Td3 = refl
+
+-- and a long number's digit stands within the optional field, which the walk looks at in its stead
+pub digit-within : (f : Form) (t : List ℕ) (n : ℕ) → spanOf f t ≡ Long n → start f optional + n < start f optional + width f optional
+digit-within f t n e = omega (arith, span-within f t n e)

@@ -1,0 +1,242 @@
+-- DEMAND 2, the record: an accepted text's record holds the fields that stand in it, and is sound.
+use Prim.Native.Nat.{ℕ, _+_, _-_, _≤_, _<_}
+use mathlib.Core.Path.{_≡_, refl, ap, sym, _∙_}
+use mathlib.Core.Bool.{Bool, true, false, _&&_}
+use mathlib.Core.List.{List, _++_}
+use native.Mathlib.Omega.{arith}
+use borrow.Author.Tests.{le-leb, eq-eqb}
+use lib.ListN.{length, take, drop, getD, replicate, length-take, length-drop, length-append, drop-of-length-le, List·getD-append}
+use lib.Seq.{take-all, drop-at, getD-take}
+use Rattle.lent.proofs.Bools.{and-both, both-and}
+use Rattle.refusal.specs.Outcome.{passed}
+use Rattle.zone.specs.declared.form.Form.{Form}
+use Rattle.zone.specs.declared.form.Form.the-variants.{Td1, Td2, Td3}
+use Rattle.zone.specs.Alphabet.{isCharacter, isFiller, isLetter, isDigit, every}
+use Rattle.zone.specs.Part.{Part, code, state, number, optional, birth, expiry, nationality, name, rank, same}
+use Rattle.zone.specs.Form.{start, width, widthIn, layout, total, longest, field}
+use Rattle.zone.specs.Record.{trimmedLength, trimmed, padded}
+use Rattle.zone.proofs.Widths.{within, fixed}
+use Rattle.zone.proofs.Padded.{padded-exact, padded-spare, padded-trimmed, length-padded, take-padded, trimmed-le, trimmed-length}
+use Rattle.field.specs.Code.{codeRule}
+use Rattle.field.specs.Letters.{stateRule, nameRule, isNameCharacter}
+use Rattle.field.specs.Date.{birthRule, expiryRule}
+use Rattle.text.specs.Number.{isLong, spanOf, numberBy}
+use Rattle.text.specs.Read.{readText, answered, recordBy}
+use Rattle.sound.specs.Sound.{isShaped, isHeld, isSolid, isNumber, isDocument, isHolder, isSound}
+use Rattle.text_theorems.specs.Accepted.{Keeps, filler}
+use Rattle.text_theorems.specs.Held.{Holds}
+use Rattle.text_theorems.proofs.FormByLength.{by-told}
+use Rattle.text_theorems.proofs.NumberSpan.{short-span, long-span}
+use Rattle.text_theorems.proofs.Acceptance.{keeps, accepted-form, read-as}
+use Rattle.text_theorems.proofs.SoundRecord.{name-room}
+use Rattle.text_theorems.proofs.TrailingFillers.{trimmed-fillers, trimmed-twice, trimmed-some, ends-solid, letter-solid, solid-before, every-append, every-take, every-drop, every-replicate, every-each}
+
+-- ---- widths
+
+some-name : (f : Form) → 0 < width f name
+unfolding width widthIn layout rank same
+some-name Td1 = omega arith
+some-name Td2 = omega arith
+some-name Td3 = omega arith
+
+-- nine and the further characters fit the longest number, which fits its room
+number-room : (f : Form) → (9 ≤ longest f) × (width f optional + 7 ≤ longest f) × (longest f ≤ 22)
+unfolding longest width widthIn layout rank same
+number-room Td1 = omega arith
+number-room Td2 = omega arith
+number-room Td3 = omega arith
+
+field-length : (f : Form) (x : Part) (t : List ℕ) → length t ≡ total f → length (field f x t) ≡ width f x
+unfolding field
+field-length f x t e = rw (length-take, length-drop) (omega (arith, within f x))
+
+-- ---- lists with fillers behind them
+
+-- a list that ends in no filler, with room to spare
+held : (most n : ℕ) (s : List ℕ) → 1 ≤ length s → length s ≤ most → length s ≤ n → trimmedLength s ≡ length s → isHeld most (padded n s) (length s) ≡ true
+unfolding isHeld
+held most n s a b c e =
+    rw (
+      le-leb 1 (length s) a,
+      le-leb (length s) most b,
+      padded-spare n s c,
+      trimmed-fillers s (n - length s),
+      eq-eqb (trimmedLength s) (length s) e,
+    )
+
+first-padded : (n : ℕ) (s : List ℕ) → length s ≤ n → 0 < length s → getD (padded n s) 0 0 ≡ getD s 0 0
+first-padded n s h k = rw (padded-spare n s h) (List·getD-append s (replicate (n - length s) 60) 0 0 k)
+
+every-padded : (p : ℕ → Bool) (n : ℕ) (s : List ℕ) → length s ≤ n → p 60 ≡ true → every p s ≡ true → every p (padded n s) ≡ true
+every-padded p n s h q e = rw (padded-spare n s h) (every-append p s (replicate (n - length s) 60) e (every-replicate p (n - length s) 60 q))
+
+filler-character : isCharacter 60 ≡ true
+unfolding isCharacter isDigit isLetter isFiller
+filler-character = refl
+
+filler-in-name : isNameCharacter 60 ≡ true
+unfolding isNameCharacter isLetter isFiller
+filler-in-name = refl
+
+-- ---- the number
+
+-- a number of nine characters or fewer has none from its tenth on
+short-further : (s : List ℕ) → length s ≤ 9 → every isSolid (drop 9 s) ≡ true
+unfolding every
+short-further s h = rw (drop-of-length-le s h)
+
+record Sure (f : Form) (t num : List ℕ) : Type 0 where
+  some : 1 ≤ length num
+  fits : length num ≤ longest f
+  ends : trimmedLength num ≡ length num
+  begins : isFiller (getD num 0 0) ≡ false
+  pure : every isCharacter num ≡ true
+  further : every isSolid (drop 9 num) ≡ true
+
+module _ (f : Form) (t : List ℕ) (k : Keeps f t) where
+  all-characters : every isCharacter t ≡ true
+  all-characters = every-each isCharacter t (k .alphabet)
+
+  pure-field : (x : Part) → every isCharacter (field f x t) ≡ true
+  unfolding field
+  pure-field x = every-take isCharacter (width f x) (drop (start f x) t) (every-drop isCharacter (start f x) t all-characters)
+
+  nine : length (field f number t) ≡ 9
+  nine = field-length f number t (k .size) ∙ fixed f .number-width
+
+  sure-short : Sure f t (trimmed (field f number t))
+  unfolding trimmed
+  sure-short =
+      let s = field f number t in
+      let some = trimmed-some s (omega (arith, nine)) (k .number-begins) in
+      record {
+        some = rw (trimmed-length s) some;
+        fits = rw (trimmed-length s) (omega (arith, trimmed-le s, nine, number-room f .0));
+        ends = trimmed-twice s ∙ sym (trimmed-length s);
+        begins = rw (getD-take (trimmedLength s) s 0 0 some) (k .number-begins);
+        pure = every-take isCharacter (trimmedLength s) s (pure-field number);
+        further = short-further (trimmed s) (rw (trimmed-length s) (omega (arith, trimmed-le s, nine)));
+      }
+
+  sure-long : isLong f t ≡ true → Sure f t (field f number t ++ take (filler f t - 1) (field f optional t))
+  sure-long long =
+      let s = field f number t in
+      let rest = take (filler f t - 1) (field f optional t) in
+      let ends = k .number-ends long in
+      let solid : every isSolid rest ≡ true = solid-before (filler f t - 1) (field f optional t) (omega arith) in
+      let some : length rest ≡ filler f t - 1 = rw length-take (omega (arith, field-length f optional t (k .size), ends .1)) in
+      let both : length (s ++ rest) ≡ length s + length rest = length-append s rest in
+      record {
+        some = omega (arith, nine);
+        fits = omega (arith, nine, number-room f .1, ends .1);
+        ends = ends-solid s rest solid (omega (arith, ends .0));
+        begins = rw (List·getD-append s rest 0 0 (omega (arith, nine))) (k .number-begins);
+        pure = every-append isCharacter s rest (pure-field number) (every-take isCharacter (filler f t - 1) (field f optional t) (pure-field optional));
+        further = rw (drop-at s rest 9 nine) solid;
+      }
+
+  sure : Sure f t (numberBy f t (spanOf f t))
+  unfolding numberBy
+  sure = go (isLong f t) refl
+    where
+      go : (b : Bool) → isLong f t ≡ b → Sure f t (numberBy f t (spanOf f t))
+      go false e = rw (short-span f t e) sure-short
+      go true e = rw (long-span f t e (k .number-ends e .0) (k .number-ends e .1)) (sure-long e)
+
+  -- ---- the record
+
+  exact : (x : Part) (n : ℕ) → width f x ≡ n → padded n (field f x t) ≡ field f x t
+  exact x n e = padded-exact n (field f x t) (field-length f x t (k .size) ∙ e)
+
+  room : length (numberBy f t (spanOf f t)) ≤ 22
+  room = omega (arith, sure .fits, number-room f .2)
+
+  name-length : length (field f name t) ≡ width f name
+  name-length = field-length f name t (k .size)
+
+  name-fits : length (trimmed (field f name t)) ≤ 39
+  name-fits = rw (trimmed-length (field f name t)) (omega (arith, trimmed-le (field f name t), name-length, name-room f))
+
+  whole-number : take (length (numberBy f t (spanOf f t))) (padded 22 (numberBy f t (spanOf f t))) ≡ numberBy f t (spanOf f t)
+  whole-number = take-padded 22 (numberBy f t (spanOf f t)) ∙ take-all 22 (numberBy f t (spanOf f t)) room
+
+  pub holds : Holds f t (recordBy f t (spanOf f t))
+  unfolding recordBy numberBy
+  holds = record {
+    form-held = refl;
+    code-held = exact code 2 (fixed f .code-width);
+    state-held = exact state 3 (fixed f .state-width);
+    short-held = λ e. whole-number ∙ rw (short-span f t e);
+    long-held = λ e. whole-number ∙ rw (long-span f t e (k .number-ends e .0) (k .number-ends e .1));
+    nationality-held = exact nationality 3 (fixed f .nationality-width);
+    birth-held = exact birth 6 (fixed f .birth-width);
+    sex-held = refl;
+    expiry-held = exact expiry 6 (fixed f .expiry-width);
+    name-held = take-padded 39 (trimmed (field f name t)) ∙ take-all 39 (trimmed (field f name t)) name-fits;
+  }
+
+  -- the parts of soundness, in its order
+  shaped : isShaped (recordBy f t (spanOf f t)) ≡ true
+  unfolding isShaped recordBy
+  shaped =
+      rw (
+        length-padded 2 (field f code t),
+        length-padded 3 (field f state t),
+        length-padded 22 (numberBy f t (spanOf f t)),
+        length-padded 3 (field f nationality t),
+        length-padded 6 (field f birth t),
+        length-padded 6 (field f expiry t),
+        length-padded 39 (trimmed (field f name t)),
+      )
+
+  number-sound : isHeld (longest f) (padded 22 (numberBy f t (spanOf f t))) (length (numberBy f t (spanOf f t)))
+      && isNumber (padded 22 (numberBy f t (spanOf f t))) (length (numberBy f t (spanOf f t)))
+      ≡ true
+  unfolding isNumber isSolid
+  number-sound =
+      let n = numberBy f t (spanOf f t) in
+      rw (
+        held (longest f) 22 n (sure .some) (sure .fits) room (sure .ends),
+        every-padded isCharacter 22 n room filler-character (sure .pure),
+        first-padded 22 n room (sure .some),
+        sure .begins,
+        take-padded 22 n,
+        take-all 22 n room,
+      )
+      (sure .further)
+
+  name-sound : isHeld (width f name) (padded 39 (trimmed (field f name t))) (length (trimmed (field f name t))) && nameRule (padded 39 (trimmed (field f name t))) ≡ true
+  unfolding nameRule trimmed
+  name-sound =
+      let s = field f name t in
+      let both = and-both (isLetter (getD s 0 0)) (every isNameCharacter s) (k .name-kept) in
+      let long : length s ≤ 39 = omega (arith, name-length, name-room f) in
+      let some : 0 < length s = omega (arith, name-length, some-name f) in
+      let kept : 1 ≤ trimmedLength s = trimmed-some s some (letter-solid (getD s 0 0) (both .0)) in
+      both-and
+      (held (width f name) 39 (trimmed s) (rw (trimmed-length s) kept) (rw (trimmed-length s) (omega (arith, trimmed-le s, name-length))) name-fits
+      (trimmed-twice s ∙ sym (trimmed-length s)))
+      (rw (padded-trimmed 39 s, first-padded 39 s long some, both .0) (every-padded isNameCharacter 39 s long filler-in-name (both .1)))
+
+  pub sound : isSound (recordBy f t (spanOf f t)) ≡ true
+  unfolding isSound isDocument isHolder recordBy
+  sound =
+      both-and shaped
+      (both-and
+      (both-and (ap (codeRule f) (exact code 2 (fixed f .code-width)) ∙ k .code-kept)
+      (both-and (ap stateRule (exact state 3 (fixed f .state-width)) ∙ k .state-kept)
+      number-sound))
+      (both-and (ap stateRule (exact nationality 3 (fixed f .nationality-width)) ∙ k .nationality-kept)
+      (both-and (ap birthRule (exact birth 6 (fixed f .birth-width)) ∙ k .birth-kept)
+      (both-and (k .sex-kept)
+      (both-and (ap expiryRule (exact expiry 6 (fixed f .expiry-width)) ∙ k .expiry-kept)
+      name-sound)))))
+
+pub kept-and-sound : (t : List ℕ) → readText t .outcome ≡ passed → (f : Form) × Keeps f t × Holds f t (readText t .kept) × (isSound (readText t .kept) ≡ true)
+unfolding answered
+kept-and-sound t e =
+    let w = accepted-form t e in
+    let f = w .0 in
+    let size = by-told f (length t) (w .1) in
+    let k = keeps f t size (w .2) in
+    (f, k, rw (read-as f t size, w .2) (holds f t k), rw (read-as f t size, w .2) (sound f t k))

@@ -1,0 +1,263 @@
+-- DEMAND 2, round trip: every sound record is written as a text that is accepted and read as that record.
+--   text-read-back : isSound r ≡ true → readText (textOf r) ≡ record { outcome = passed; kept = r }
+--   text-length : isSound r ≡ true → length (textOf r) ≡ total (r .form)
+--   text-tells : isSound r ≡ true → isSound q ≡ true → textOf r ≡ textOf q → r ≡ q
+use Prim.Native.Nat.{ℕ, suc, _+_, _-_, _≤_, _<_}
+use mathlib.Core.Path.{_≡_, refl, ap, sym, _∙_}
+use mathlib.Core.Bool.{Bool, true, false, cond, _&&_}
+use mathlib.Core.List.{List, [], _∷_, _++_}
+use native.Mathlib.Omega.{arith}
+use borrow.Author.Tests.{lt-ltb, ltb-false}
+use lib.Dec.{ltb}
+use lib.ListN.{length, take, getD, replicate, length-append, take-append-drop}
+use lib.Seq.{take-all, take-take, take-append-seam, getD-take, getD-append-seam}
+use Rattle.lent.proofs.Bools.{and-both}
+use Rattle.refusal.specs.Outcome.{passed}
+use Rattle.zone.specs.declared.form.Form.{Form}
+use Rattle.zone.specs.declared.form.Form.the-variants.{Td1, Td2, Td3}
+use Rattle.zone.specs.declared.record.Record.{Record}
+use Rattle.zone.specs.Alphabet.{isCharacter, isFiller, isLetter, firstFiller, every}
+use Rattle.zone.specs.Part.{code, state, number, numberCheck, optional, birth, birthCheck, sex, expiry, expiryCheck, nationality, name, personal, personalCheck, rank, same}
+use Rattle.zone.specs.Form.{parts, partOf, layout, start, width, widthIn, total, longest, field}
+use Rattle.zone.specs.Record.{trimmed, padded}
+use Rattle.zone.proofs.Widths.{fixed}
+use Rattle.zone.proofs.Padded.{padded-nil, padded-exact, padded-trimmed, trimmed-length}
+use Rattle.digit.specs.Check.{digitOf}
+use Rattle.field.specs.Code.{codeRule}
+use Rattle.field.specs.Letters.{stateRule, sexRule, nameRule, isNameCharacter}
+use Rattle.field.specs.Date.{birthRule, expiryRule}
+use Rattle.text.specs.Number.{isLong, spanOf, numberBy}
+use Rattle.text.specs.Read.{Answer, readText, answered, recordBy}
+use Rattle.sound.specs.Sound.{isSolid, isSound}
+use Rattle.writing.specs.Text.{numberIn, furtherIn, isWide, textOf}
+use Rattle.text_theorems.specs.Accepted.{Keeps, filler, has, among}
+use Rattle.text_theorems.proofs.NumberSpan.{false-not-true, short-span, long-span}
+use Rattle.text_theorems.proofs.Acceptance.{passes, read-as}
+use Rattle.text_theorems.proofs.TrailingFillers.{every-append, every-take}
+use Rattle.text_theorems.proofs.SoundRecord.{Sound, taken-apart, name-room}
+use Rattle.text_theorems.proofs.OneCharacter.{ones, in-field}
+use Rattle.text_theorems.proofs.FilledUp.{padded-behind, trimmed-cut, solid, first-padded, fillers-digit, digit-solid, each-every}
+use Rattle.text_theorems.proofs.TextOfRecord.{atCheck, inOptional, given, is-wide, further-all, further-fits, length-text, shown, last-shown, one-shown, full-shown, front-shown, text-pure}
+
+and-false : (b : Bool) → b && false ≡ false
+and-false true = refl
+and-false false = refl
+
+-- a list that fills its room is what its trimmed list is filled up to
+filled-again : (n : ℕ) (s : List ℕ) → length s ≡ n → padded n (trimmed s) ≡ s
+filled-again n s e = padded-trimmed n s ∙ padded-exact n s e
+
+personal-one : (f : Form) → has f personalCheck ≡ true → width f personalCheck ≡ 1
+unfolding has among parts partOf layout width widthIn same rank
+personal-one Td1 e = absurd (false-not-true e)
+personal-one Td2 e = absurd (false-not-true e)
+personal-one Td3 e = refl
+
+module _ (r : Record) (s : Sound r) where
+  abbrev f : Form
+  f = r .form
+
+  abbrev t : List ℕ
+  t = textOf r
+
+  -- ---- the number in the text
+
+  nine-shown : field f number t ≡ take 9 (r .number)
+  unfolding given same rank
+  nine-shown =
+      let w = fixed f .number-width in
+      front-shown r s number refl (omega (arith, w, s .number-places)) ∙ ap (λ n. take n (r .number)) w
+
+  check-shown : getD t (start f numberCheck) 0 ≡ atCheck r
+  unfolding given same rank
+  check-shown = one-shown r s numberCheck (atCheck r) refl (ones f .number-check-one) refl
+
+  long-shown : isLong f t ≡ isWide r
+  unfolding isLong atCheck isFiller
+  long-shown = rw check-shown (go (isWide r) refl)
+    where
+      go : (b : Bool) → isWide r ≡ b → ltb 9 (longest f) && isFiller (cond b 60 (digitOf (take 9 (r .number)))) ≡ b
+      go true e = rw (lt-ltb 9 (longest f) (omega (arith, is-wide r s e, s .number-most)))
+      go false e = rw (digit-solid (take 9 (r .number))) (and-false (ltb 9 (longest f)))
+
+  -- a short one's digit
+  short-digit : isWide r ≡ false → atCheck r ≡ digitOf (take 9 (r .number))
+  unfolding atCheck
+  short-digit e = rw e
+
+  further-solid : every isSolid (furtherIn r) ≡ true
+  unfolding numberIn
+  further-solid = rw (further-all r s) (s .further-solid)
+
+  -- a long one's further characters and digit
+  module _ (wide : isWide r ≡ true) where
+    solids : every isSolid (furtherIn r ++ (digitOf (numberIn r) ∷ [])) ≡ true
+    unfolding every isSolid
+    solids = every-append isSolid (furtherIn r) (digitOf (numberIn r) ∷ []) further-solid (rw (digit-solid (numberIn r)))
+
+    one-more : length (furtherIn r ++ (digitOf (numberIn r) ∷ [])) ≡ length (furtherIn r) + 1
+    one-more = length-append (furtherIn r) (digitOf (numberIn r) ∷ [])
+
+    optional-padded : field f optional t ≡ padded (width f optional) (furtherIn r ++ (digitOf (numberIn r) ∷ []))
+    unfolding given inOptional same rank
+    optional-padded = shown r s optional refl ∙ rw wide
+
+    filler-shown : filler f t ≡ length (furtherIn r) + 1
+    filler-shown =
+        ap firstFiller optional-padded
+        ∙ first-padded (width f optional) (furtherIn r ++ (digitOf (numberIn r) ∷ [])) solids (rw one-more (further-fits r s wide .1))
+        ∙ one-more
+
+    optional-shown : field f optional t
+        ≡ furtherIn r ++ (digitOf (numberIn r) ∷ replicate (width f optional - suc (length (furtherIn r))) 60)
+    optional-shown =
+        optional-padded ∙ padded-behind (width f optional) (furtherIn r) (digitOf (numberIn r)) (omega (arith, further-fits r s wide .1))
+
+    before-filler : filler f t - 1 ≡ length (furtherIn r)
+    before-filler = omega (arith, filler-shown)
+
+    number-shown : field f number t ++ take (filler f t - 1) (field f optional t) ≡ numberIn r
+    unfolding numberIn
+    number-shown =
+        rw (nine-shown, before-filler, optional-shown, take-append-seam (furtherIn r) (digitOf (numberIn r) ∷ _), further-all r s)
+        (rw (take-take 9 (r .«number_len») (r .number) (omega (arith, is-wide r s wide))) at (take-append-drop 9 (numberIn r)))
+
+    digit-shown : getD t (start f optional + (filler f t - 1)) 0 ≡ digitOf (numberIn r)
+    digit-shown =
+        rw (before-filler, in-field f optional t (length (furtherIn r)) (omega (arith, further-fits r s wide .1)), optional-shown)
+        (getD-append-seam (furtherIn r) (digitOf (numberIn r)) _ 0)
+
+  ends : isWide r ≡ true → (2 ≤ filler f t) × (filler f t < width f optional)
+  ends wide =
+      let fits = further-fits r s wide in
+      (rw (filler-shown wide) (omega (arith, fits .0)), rw (filler-shown wide) (fits .1))
+
+  not-wide : isWide r ≡ false → r .«number_len» ≤ 9
+  unfolding isWide
+  not-wide e = ltb-false 9 (r .«number_len») e
+
+  -- ---- the text keeps every rule
+
+  name-shown : field f name t ≡ take (width f name) (r .name)
+  unfolding given same rank
+  name-shown = front-shown r s name refl (omega (arith, s .name-places, name-room f))
+
+  name-rule : nameRule (take (width f name) (r .name)) ≡ true
+  unfolding nameRule
+  name-rule =
+      let both = and-both (isLetter (getD (r .name) 0 0)) (every isNameCharacter (r .name)) (s .name-kept) in
+      rw (getD-take (width f name) (r .name) 0 0 (omega (arith, s .name-some, s .name-fits)), both .0)
+      (every-take isNameCharacter (width f name) (r .name) (both .1))
+
+  code-shown : field f code t ≡ r .code
+  unfolding given same rank
+  code-shown = full-shown r s code 2 refl (fixed f .code-width) (s .code-places)
+
+  state-shown : field f state t ≡ r .state
+  unfolding given same rank
+  state-shown = full-shown r s state 3 refl (fixed f .state-width) (s .state-places)
+
+  nationality-shown : field f nationality t ≡ r .nationality
+  unfolding given same rank
+  nationality-shown = full-shown r s nationality 3 refl (fixed f .nationality-width) (s .nationality-places)
+
+  birth-shown : field f birth t ≡ r .birth
+  unfolding given same rank
+  birth-shown = full-shown r s birth 6 refl (fixed f .birth-width) (s .birth-places)
+
+  expiry-shown : field f expiry t ≡ r .expiry
+  unfolding given same rank
+  expiry-shown = full-shown r s expiry 6 refl (fixed f .expiry-width) (s .expiry-places)
+
+  sex-shown : getD t (start f sex) 0 ≡ r .sex
+  unfolding given same rank
+  sex-shown = one-shown r s sex (r .sex) refl (fixed f .sex-width) refl
+
+  birth-right : getD t (start f birthCheck) 0 ≡ digitOf (field f birth t)
+  unfolding given same rank
+  birth-right =
+      one-shown r s birthCheck (digitOf (take 6 (r .birth))) refl (ones f .birth-check-one) refl
+      ∙ ap digitOf (take-all 6 (r .birth) (omega (arith, s .birth-places)) ∙ sym birth-shown)
+
+  expiry-right : getD t (start f expiryCheck) 0 ≡ digitOf (field f expiry t)
+  unfolding given same rank
+  expiry-right =
+      one-shown r s expiryCheck (digitOf (take 6 (r .expiry))) refl (ones f .expiry-check-one) refl
+      ∙ ap digitOf (take-all 6 (r .expiry) (omega (arith, s .expiry-places)) ∙ sym expiry-shown)
+
+  personal-right : has f personalCheck ≡ true → getD t (start f personalCheck) 0 ≡ digitOf (field f personal t)
+  unfolding given same rank
+  personal-right h =
+      one-shown r s personalCheck 48 refl (personal-one f h) refl
+      ∙ sym (ap digitOf (shown r s personal refl ∙ padded-nil (width f personal)) ∙ fillers-digit (width f personal))
+
+  pub text-keeps : Keeps f t
+  text-keeps = record {
+    size = length-text r s;
+    alphabet = each-every isCharacter t (text-pure r s);
+    code-kept = ap (codeRule f) code-shown ∙ s .code-kept;
+    state-kept = ap stateRule state-shown ∙ s .state-kept;
+    number-begins = rw (nine-shown, getD-take 9 (r .number) 0 0 (omega arith)) (solid (getD (r .number) 0 0) (s .number-begins));
+    number-ends = λ e. ends (sym long-shown ∙ e);
+    nationality-kept = ap stateRule nationality-shown ∙ s .nationality-kept;
+    birth-kept = ap birthRule birth-shown ∙ s .birth-kept;
+    sex-kept = ap sexRule sex-shown ∙ s .sex-kept;
+    expiry-kept = ap expiryRule expiry-shown ∙ s .expiry-kept;
+    name-kept = ap nameRule name-shown ∙ name-rule;
+    number-digit = λ e. check-shown ∙ short-digit (sym long-shown ∙ e) ∙ ap digitOf (sym nine-shown);
+    long-digit = λ e. digit-shown (sym long-shown ∙ e) ∙ ap digitOf (sym (number-shown (sym long-shown ∙ e)));
+    birth-digit = birth-right;
+    expiry-digit = expiry-right;
+    personal-digit = personal-right;
+    composite-digit = last-shown r s;
+  }
+
+  -- ---- and is read as the record
+
+  number-read : numberBy f t (spanOf f t) ≡ trimmed (r .number)
+  unfolding numberBy numberIn trimmed
+  number-read = go (isWide r) refl
+    where
+      go : (b : Bool) → isWide r ≡ b → numberBy f t (spanOf f t) ≡ trimmed (r .number)
+      go false e =
+          rw (short-span f t (long-shown ∙ e), nine-shown)
+          (trimmed-cut 9 (r .number) (omega (arith, s .number-ends, not-wide e)))
+      go true e =
+          rw (long-span f t (long-shown ∙ e) (ends e .0) (ends e .1))
+          (number-shown e ∙ ap (λ n. take n (r .number)) (sym (s .number-ends)))
+
+  name-read : trimmed (field f name t) ≡ trimmed (r .name)
+  name-read = ap trimmed name-shown ∙ trimmed-cut (width f name) (r .name) (omega (arith, s .name-ends, s .name-fits))
+
+  record-read : recordBy f t (spanOf f t) ≡ r
+  unfolding recordBy
+  record-read = λ i. record {
+    form = f;
+    code = (ap (padded 2) code-shown ∙ padded-exact 2 (r .code) (s .code-places)) i;
+    state = (ap (padded 3) state-shown ∙ padded-exact 3 (r .state) (s .state-places)) i;
+    number = (ap (padded 22) number-read ∙ filled-again 22 (r .number) (s .number-places)) i;
+    «number_len» = (ap length number-read ∙ trimmed-length (r .number) ∙ s .number-ends) i;
+    nationality = (ap (padded 3) nationality-shown ∙ padded-exact 3 (r .nationality) (s .nationality-places)) i;
+    birth = (ap (padded 6) birth-shown ∙ padded-exact 6 (r .birth) (s .birth-places)) i;
+    sex = sex-shown i;
+    expiry = (ap (padded 6) expiry-shown ∙ padded-exact 6 (r .expiry) (s .expiry-places)) i;
+    name = (ap (padded 39) name-read ∙ filled-again 39 (r .name) (s .name-places)) i;
+    «name_len» = (ap length name-read ∙ trimmed-length (r .name) ∙ s .name-ends) i;
+  }
+
+  read-written : readText t ≡ record { outcome = passed; kept = r }
+  unfolding answered
+  read-written = rw (read-as f t (length-text r s), passes f t text-keeps, record-read)
+
+-- ---- the theorem
+
+module _ (r : Record) (sound : isSound r ≡ true) where
+  pub text-read-back : readText (textOf r) ≡ record { outcome = passed; kept = r }
+  text-read-back = read-written r (taken-apart r sound)
+
+  pub text-length : length (textOf r) ≡ total (r .form)
+  text-length = length-text r (taken-apart r sound)
+
+-- no two sound records have one text
+pub text-tells : (r q : Record) → isSound r ≡ true → isSound q ≡ true → textOf r ≡ textOf q → r ≡ q
+text-tells r q a b e = ap (λ (x : Answer). x .kept) (sym (text-read-back r a) ∙ ap readText e ∙ text-read-back q b)

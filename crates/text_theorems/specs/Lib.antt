@@ -1,0 +1,8 @@
+-- what is lent: octets
+pub mod Octets
+-- demand 2: what it is to keep every rule
+pub mod Accepted
+-- demand 2: the checks one after the other
+pub mod Ordered
+-- what the record of an accepted text holds
+pub mod Held
