@@ -1,5 +1,10 @@
-pub mod Walks
-pub mod Lending
-pub mod First
+-- a walk over files goes on from the end of each
+pub mod FilesWalked
+-- stage 5 by the table of digests decides as it does by the entries
+pub mod FilesByTable
+-- the first file of a group
+pub mod FirstFile
+-- a text's refusal, moved to its place in the presentation, is a number of the machine
 pub mod Near
-pub mod Decision
+-- stages 5 and 6 by the table decide as they do by the entries
+pub mod StagesByTable

@@ -1,5 +1,8 @@
+-- stages 1 and 2: size, and the outer walk
 pub mod Outer
+-- stage 5: each group file
 pub mod Files
-pub mod Lent
+-- all stages, and the file of a group
 pub mod Presentation
-pub mod Found
+-- no words of the paper: what the code answers on its way
+pub mod Inner

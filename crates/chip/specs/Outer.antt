@@ -1,4 +1,5 @@
--- Stages 1 and 2 of a presentation: size, and the outer walk over EF.COM, the content of the security object, then group files, joined.
+-- Stages 1 and 2 of a presentation: size, and the outer walk over EF.COM, the content of the security object, then group files,
+-- joined.
 use Prim.Native.Nat.{ℕ, zero, suc}
 use mathlib.Core.Bool.{cond}
 use mathlib.Core.List.{List, [], _∷_}
@@ -13,6 +14,7 @@ use Rattle.chip.specs.declared.outer.Outer.{Outer}
 use Rattle.chip.specs.declared.outer.Walked.{Walked}
 use Rattle.chip.specs.declared.outer.Walked.the-variants.{Parts, Refused}
 use Rattle.tlv.specs.Tags.{isGroup}
+use Rattle.tlv.specs.Tags as Tag
 
 -- 1: a presentation over 65,535, at 0
 unfoldable pub sizeCheck : List ℕ → Outcome
@@ -27,21 +29,23 @@ pub record File : Type 0 where
 unfoldable pub fileAt : List ℕ → ℕ → Read Stretch
 fileAt w at = cond (isGroup (getD w at 0)) (element w at (getD w at 0)) (refusal 10 at)
 
--- then group tags only, every file ending within the bytes. No file is empty, so that as many steps as octets are enough.
+-- then group tags only, every file ending within the bytes; here at most so many steps, of which the last finds the end
 unfoldable pub filesFrom : ℕ → List ℕ → ℕ → Read (List File)
-filesFrom zero w at = value []
+filesFrom zero w at = refusal 10 at
 filesFrom (suc more) w at =
     cond (leb (length w) at) (value [])
-    (andThen (fileAt w at) (λ held. andThen (filesFrom more w (held .to)) (λ rest. value (record { start = at; held = held } ∷ rest))))
+    (andThen (fileAt w at) (λ held. andThen (filesFrom more w (held .to))
+    (λ rest. value (record { start = at; held = held } ∷ rest))))
 
+-- no file is empty, so that there are no more of them than octets
 unfoldable pub files : List ℕ → ℕ → Read (List File)
-files w at = filesFrom (length w) w at
+files w at = filesFrom (suc (length w)) w at
 
 -- tag 60, tag 30, then the files
 unfoldable pub outer : List ℕ → Read Outer
 outer w =
-    andThen (element w 0 96) (λ efcom.
-    andThen (element w (efcom .to) 48) (λ object.
+    andThen (element w 0 Tag.efCom) (λ efcom.
+    andThen (element w (efcom .to) Tag.sequence) (λ object.
     andThen (files w (object .to)) (λ all. value (record { efcom = efcom; object = object }))))
 
 -- both stages

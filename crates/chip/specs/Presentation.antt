@@ -14,9 +14,10 @@ use Rattle.tlv.specs.Element.{element}
 use Rattle.chip.specs.declared.outer.Outer.{Outer}
 use Rattle.tlv.specs.Cut.{cut, endCheck}
 use Rattle.tlv.specs.Tags.{groupOf}
+use Rattle.tlv.specs.Tags as Tag
 use Rattle.chip.specs.Outer.{File, files, walked}
-use Rattle.efcom.specs.EfCom.{common}
-use Rattle.object.specs.Object.{object}
+use Rattle.efcom.specs.EfCom.{readEfCom}
+use Rattle.object.specs.Object.{readObject}
 use Rattle.chip.specs.Files.{filesCheck}
 
 -- the first file with that group's tag; where there is none, 14 at the presentation's length
@@ -34,7 +35,7 @@ moved at a = checked (by (a .outcome)) (value (a .kept))
 
 -- inside group 1: 5F1F and the text, exactly filling 61
 unfoldable pub textAt : List ℕ → ℕ → Read Record
-textAt s at = andThen (element s at 24351) (λ v. checked (endCheck s (v .to)) (moved (v .from) (readText (cut s v))))
+textAt s at = andThen (element s at Tag.text) (λ v. checked (endCheck s (v .to)) (moved (v .from) (readText (cut s v))))
 
 -- stage 6
 unfoldable pub groupOne : List ℕ → List File → Read Record
@@ -43,8 +44,8 @@ groupOne w fs = andThen (firstFile w 1 fs) (λ f. textAt (take (f .held .to) w) 
 -- stages 3 to 6 of what was walked
 unfoldable pub decided : List ℕ → Outer → Read Record
 decided w o =
-    andThen (common w (o .efcom)) (λ tags.
-    andThen (object w (o .object)) (λ es.
+    andThen (readEfCom w (o .efcom)) (λ tags.
+    andThen (readObject w (o .object)) (λ es.
     andThen (files w (o .object .to)) (λ fs.
     checked (filesCheck w (cut w tags) [] es fs) (groupOne w fs))))
 
@@ -60,7 +61,8 @@ answerBy (refusal n p) = record { outcome = outcome.refused n p; kept = blank }
 unfoldable pub readPresentation : List ℕ → Answer
 readPresentation w = answerBy (readStages w)
 
--- the file of a group: the octets from its start to its end, empty where stage 1 or 2 fails, no such file is lent, or the number is no group's
+-- the file of a group: the octets from its start to its end, empty where stage 1 or 2 fails, no such file is lent, or the number
+-- is no group's
 unfoldable pub fileOrNone : Read File → Stretch
 fileOrNone (value f) = record { from = f .start; to = f .held .to }
 fileOrNone (refusal n p) = record { from = 0; to = 0 }

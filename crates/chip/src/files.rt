@@ -1,13 +1,13 @@
 // Stage 5: every group file listed, lent once, with an entry, and with the digest that stands there.
 ghost use mathlib.Core.Path.{_≡_};
-ghost use Prim.Native.Nat.{_<_, _≤_};
-ghost use lib.ListN.{length, take, drop};
+ghost use Prim.Native.Nat.{_<_};
+ghost use lib.ListN.{length};
 ghost use Rattle.refusal.specs.Outcome.{outcomeOf, passed};
 ghost use Rattle.sha256.specs.Hash.{sha256};
-ghost use Rattle.tlv.specs.Read.{toldOf};
+ghost use Rattle.tlv.specs.Read.{outcomeIn};
 ghost use Rattle.lent.specs.Octets as Octets;
 ghost use Rattle.chip.specs.Outer as O;
-ghost use Rattle.chip.specs.Lent.{filesIn, fileBy, filesBy};
+ghost use Rattle.chip.specs.Inner.ByTable.{lentFrom, fileBy, filesBy};
 use crate::outer::file_at;
 use lent::alike;
 use lent::stands;
@@ -64,8 +64,8 @@ pub(crate) fn files_check<'a>(
     start: usize,
     digests: [usize; 17],
 ) -> Verdict
-    requires { ⌜ toldOf (O.files (now w) start) ≡ passed ⌝ }
-    ensures { λ r. ⌜ outcomeOf r ≡ filesBy (now (w .entry)) (now (tags .entry)) digests (filesIn (O.files (now (w .entry)) start)) ⌝ }
+    requires { ⌜ outcomeIn (O.files (now w) start) ≡ passed ⌝ }
+    ensures { λ r. ⌜ outcomeOf r ≡ filesBy (now (w .entry)) (now (tags .entry)) digests (lentFrom (now (w .entry)) start) ⌝ }
 {
     let mut table = digests;
     let mut at = start;

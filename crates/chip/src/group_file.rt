@@ -2,12 +2,12 @@
 ghost use mathlib.Core.Path.{_≡_};
 ghost use lib.ListN.{length};
 ghost use Rattle.refusal.specs.Outcome.{passed};
-ghost use Rattle.tlv.specs.Read.{toldOf};
+ghost use Rattle.tlv.specs.Read.{outcomeIn};
 ghost use Rattle.tlv.specs.Cut as C;
 ghost use Rattle.chip.specs.Outer as O;
-ghost use Rattle.chip.specs.Lent.{filesIn};
+ghost use Rattle.chip.specs.Inner.ByTable.{lentFrom};
 ghost use Rattle.chip.specs.Presentation.{firstFile, groupStretch, fileOrNone};
-ghost use Rattle.chip.specs.Found.{foundOf};
+ghost use Rattle.chip.specs.Inner.Found.{foundOf};
 use crate::outer::Walked;
 use crate::outer::file_at;
 use crate::outer::walk;
@@ -29,8 +29,8 @@ pub enum Found {
 
 // The first file with that group's tag.
 pub(crate) fn first_file(w: &[u8], start: usize, group: u32) -> Found
-    requires { ⌜ toldOf (O.files (now w) start) ≡ passed ⌝ }
-    ensures { λ r. ⌜ foundOf (length (now (w .entry))) r ≡ firstFile (now (w .entry)) group (filesIn (O.files (now (w .entry)) start)) ⌝ }
+    requires { ⌜ outcomeIn (O.files (now w) start) ≡ passed ⌝ }
+    ensures { λ r. ⌜ foundOf (length (now (w .entry))) r ≡ firstFile (now (w .entry)) group (lentFrom (now (w .entry)) start) ⌝ }
 {
     let mut at = start;
     while at < w.len() {
@@ -67,7 +67,8 @@ fn stretch_of(n: usize, found: Found) -> Stretch
     }
 }
 
-// Where the file of a group stands in a presentation: empty where stage 1 or 2 fails, no such file is lent, or the number is no group's.
+// Where the file of a group stands in a presentation: empty where stage 1 or 2 fails, no such file is lent, or the number is
+// no group's.
 pub fn group_stretch(w: &[u8], group: u32) -> Stretch
     ensures { λ r. ⌜ r ≡ groupStretch (now (w .entry)) group ⌝ }
 {

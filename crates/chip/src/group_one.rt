@@ -1,13 +1,13 @@
 // Stage 6: group 1 holds the text and nothing else.
 ghost use mathlib.Core.Path.{_≡_};
-ghost use Prim.Native.Nat.{ℕ, _+_, _≤_, _<_, _^_};
+ghost use Prim.Native.Nat.{ℕ, _+_, _<_, _^_};
 ghost use lib.ListN.{length};
 ghost use Rattle.refusal.specs.Outcome.{outcomeOf, passed, refused};
 ghost use Rattle.refusal.specs.Numbers.{numberOf};
-ghost use Rattle.tlv.specs.Read.{refusal, toldOf};
+ghost use Rattle.tlv.specs.Read.{refusal, outcomeIn};
 ghost use Rattle.text.specs.Read.{answerOf};
 ghost use Rattle.chip.specs.Outer as O;
-ghost use Rattle.chip.specs.Lent.{filesIn};
+ghost use Rattle.chip.specs.Inner.ByTable.{lentFrom};
 ghost use Rattle.chip.specs.Presentation.{moved, textAt, groupOne, answerBy};
 use crate::group_file::Found;
 use crate::group_file::first_file;
@@ -18,6 +18,7 @@ use text::read::Reading;
 use tlv::Taken;
 use tlv::cut::cut;
 use tlv::cut::end_check;
+use tlv::tags;
 use zone::record::Record;
 
 // Every refusal gives the blank record.
@@ -58,7 +59,7 @@ fn move_by(at: usize, reading: Reading) -> Reading
 fn text_at(s: &[u8], at: usize) -> Reading
     ensures { λ r. ⌜ answerOf r ≡ answerBy (textAt (now (s .entry)) at) ⌝ }
 {
-    match tlv::element(s, at, 24351) {
+    match tlv::element(s, at, tags::TEXT) {
         Taken::Value(v) => match end_check(s, v.to) {
             Verdict::Passed => move_by(v.from, text::read::read(cut(s, v))),
             Verdict::Refused(why) => refuse(why),
@@ -69,8 +70,8 @@ fn text_at(s: &[u8], at: usize) -> Reading
 
 // The first file of group 1, or 14 at the presentation's length.
 pub(crate) fn group_one(w: &[u8], start: usize) -> Reading
-    requires { ⌜ toldOf (O.files (now w) start) ≡ passed ⌝ }
-    ensures { λ r. ⌜ answerOf r ≡ answerBy (groupOne (now (w .entry)) (filesIn (O.files (now (w .entry)) start))) ⌝ }
+    requires { ⌜ outcomeIn (O.files (now w) start) ≡ passed ⌝ }
+    ensures { λ r. ⌜ answerOf r ≡ answerBy (groupOne (now (w .entry)) (lentFrom (now (w .entry)) start)) ⌝ }
 {
     match first_file(w, start, 1) {
         Found::Lent(place) => {

@@ -1,14 +1,16 @@
 // Stages 1 and 2: size, and the outer walk.
 ghost use mathlib.Core.Path.{_≡_};
 ghost use Rattle.refusal.specs.Outcome.{outcomeOf};
-ghost use Rattle.tlv.specs.Read.{value, andThen, toldOf};
-ghost use Rattle.tlv.specs.Element.{element, takenOf};
+ghost use Rattle.tlv.specs.Read.{outcomeIn};
+ghost use Rattle.tlv.specs.Element.{takenOf};
 ghost use Rattle.chip.specs.Outer as O;
+ghost use Rattle.chip.specs.Inner.Onward.{behindObject, behindEfCom};
 use refusal::Cause;
 use refusal::Refusal;
 use refusal::Verdict;
 use tlv::Stretch;
 use tlv::Taken;
+use tlv::tags;
 use tlv::tags::is_group;
 
 // Where the contents of EF.COM and of the security object stand. The group files follow the object.
@@ -37,7 +39,7 @@ pub fn file_at(w: &[u8], at: usize) -> Taken
 
 // Group tags only, every file ending within the bytes.
 fn files(w: &[u8], start: usize) -> Verdict
-    ensures { λ r. ⌜ outcomeOf r ≡ toldOf (O.files (now (w .entry)) start) ⌝ }
+    ensures { λ r. ⌜ outcomeOf r ≡ outcomeIn (O.files (now (w .entry)) start) ⌝ }
 {
     let mut at = start;
     while at < w.len() {
@@ -54,7 +56,7 @@ fn files(w: &[u8], start: usize) -> Verdict
 }
 
 fn with_object(w: &[u8], efcom: Stretch, object: Stretch) -> Walked
-    ensures { λ r. ⌜ O.walkedOf r ≡ andThen (O.files (now (w .entry)) (object .to)) (λ all. value (record { efcom = efcom; object = object })) ⌝ }
+    ensures { λ r. ⌜ O.walkedOf r ≡ behindObject (now (w .entry)) efcom object ⌝ }
 {
     match files(w, object.to) {
         Verdict::Passed => Walked::Parts(Outer { efcom, object }),
@@ -63,9 +65,9 @@ fn with_object(w: &[u8], efcom: Stretch, object: Stretch) -> Walked
 }
 
 fn with_efcom(w: &[u8], efcom: Stretch) -> Walked
-    ensures { λ r. ⌜ O.walkedOf r ≡ andThen (element (now (w .entry)) (efcom .to) 48) (λ object. andThen (O.files (now (w .entry)) (object .to)) (λ all. value (record { efcom = efcom; object = object }))) ⌝ }
+    ensures { λ r. ⌜ O.walkedOf r ≡ behindEfCom (now (w .entry)) efcom ⌝ }
 {
-    match tlv::element(w, efcom.to, 48) {
+    match tlv::element(w, efcom.to, tags::SEQUENCE) {
         Taken::Value(object) => with_object(w, efcom, object),
         Taken::Refused(refusal) => Walked::Refused(refusal),
     }
@@ -81,7 +83,7 @@ pub fn walk(w: &[u8]) -> Walked
             place: 0,
         });
     }
-    match tlv::element(w, 0, 96) {
+    match tlv::element(w, 0, tags::EF_COM) {
         Taken::Value(efcom) => with_efcom(w, efcom),
         Taken::Refused(refusal) => Walked::Refused(refusal),
     }

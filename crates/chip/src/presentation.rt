@@ -1,22 +1,17 @@
 // A presentation read, stages in number order: what an earlier stage refuses, no later one looks at.
 ghost use mathlib.Core.Path.{_≡_};
 ghost use Rattle.refusal.specs.Outcome.{passed};
-ghost use mathlib.Core.List.{[]};
-ghost use Rattle.tlv.specs.Read.{andThen, checked, toldOf};
+ghost use Rattle.tlv.specs.Read.{outcomeIn};
 ghost use Rattle.text.specs.Read.{answerOf};
-ghost use Rattle.tlv.specs.Cut as C;
 ghost use Rattle.chip.specs.Outer as O;
-ghost use Rattle.object.specs.Object as S;
-ghost use Rattle.chip.specs.Files.{filesCheck};
-ghost use Rattle.chip.specs.Lent.{filesIn, filesBy};
-ghost use Rattle.chip.specs.Presentation.{groupOne, decided, readPresentation, answerBy};
+ghost use Rattle.chip.specs.Inner.Onward.{withDigests, withTags};
+ghost use Rattle.chip.specs.Presentation.{decided, readPresentation, answerBy};
 use crate::files::files_check;
 use crate::group_one::group_one;
 use crate::group_one::refuse;
 use crate::outer::Outer;
 use crate::outer::Walked;
 use crate::outer::walk;
-use efcom::common;
 use refusal::Verdict;
 use text::read::Reading;
 use tlv::Stretch;
@@ -25,8 +20,8 @@ use tlv::cut::cut;
 
 // Stages 5 and 6.
 fn with_digests(w: &[u8], start: usize, tags: Stretch, digests: [usize; 17]) -> Reading
-    requires { ⌜ toldOf (O.files (now w) start) ≡ passed ⌝ }
-    ensures { λ r. ⌜ answerOf r ≡ answerBy (checked (filesBy (now (w .entry)) (C.cut (now (w .entry)) tags) digests (filesIn (O.files (now (w .entry)) start))) (groupOne (now (w .entry)) (filesIn (O.files (now (w .entry)) start)))) ⌝ }
+    requires { ⌜ outcomeIn (O.files (now w) start) ≡ passed ⌝ }
+    ensures { λ r. ⌜ answerOf r ≡ answerBy (withDigests (now (w .entry)) start tags digests) ⌝ }
 {
     match files_check(w, cut(w, tags), start, digests) {
         Verdict::Passed => group_one(w, start),
@@ -36,10 +31,10 @@ fn with_digests(w: &[u8], start: usize, tags: Stretch, digests: [usize; 17]) -> 
 
 // Stages 4 to 6.
 fn with_tags(w: &[u8], object: Stretch, tags: Stretch) -> Reading
-    requires { ⌜ toldOf (O.files (now w) (object .to)) ≡ passed ⌝ }
-    ensures { λ r. ⌜ answerOf r ≡ answerBy (andThen (S.object (now (w .entry)) object) (λ es. andThen (O.files (now (w .entry)) (object .to)) (λ fs. checked (filesCheck (now (w .entry)) (C.cut (now (w .entry)) tags) [] es fs) (groupOne (now (w .entry)) fs)))) ⌝ }
+    requires { ⌜ outcomeIn (O.files (now w) (object .to)) ≡ passed ⌝ }
+    ensures { λ r. ⌜ answerOf r ≡ answerBy (withTags (now (w .entry)) object tags) ⌝ }
 {
-    let found = object::object(w, object);
+    let found = object::read(w, object);
     let verdict = found.verdict;
     let digests = found.digests;
     match verdict {
@@ -50,12 +45,12 @@ fn with_tags(w: &[u8], object: Stretch, tags: Stretch) -> Reading
 
 // Stages 3 to 6.
 fn decide(w: &[u8], parts: Outer) -> Reading
-    requires { ⌜ toldOf (O.files (now w) (parts .object .to)) ≡ passed ⌝ }
+    requires { ⌜ outcomeIn (O.files (now w) (parts .object .to)) ≡ passed ⌝ }
     ensures { λ r. ⌜ answerOf r ≡ answerBy (decided (now (w .entry)) parts) ⌝ }
 {
     let efcom = parts.efcom;
     let object = parts.object;
-    match common(w, efcom) {
+    match efcom::read(w, efcom) {
         Taken::Value(tags) => with_tags(w, object, tags),
         Taken::Refused(why) => refuse(why),
     }

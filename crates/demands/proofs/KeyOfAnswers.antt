@@ -1,5 +1,7 @@
--- DEMAND 3 for presentations and texts alike: an accepted answer has the record of an accepted text, which is sound; so keys of two accepted answers
--- agree exactly when house, form, state, whole number, birth and expiry agree. And no second answer meets the promise of reading a presentation.
+-- DEMAND 3 for presentations and texts alike: an accepted answer has the record of an accepted text, which is sound; so keys of
+-- two accepted answers
+-- agree exactly when house, form, state, whole number, birth and expiry agree. And no second answer meets the promise of reading
+-- a presentation.
 use Prim.Native.Nat.{ℕ}
 use mathlib.Core.Path.{_≡_, ap, sym, _∙_, subst}
 use mathlib.Core.Logic.{_↔_}
@@ -18,8 +20,8 @@ use Rattle.tlv.specs.Element.{element}
 use Rattle.chip.specs.declared.outer.Outer.{Outer}
 use Rattle.tlv.specs.Cut.{cut, endCheck}
 use Rattle.chip.specs.Outer.{File, files, walked}
-use Rattle.efcom.specs.EfCom.{common}
-use Rattle.object.specs.Object.{object}
+use Rattle.efcom.specs.EfCom.{readEfCom}
+use Rattle.object.specs.Object.{readObject}
 use Rattle.chip.specs.Files.{filesCheck}
 use Rattle.chip.specs.Presentation.{firstFile, moved, textAt, groupOne, decided, readStages, readPresentation}
 use Rattle.run_theorems.specs.Keys.{keyOf, SameKey}
@@ -27,38 +29,43 @@ use Rattle.demands.specs.Answered.{Accepted, of-text, of-presentation}
 use Rattle.text_theorems.proofs.RecordOfText.{kept-and-sound}
 use Rattle.run_theorems.proofs.Keys.{key-exactly}
 use Rattle.demands.proofs.NoSecondAnswer.{answer-tells}
-use Rattle.tlv.proofs.Told.{first-value, checked-value}
+use Rattle.tlv.proofs.Joined.{first-value, checked-value}
 use Rattle.presentation_theorems.proofs.GroupOne.{passed-moved}
 use Rattle.presentation_theorems.proofs.Acceptance.{from-files, from-object, from-common, passed-value}
 
 -- a record that is read is that of an accepted text
-text-held : (s : List ℕ) (at : ℕ) (r : Record) → textAt s at ≡ value r → (t : List ℕ) × (readText t .outcome ≡ passed) × (readText t .kept ≡ r)
+text-held : (s : List ℕ) (at : ℕ) (r : Record) → textAt s at ≡ value r
+    → (t : List ℕ) × (readText t .outcome ≡ passed) × (readText t .kept ≡ r)
 unfolding textAt
 text-held s at r e =
-    let a = first-value (element s at 24351) (λ (u : Stretch). checked (endCheck s (u .to)) (moved (u .from) (readText (cut s u)))) r e in
+    let a = first-value (element s at 24351)
+    (λ (u : Stretch). checked (endCheck s (u .to)) (moved (u .from) (readText (cut s u)))) r e in
     let v = a .0 in
     let t = cut s v in
     let b = checked-value (endCheck s (v .to)) (moved (v .from) (readText t)) r (a .2) in
     let m = passed-moved (v .from) (readText t .outcome) (readText t .kept) r (b .1) in
     (t, m .0, m .1)
 
-group-held : (w : List ℕ) (fs : List File) (r : Record) → groupOne w fs ≡ value r → (t : List ℕ) × (readText t .outcome ≡ passed) × (readText t .kept ≡ r)
+group-held : (w : List ℕ) (fs : List File) (r : Record) → groupOne w fs ≡ value r
+    → (t : List ℕ) × (readText t .outcome ≡ passed) × (readText t .kept ≡ r)
 unfolding groupOne
 group-held w fs r e =
     let a = first-value (firstFile w 1 fs) (λ (f : File). textAt (take (f .held .to) w) (f .held .from)) r e in
     text-held (take (a .0 .held .to) w) (a .0 .held .from) r (a .2)
 
-decided-held : (w : List ℕ) (o : Outer) (r : Record) → decided w o ≡ value r → (t : List ℕ) × (readText t .outcome ≡ passed) × (readText t .kept ≡ r)
+decided-held : (w : List ℕ) (o : Outer) (r : Record) → decided w o ≡ value r
+    → (t : List ℕ) × (readText t .outcome ≡ passed) × (readText t .kept ≡ r)
 unfolding decided
 decided-held w o r e =
-    let a = first-value (common w (o .efcom)) (from-common w o) r e in
-    let b = first-value (object w (o .object)) (from-object w o (a .0)) r (a .2) in
+    let a = first-value (readEfCom w (o .efcom)) (from-common w o) r e in
+    let b = first-value (readObject w (o .object)) (from-object w o (a .0)) r (a .2) in
     let c = first-value (files w (o .object .to)) (from-files w o (a .0) (b .0)) r (b .2) in
     let d = checked-value (filesCheck w (cut w (a .0)) [] (b .0) (c .0)) (groupOne w (c .0)) r (c .2) in
     group-held w (c .0) r (d .1)
 
 -- the record of an accepted presentation is that of an accepted text
-pub presentation-held : (w : List ℕ) → readPresentation w .outcome ≡ passed → (t : List ℕ) × (readText t .outcome ≡ passed) × (readPresentation w .kept ≡ readText t .kept)
+pub presentation-held : (w : List ℕ) → readPresentation w .outcome ≡ passed
+    → (t : List ℕ) × (readText t .outcome ≡ passed) × (readPresentation w .kept ≡ readText t .kept)
 unfolding readPresentation readStages
 presentation-held w e =
     let a = passed-value (readStages w) e in

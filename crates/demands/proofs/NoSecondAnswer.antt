@@ -5,15 +5,16 @@ use mathlib.Core.List.{List, [], _∷_}
 use lib.ListN.{getD}
 use native.Mathlib.Omega.{arith}
 use Rattle.refusal.specs.declared.Cause.{Cause}
-use Rattle.refusal.specs.declared.Cause.the-variants.{Length, Character, Code, State, Number, Date, Sex, Name, Digit, Encoding, EfCom, SecurityObject, Algorithm, Group, Digest, Output, Unsound, Entry}
+use Rattle.refusal.specs.declared.Cause.the-variants.{Length, Character, Code, State, Number, Date, Sex, Name, Digit, Encoding}
+use Rattle.refusal.specs.declared.Cause.the-variants.{EfCom, SecurityObject, Algorithm, Group, Digest, Output, Unsound, Entry}
 use Rattle.refusal.specs.declared.Refusal.{Refusal}
 use Rattle.refusal.specs.declared.Verdict.{Verdict}
 use Rattle.refusal.specs.declared.Verdict.the-variants.{Passed, Refused}
 use Rattle.refusal.specs.Numbers.{numberOf}
 use Rattle.refusal.specs.Outcome.{Outcome, passed, refused, outcomeOf}
 use Rattle.refusal.specs.declared.Written.{Written}
-use Rattle.refusal.specs.declared.Written.the-variants.{Octets, Refused as Denied}
-use Rattle.refusal.specs.Length.{Length as Answered, written, refused as denied, lengthOf}
+use Rattle.refusal.specs.declared.Written.the-variants.{Octets}
+use Rattle.refusal.specs.Length.{written, lengthOf}
 use Rattle.sha256.specs.Answer.{Digests}
 use Rattle.zone.specs.declared.record.Record.{Record}
 use Rattle.text.specs.declared.read.Reading.{Reading}
@@ -22,13 +23,14 @@ use Rattle.writing.specs.Answer as text
 use Rattle.entry.specs.Entry.{Writes}
 use Rattle.entry.specs.Run as run
 use Rattle.entry.specs.declared.run.Step.{Step}
-use Rattle.entry.specs.declared.run.Step.the-variants.{Next, End, Refused as Stopped}
+use Rattle.entry.specs.declared.run.Step.the-variants.{Next, End}
 use Rattle.entry.specs.declared.run.Standing.{Standing}
 
 -- the cause of a number
 causes : List Cause
 causes =
-    Length ∷ Length ∷ Character ∷ Code ∷ State ∷ Number ∷ Date ∷ Sex ∷ Name ∷ Digit ∷ Encoding ∷ EfCom ∷ SecurityObject ∷ Algorithm ∷ Group
+    Length ∷ Length ∷ Character ∷ Code ∷ State ∷ Number ∷ Date ∷ Sex ∷ Name ∷ Digit ∷ Encoding ∷ EfCom ∷ SecurityObject
+    ∷ Algorithm ∷ Group
     ∷ Digest ∷ Output ∷ Unsound ∷ Entry ∷ []
 
 cause-of : (c : Cause) → getD causes (numberOf c) Length ≡ c
@@ -95,10 +97,12 @@ only-reading t r s p q = answer-tells r s (p ∙ sym q)
 
 -- ---- what writes a text or an entry
 
-pub only-text : (r : Record) (out a b : List ℕ) (v w : Written) → text.Writes r out a v → text.Writes r out b w → (v ≡ w) × (a ≡ b)
+pub only-text : (r : Record) (out a b : List ℕ) (v w : Written) → text.Writes r out a v → text.Writes r out b w
+    → (v ≡ w) × (a ≡ b)
 only-text r out a b v w p q = (length-tells v w (p .answer ∙ sym (q .answer)), p .output ∙ sym (q .output))
 
-pub only-entry : (house : ℕ) (r : Record) (out a b : List ℕ) (v w : Written) → Writes house r out a v → Writes house r out b w → (v ≡ w) × (a ≡ b)
+pub only-entry : (house : ℕ) (r : Record) (out a b : List ℕ) (v w : Written) → Writes house r out a v → Writes house r out b w
+    → (v ≡ w) × (a ≡ b)
 only-entry house r out a b v w p q = (length-tells v w (p .answer ∙ sym (q .answer)), p .output ∙ sym (q .output))
 
 -- ---- the run reader
@@ -131,7 +135,8 @@ step-tells End (Stopped s) e = absurd (let z : _≡_ {A = ℕ} 1 2 = ap kindOf e
 step-tells (Stopped r) (Next m) e = absurd (let z : _≡_ {A = ℕ} 2 0 = ap kindOf e in omega arith)
 step-tells (Stopped r) End e = absurd (let z : _≡_ {A = ℕ} 2 1 = ap kindOf e in omega arith)
 
-pub only-next : (w : List ℕ) (at : ℕ) (r s : Standing) → run.standingOf r ≡ run.readEntry w at → run.standingOf s ≡ run.readEntry w at → r ≡ s
+pub only-next : (w : List ℕ) (at : ℕ) (r s : Standing) → run.standingOf r ≡ run.readEntry w at
+    → run.standingOf s ≡ run.readEntry w at → r ≡ s
 unfolding run.standingOf
 only-next w at r s p q =
     let e = p ∙ sym q in

@@ -61,7 +61,8 @@ isRight (birthRefused s) = not (birthRule (octets s))
 isRight (digits s n b e c) =
     isDigitAt (octets s) numberCheck (field Td3 number (octets s)) n
     && (isDigitAt (octets s) birthCheck (field Td3 birth (octets s)) b
-    && (isDigitAt (octets s) expiryCheck (field Td3 expiry (octets s)) e && isDigitAt (octets s) composite (covered Td3 (octets s)) c))
+    && (isDigitAt (octets s) expiryCheck (field Td3 expiry (octets s)) e && isDigitAt (octets s) composite
+    (covered Td3 (octets s)) c))
 isRight (lengthRead l n) = isRead (told l n)
 isRight (lengthRefused l n) = isRefused 10 (told l n)
 isRight (entry s house n front) =

@@ -1,1 +1,2 @@
 pub mod Sums  -- the weighted sum: its bounds, one character more, and pieces joined
+pub mod Written  -- the digit as a character, and the digit of fillers

@@ -1,1 +1,2 @@
+-- the laws by which the tag list is walked
 pub mod TagList

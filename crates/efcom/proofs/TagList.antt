@@ -39,7 +39,8 @@ unfolding backFrom
 back-more i s = rw (add-one i)
 
 module _ (s : List ℕ) (from i : ℕ) (r : Outcome) (left : onceFrom (from + i) (backFrom i s) (drop i s) ≡ r) where
-  pub once-more : i < length s → stands (getD s i 0) (backFrom i s) ≡ false → onceFrom (from + (i + 1)) (backFrom (i + 1) s) (drop (i + 1) s) ≡ r
+  pub once-more : i < length s → stands (getD s i 0) (backFrom i s) ≡ false
+      → onceFrom (from + (i + 1)) (backFrom (i + 1) s) (drop (i + 1) s) ≡ r
   unfolding onceFrom backFrom
   once-more h t = let k : from + (i + 1) ≡ suc (from + i) = omega arith in rw (k, add-one i) (rw (drop-cons s i 0 h, t) at left)
 

@@ -12,6 +12,7 @@ use Rattle.tlv.specs.Element.{element}
 use Rattle.tlv.specs.Cut.{cut, hasOctets, endCheck}
 use Rattle.lent.specs.Octets.{alike, stands}
 use Rattle.tlv.specs.Tags.{isGroup}
+use Rattle.tlv.specs.Tags as Tag
 
 -- in the list, first an unknown tag, at its octet
 unfoldable pub knownFrom : ℕ → List ℕ → Outcome
@@ -28,23 +29,23 @@ unfoldable pub tagsCheck : List ℕ → Stretch → ℕ → Outcome
 tagsCheck s v at =
     orElse (knownFrom (v .from) (cut s v)) (orElse (onceFrom (v .from) [] (cut s v)) (unless (leb (length (cut s v)) 15) 11 at))
 
-unfoldable pub tagList : List ℕ → ℕ → Read Stretch
-tagList s at = andThen (element s at 92) (λ v. checked (tagsCheck s v at) (checked (endCheck s (v .to)) (value v)))
+unfoldable pub fromTagList : List ℕ → ℕ → Read Stretch
+fromTagList s at = andThen (element s at Tag.tagList) (λ v. checked (tagsCheck s v at) (checked (endCheck s (v .to)) (value v)))
 
 -- six digits
 unfoldable pub isUnicode : List ℕ → Stretch → Bool
 isUnicode s v = hasOctets 6 v && every isDigit (cut s v)
 
-unfoldable pub unicode : List ℕ → ℕ → Read Stretch
-unicode s at = andThen (element s at 24374) (λ v. checked (unless (isUnicode s v) 11 at) (tagList s (v .to)))
+unfoldable pub fromUnicode : List ℕ → ℕ → Read Stretch
+fromUnicode s at = andThen (element s at Tag.unicodeVersion) (λ v. checked (unless (isUnicode s v) 11 at) (fromTagList s (v .to)))
 
 -- `0107`
 unfoldable pub isVersion : List ℕ → Stretch → Bool
-isVersion s v = hasOctets 4 v && alike (cut s v) (48 ∷ 49 ∷ 48 ∷ 55 ∷ [])
+isVersion s v = hasOctets 4 v && alike (cut s v) (0x30 ∷ 0x31 ∷ 0x30 ∷ 0x37 ∷ [])
 
-unfoldable pub version : List ℕ → ℕ → Read Stretch
-version s at = andThen (element s at 24321) (λ v. checked (unless (isVersion s v) 11 at) (unicode s (v .to)))
+unfoldable pub fromVersion : List ℕ → ℕ → Read Stretch
+fromVersion s at = andThen (element s at Tag.ldsVersion) (λ v. checked (unless (isVersion s v) 11 at) (fromUnicode s (v .to)))
 
 -- the tag list of an EF.COM whose value stands here
-unfoldable pub common : List ℕ → Stretch → Read Stretch
-common w efcom = version (take (efcom .to) w) (efcom .from)
+unfoldable pub readEfCom : List ℕ → Stretch → Read Stretch
+readEfCom w efcom = fromVersion (take (efcom .to) w) (efcom .from)

@@ -1,1 +1,2 @@
+-- stage 3: EF.COM
 pub mod EfCom

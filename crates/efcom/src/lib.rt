@@ -6,7 +6,9 @@ ghost use Rattle.tlv.specs.Read.{value, refusal, checked};
 ghost use Rattle.tlv.specs.Element.{takenOf};
 ghost use Rattle.tlv.specs.Cut.{endCheck};
 ghost use Rattle.efcom.specs.EfCom as C;
+
 mod list;
+
 use crate::list::tags_check;
 use lent::alike;
 use refusal::Cause;
@@ -17,6 +19,7 @@ use tlv::Taken;
 use tlv::cut::cut;
 use tlv::cut::end_check;
 use tlv::cut::has_octets;
+use tlv::tags;
 use zone::alphabet::is_digit;
 
 // 11, at the element's tag or at a tag of the list.
@@ -38,10 +41,10 @@ fn listed(s: &[u8], v: Stretch) -> Taken
     }
 }
 
-fn tag_list(s: &[u8], at: usize) -> Taken
-    ensures { λ r. ⌜ takenOf r ≡ C.tagList (now (s .entry)) at ⌝ }
+fn from_tag_list(s: &[u8], at: usize) -> Taken
+    ensures { λ r. ⌜ takenOf r ≡ C.fromTagList (now (s .entry)) at ⌝ }
 {
-    match tlv::element(s, at, 92) {
+    match tlv::element(s, at, tags::TAG_LIST) {
         Taken::Value(v) => match tags_check(s, v, at) {
             Verdict::Passed => listed(s, v),
             Verdict::Refused(refusal) => Taken::Refused(refusal),
@@ -76,13 +79,13 @@ fn is_unicode(s: &[u8], v: Stretch) -> bool
     }
 }
 
-fn unicode(s: &[u8], at: usize) -> Taken
-    ensures { λ r. ⌜ takenOf r ≡ C.unicode (now (s .entry)) at ⌝ }
+fn from_unicode(s: &[u8], at: usize) -> Taken
+    ensures { λ r. ⌜ takenOf r ≡ C.fromUnicode (now (s .entry)) at ⌝ }
 {
-    match tlv::element(s, at, 24374) {
+    match tlv::element(s, at, tags::UNICODE_VERSION) {
         Taken::Value(v) => {
             if is_unicode(s, v) {
-                tag_list(s, v.to)
+                from_tag_list(s, v.to)
             } else {
                 refuse(at)
             }
@@ -95,7 +98,7 @@ fn unicode(s: &[u8], at: usize) -> Taken
 fn is_version(s: &[u8], v: Stretch) -> bool
     ensures { λ r. ⌜ r ≡ C.isVersion (now (s .entry)) v ⌝ }
 {
-    let named = [48u8, 49, 48, 55];
+    let named = *b"0107";
     if has_octets(4, v) {
         alike(cut(s, v), &named)
     } else {
@@ -103,13 +106,13 @@ fn is_version(s: &[u8], v: Stretch) -> bool
     }
 }
 
-fn version(s: &[u8], at: usize) -> Taken
-    ensures { λ r. ⌜ takenOf r ≡ C.version (now (s .entry)) at ⌝ }
+fn from_version(s: &[u8], at: usize) -> Taken
+    ensures { λ r. ⌜ takenOf r ≡ C.fromVersion (now (s .entry)) at ⌝ }
 {
-    match tlv::element(s, at, 24321) {
+    match tlv::element(s, at, tags::LDS_VERSION) {
         Taken::Value(v) => {
             if is_version(s, v) {
-                unicode(s, v.to)
+                from_unicode(s, v.to)
             } else {
                 refuse(at)
             }
@@ -119,8 +122,8 @@ fn version(s: &[u8], at: usize) -> Taken
 }
 
 // The tag list of an EF.COM whose value stands here.
-pub fn common(w: &[u8], efcom: Stretch) -> Taken
-    ensures { λ r. ⌜ takenOf r ≡ C.common (now (w .entry)) efcom ⌝ }
+pub fn read(w: &[u8], efcom: Stretch) -> Taken
+    ensures { λ r. ⌜ takenOf r ≡ C.readEfCom (now (w .entry)) efcom ⌝ }
 {
-    version(lent::part(w, 0, efcom.to), efcom.from)
+    from_version(lent::part(w, 0, efcom.to), efcom.from)
 }

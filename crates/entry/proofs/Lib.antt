@@ -4,3 +4,8 @@ pub mod Ink  -- `Wrote`: one writing with a pen after another, a push, and the l
 pub mod Fits  -- what may be entered fits the bits that it has
 pub mod Shifts  -- `bitsAt`: up to sixteen bits are a field of two octets
 pub mod Fields  -- `charactersAt`, and how far a whole entry reaches
+pub mod FormsAndSexes  -- the codes of forms and sexes tell them
+pub mod BitsOfOctets  -- a range of octets as its bits
+pub mod OctetsOfBits  -- bits gathered by eights
+pub mod FieldBits  -- numbers and characters in bits, put and read
+pub mod EntryBits  -- the bits of an entry

@@ -7,8 +7,8 @@ use native.Mathlib.Nat.{zero-add, le-of-eq, sub-zero, suc-sub-suc}
 use native.Mathlib.Numerals.{add-one}
 use native.Mathlib.Omega.{arith}
 use lib.ListN.{length, take, drop, getD, set, length-drop, drop-of-length-le, replicate}
-use Rattle.lent.specs.Copied.{copied, copiedAt}
 use lib.Seq.{drop-nil, take-all, paste-suc, take-length, drop-length}
+use Rattle.lent.specs.Copied.{copied, copiedAt}
 
 -- one more octet copied to the front of a range
 pub copy-more : (to from : List ℕ) (i : ℕ) → i < length to → i < length from

@@ -18,7 +18,8 @@ pub none-marked : (width : ℕ) → Marks width (replicate width 0) []
 unfolding Marks stands
 none-marked width c h = rw (getD-replicate {A = ℕ} width c 0 0 h)
 
-pub one-marked : (width : ℕ) (table before : List ℕ) (d m : ℕ) → Marks width table before → length table ≡ width → d < width → 0 < m → Marks width (set table d m) (d ∷ before)
+pub one-marked : (width : ℕ) (table before : List ℕ) (d m : ℕ) → Marks width table before → length table ≡ width → d < width
+    → 0 < m → Marks width (set table d m) (d ∷ before)
 unfolding Marks stands
 one-marked width table before d m marks len hd hm c h = go (eqb c d) refl
   where
@@ -29,10 +30,12 @@ one-marked width table before d m marks len hd hm c h = go (eqb c d) refl
         rw (q, getD-set-same table d m 0 k, ne-eqb m 0 (λ z. omega arith))
     go false e = rw (getD-set-other table d c m 0 (eqb-false c d e)) (marks c h)
 
-pub unmarked : (width : ℕ) (table before : List ℕ) (d : ℕ) → Marks width table before → d < width → getD table d 0 ≡ 0 → stands d before ≡ false
+pub unmarked : (width : ℕ) (table before : List ℕ) (d : ℕ) → Marks width table before → d < width → getD table d 0 ≡ 0
+    → stands d before ≡ false
 unfolding Marks
 unmarked width table before d marks h e = marks d h ∙ ap not (eq-eqb (getD table d 0) 0 e)
 
-pub marked : (width : ℕ) (table before : List ℕ) (d : ℕ) → Marks width table before → d < width → (getD table d 0 ≡ 0 → ⊥) → stands d before ≡ true
+pub marked : (width : ℕ) (table before : List ℕ) (d : ℕ) → Marks width table before → d < width → (getD table d 0 ≡ 0 → ⊥)
+    → stands d before ≡ true
 unfolding Marks
 marked width table before d marks h e = marks d h ∙ ap not (ne-eqb (getD table d 0) 0 e)

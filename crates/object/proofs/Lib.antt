@@ -1,3 +1,6 @@
+-- where an entry and its parts stand
 pub mod EntryPlaces
-pub mod Tally
-pub mod Sums
+-- a walk over entries goes on from the end of each
+pub mod EntriesWalked
+-- what was seen of the entries decides as their list does
+pub mod EntriesByTable

@@ -1,2 +1,4 @@
+-- stage 4: the security object
 pub mod Object
-pub mod Seen
+-- no words of the paper: what the code answers on its way
+pub mod Inner

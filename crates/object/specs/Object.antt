@@ -1,4 +1,5 @@
--- Stage 4, the security object (source document 000, 5.2; DER): version integer 0; AlgorithmIdentifier of SHA-256, else 13; a sequence of
+-- Stage 4, the security object (source document 000, 5.2; DER): version integer 0; AlgorithmIdentifier of SHA-256, else 13; a
+-- sequence of
 -- entries, else 12 at the bad element.
 use Prim.Native.Nat.{ℕ, zero, suc}
 use mathlib.Core.Bool.{Bool, cond, _&&_, _||_}
@@ -7,13 +8,14 @@ use lib.Dec.{eqb, leb}
 use lib.ListN.{length, take, getD}
 use Rattle.refusal.specs.Outcome.{Outcome, passed, refused, unless, orElse}
 use Rattle.tlv.specs.declared.Stretch.{Stretch}
-use Rattle.tlv.specs.Read.{Read, value, andThen, checked}
+use Rattle.tlv.specs.Read.{Read, value, refusal, andThen, checked}
 use Rattle.tlv.specs.Element.{element}
 use Rattle.tlv.specs.Cut.{cut, hasOctets, endCheck}
+use Rattle.tlv.specs.Tags as Tag
 use Rattle.lent.specs.Octets.{alike, stands}
 
 -- an entry: its group's number, where its integer stands, and where its digest begins and it ends
-pub record Entry : Type 0 where
+pub record GroupHash : Type 0 where
   pub group : ℕ
   pub place : ℕ
   pub digest : ℕ
@@ -24,69 +26,75 @@ unfoldable pub isGroupNumber : List ℕ → Stretch → Bool
 isGroupNumber s v = hasOctets 1 v && (leb 1 (getD s (v .from) 0) && leb (getD s (v .from) 0) 16)
 
 -- an octet string of 32, and nothing behind it
-unfoldable pub digestAt : List ℕ → (group place at : ℕ) → Read Entry
+unfoldable pub digestAt : List ℕ → (group place at : ℕ) → Read GroupHash
 digestAt s group place at =
-    andThen (element s at 4) (λ v.
+    andThen (element s at Tag.octetString) (λ v.
     checked (unless (hasOctets 32 v) 12 at)
     (checked (endCheck s (v .to)) (value (record { group = group; place = place; digest = v .from; end = v .to }))))
 
-unfoldable pub numberAt : List ℕ → ℕ → Read Entry
-numberAt s at = andThen (element s at 2) (λ v. checked (unless (isGroupNumber s v) 12 at) (digestAt s (getD s (v .from) 0) at (v .to)))
+unfoldable pub numberAt : List ℕ → ℕ → Read GroupHash
+numberAt s at = andThen (element s at Tag.integer)
+    (λ v. checked (unless (isGroupNumber s v) 12 at) (digestAt s (getD s (v .from) 0) at (v .to)))
 
 -- each itself a sequence of these
-unfoldable pub entryAt : List ℕ → ℕ → Read Entry
-entryAt s at = andThen (element s at 48) (λ v. numberAt (take (v .to) s) (v .from))
+unfoldable pub entryAt : List ℕ → ℕ → Read GroupHash
+entryAt s at = andThen (element s at Tag.sequence) (λ v. numberAt (take (v .to) s) (v .from))
 
--- No entry is empty, so that as many steps as octets are enough.
-unfoldable pub entriesFrom : ℕ → List ℕ → ℕ → Read (List Entry)
-entriesFrom zero s at = value []
+-- entries to the end of what holds them; here at most so many steps, of which the last finds the end
+unfoldable pub entriesFrom : ℕ → List ℕ → ℕ → Read (List GroupHash)
+entriesFrom zero s at = refusal 10 at
 entriesFrom (suc more) s at =
     cond (leb (length s) at) (value [])
     (andThen (entryAt s at) (λ e. andThen (entriesFrom more s (e .end)) (λ rest. value (e ∷ rest))))
 
+-- no entry is empty, so that there are no more of them than octets
+unfoldable pub entries : List ℕ → ℕ → Read (List GroupHash)
+entries s at = entriesFrom (suc (length s)) s at
+
 -- after all entries: a repeated number (12 at its integer)
-unfoldable pub numbersOnce : List ℕ → List Entry → Outcome
+unfoldable pub numbersOnce : List ℕ → List GroupHash → Outcome
 numbersOnce before [] = passed
 numbersOnce before (e ∷ es) = cond (stands (e .group) before) (refused 12 (e .place)) (numbersOnce (e .group ∷ before) es)
 
 -- the number of entries
-unfoldable pub count : List Entry → ℕ
+unfoldable pub count : List GroupHash → ℕ
 count [] = 0
 count (e ∷ es) = suc (count es)
 
 -- then fewer than 2, then more than 16 (12 at the list)
-unfoldable pub entriesCheck : List Entry → ℕ → Outcome
+unfoldable pub entriesCheck : List GroupHash → ℕ → Outcome
 entriesCheck es at = orElse (numbersOnce [] es) (orElse (unless (leb 2 (count es)) 12 at) (unless (leb (count es) 16) 12 at))
 
 -- and nothing follows
-unfoldable pub entryList : List ℕ → ℕ → Read (List Entry)
-entryList s at =
-    andThen (element s at 48) (λ v.
-    andThen (entriesFrom (length s) (take (v .to) s) (v .from)) (λ es.
+unfoldable pub fromEntryList : List ℕ → ℕ → Read (List GroupHash)
+fromEntryList s at =
+    andThen (element s at Tag.sequence) (λ v.
+    andThen (entries (take (v .to) s) (v .from)) (λ es.
     checked (entriesCheck es at) (checked (endCheck s (v .to)) (value es))))
 
 -- its inside is compared and not walked: exactly 06 09 60 86 48 01 65 03 04 02 01, alone or followed by 05 00
 unfoldable pub sha256Name : List ℕ
-sha256Name = 6 ∷ 9 ∷ 96 ∷ 134 ∷ 72 ∷ 1 ∷ 101 ∷ 3 ∷ 4 ∷ 2 ∷ 1 ∷ []
+sha256Name = 0x06 ∷ 0x09 ∷ 0x60 ∷ 0x86 ∷ 0x48 ∷ 0x01 ∷ 0x65 ∷ 0x03 ∷ 0x04 ∷ 0x02 ∷ 0x01 ∷ []
 
 unfoldable pub isSha256 : List ℕ → Bool
-isSha256 s = alike s sha256Name || alike s (sha256Name ++ (5 ∷ 0 ∷ []))
+isSha256 s = alike s sha256Name || alike s (sha256Name ++ (0x05 ∷ 0x00 ∷ []))
 
-unfoldable pub algorithm : List ℕ → ℕ → Read (List Entry)
-algorithm s at = andThen (element s at 48) (λ v. checked (unless (isSha256 (cut s v)) 13 at) (entryList s (v .to)))
+unfoldable pub fromAlgorithm : List ℕ → ℕ → Read (List GroupHash)
+fromAlgorithm s at = andThen (element s at Tag.sequence)
+    (λ v. checked (unless (isSha256 (cut s v)) 13 at) (fromEntryList s (v .to)))
 
 -- version integer 0
 unfoldable pub isZero : List ℕ → Stretch → Bool
 isZero s v = hasOctets 1 v && eqb (getD s (v .from) 0) 0
 
-unfoldable pub objectVersion : List ℕ → ℕ → Read (List Entry)
-objectVersion s at = andThen (element s at 2) (λ v. checked (unless (isZero s v) 12 at) (algorithm s (v .to)))
+unfoldable pub fromVersion : List ℕ → ℕ → Read (List GroupHash)
+fromVersion s at = andThen (element s at Tag.integer) (λ v. checked (unless (isZero s v) 12 at) (fromAlgorithm s (v .to)))
 
 -- the entries of a security object whose value stands here
-unfoldable pub object : List ℕ → Stretch → Read (List Entry)
-object w o = objectVersion (take (o .to) w) (o .from)
+unfoldable pub readObject : List ℕ → Stretch → Read (List GroupHash)
+readObject w o = fromVersion (take (o .to) w) (o .from)
 
 -- where the digest of a group begins, 0 where it has no entry
-unfoldable pub digestFor : ℕ → List Entry → ℕ
+unfoldable pub digestFor : ℕ → List GroupHash → ℕ
 digestFor group [] = 0
 digestFor group (e ∷ es) = cond (eqb (e .group) group) (e .digest) (digestFor group es)

@@ -3,18 +3,19 @@ ghost use mathlib.Core.Path.{_≡_};
 ghost use Prim.Native.Nat.{_<_, _^_};
 ghost use Rattle.refusal.specs.Numbers.{numberOf};
 ghost use Rattle.refusal.specs.Outcome.{outcomeOf};
-ghost use Rattle.tlv.specs.Read.{refusal, toldOf};
+ghost use Rattle.tlv.specs.Read.{refusal, outcomeIn};
 ghost use Rattle.object.specs.Object as O;
-ghost use Rattle.object.specs.Seen as T;
+ghost use Rattle.object.specs.Inner.Seen as T;
 use refusal::Cause;
 use refusal::Refusal;
 use refusal::Verdict;
 use tlv::Stretch;
 use tlv::Taken;
 use tlv::cut::has_octets;
+use tlv::tags;
 
 // An entry: its group's number, where its integer stands, and where its digest begins and it ends.
-pub struct Entry {
+pub struct GroupHash {
     pub group: usize,
     pub place: usize,
     pub digest: usize,
@@ -22,13 +23,13 @@ pub struct Entry {
 }
 
 // The entry that stands at a place, or why there is none.
-pub enum EntryRead {
-    Value(Entry),
+pub enum HashRead {
+    Value(GroupHash),
     Refused(Refusal),
 }
 
-// What was seen of the entries: how many, where the first repeated integer stands (0 for none), and where the digest of each group
-// begins (0 for none).
+// What was seen of the entries: how many, where the first repeated integer stands (0 for none), and where the digest of each
+// group begins (0 for none).
 pub struct Seen {
     pub count: usize,
     pub repeated: usize,
@@ -41,21 +42,21 @@ pub struct Walk {
     pub seen: Seen,
 }
 
-fn refuse(cause: Cause, at: usize) -> EntryRead
+fn refuse(cause: Cause, at: usize) -> HashRead
     ensures { λ r. ⌜ T.entryOf r ≡ refusal (numberOf cause) at ⌝ }
 {
-    EntryRead::Refused(Refusal { cause, place: at })
+    HashRead::Refused(Refusal { cause, place: at })
 }
 
 // An octet string of 32, and nothing behind it.
-fn digest_at(s: &[u8], group: usize, place: usize, at: usize) -> EntryRead
+fn digest_at(s: &[u8], group: usize, place: usize, at: usize) -> HashRead
     ensures { λ r. ⌜ T.entryOf r ≡ O.digestAt (now (s .entry)) group place at ⌝ }
 {
-    match tlv::element(s, at, 4) {
+    match tlv::element(s, at, tags::OCTET_STRING) {
         Taken::Value(v) => {
             if has_octets(32, v) {
                 if v.to == s.len() {
-                    EntryRead::Value(Entry {
+                    HashRead::Value(GroupHash {
                         group,
                         place,
                         digest: v.from,
@@ -68,7 +69,7 @@ fn digest_at(s: &[u8], group: usize, place: usize, at: usize) -> EntryRead
                 refuse(Cause::SecurityObject, at)
             }
         }
-        Taken::Refused(refusal) => EntryRead::Refused(refusal),
+        Taken::Refused(refusal) => HashRead::Refused(refusal),
     }
 }
 
@@ -84,10 +85,10 @@ fn is_group_number(s: &[u8], v: Stretch) -> bool
     }
 }
 
-fn number_at(s: &[u8], at: usize) -> EntryRead
+fn number_at(s: &[u8], at: usize) -> HashRead
     ensures { λ r. ⌜ T.entryOf r ≡ O.numberAt (now (s .entry)) at ⌝ }
 {
-    match tlv::element(s, at, 2) {
+    match tlv::element(s, at, tags::INTEGER) {
         Taken::Value(v) => {
             if is_group_number(s, v) {
                 digest_at(s, lent::octet(s, v.from) as usize, at, v.to)
@@ -95,17 +96,17 @@ fn number_at(s: &[u8], at: usize) -> EntryRead
                 refuse(Cause::SecurityObject, at)
             }
         }
-        Taken::Refused(refusal) => EntryRead::Refused(refusal),
+        Taken::Refused(refusal) => HashRead::Refused(refusal),
     }
 }
 
 // An entry is itself a sequence of the two.
-fn entry_at(s: &[u8], at: usize) -> EntryRead
+fn entry_at(s: &[u8], at: usize) -> HashRead
     ensures { λ r. ⌜ T.entryOf r ≡ O.entryAt (now (s .entry)) at ⌝ }
 {
-    match tlv::element(s, at, 48) {
+    match tlv::element(s, at, tags::SEQUENCE) {
         Taken::Value(v) => number_at(lent::part(s, 0, v.to), v.from),
-        Taken::Refused(refusal) => EntryRead::Refused(refusal),
+        Taken::Refused(refusal) => HashRead::Refused(refusal),
     }
 }
 
@@ -143,19 +144,19 @@ fn counted(seen: Seen, group: usize, place: usize, digest: usize, end: usize) ->
 
 // Every entry, from the first on.
 pub(crate) fn entries(s: &[u8], start: usize) -> Walk
-    ensures { λ r. ⌜ outcomeOf (r .verdict) ≡ toldOf (T.tallyFrom (now (s .entry)) start T.none) ⌝ }
+    ensures { λ r. ⌜ outcomeOf (r .verdict) ≡ outcomeIn (T.tallyFrom (now (s .entry)) start T.none) ⌝ }
     ensures { λ r. ⌜ r .seen ≡ T.seenIn (T.tallyFrom (now (s .entry)) start T.none) ⌝ }
 {
     let mut at = start;
     let mut seen = none();
     while at < s.len() {
         match entry_at(s, at) {
-            EntryRead::Value(e) => {
+            HashRead::Value(e) => {
                 let next = counted(seen, e.group, e.place, e.digest, e.end);
                 seen = next;
                 at = e.end;
             }
-            EntryRead::Refused(refusal) => {
+            HashRead::Refused(refusal) => {
                 return Walk {
                     verdict: Verdict::Refused(refusal),
                     seen: none(),

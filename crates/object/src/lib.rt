@@ -1,13 +1,13 @@
 // Stage 4, the security object: the version, the algorithm and the entries, each from where the one before it ends.
 ghost use mathlib.Core.Path.{_≡_};
-ghost use lib.ListN.{length, take};
 ghost use Rattle.refusal.specs.Numbers.{numberOf};
 ghost use Rattle.refusal.specs.Outcome.{outcomeOf};
-ghost use Rattle.tlv.specs.Read.{value, refusal, andThen, checked, toldOf};
-ghost use Rattle.tlv.specs.Cut.{endCheck};
+ghost use Rattle.tlv.specs.Read.{value, refusal, outcomeIn};
 ghost use Rattle.object.specs.Object as O;
-ghost use Rattle.object.specs.Seen as T;
+ghost use Rattle.object.specs.Inner.Seen as T;
+
 mod entries;
+
 use crate::entries::Seen;
 use crate::entries::entries;
 use lent::alike;
@@ -19,6 +19,7 @@ use tlv::Taken;
 use tlv::cut::cut;
 use tlv::cut::end_check;
 use tlv::cut::has_octets;
+use tlv::tags;
 
 // What stage 4 found, and where the digest of each group begins, 0 where it has no entry or the object is refused.
 pub struct ObjectRead {
@@ -62,7 +63,7 @@ fn settled(verdict: Verdict, digests: [usize; 17]) -> ObjectRead
 
 // The entries, then the tests on all of them, and nothing follows.
 fn entries_in(s: &[u8], at: usize, v: Stretch) -> ObjectRead
-    ensures { λ r. ⌜ T.objectOf r ≡ T.told (andThen (O.entriesFrom (length (now (s .entry))) (take (v .to) (now (s .entry))) (v .from)) (λ es. checked (O.entriesCheck es at) (checked (endCheck (now (s .entry)) (v .to)) (value es)))) ⌝ }
+    ensures { λ r. ⌜ T.objectOf r ≡ T.told (T.fromEntries (now (s .entry)) at v) ⌝ }
 {
     let walk = entries(lent::part(s, 0, v.to), v.from);
     let verdict = walk.verdict;
@@ -72,10 +73,10 @@ fn entries_in(s: &[u8], at: usize, v: Stretch) -> ObjectRead
     settled(verdict.or_else(after), digests)
 }
 
-fn entry_list(s: &[u8], at: usize) -> ObjectRead
-    ensures { λ r. ⌜ T.objectOf r ≡ T.told (O.entryList (now (s .entry)) at) ⌝ }
+fn from_entry_list(s: &[u8], at: usize) -> ObjectRead
+    ensures { λ r. ⌜ T.objectOf r ≡ T.told (O.fromEntryList (now (s .entry)) at) ⌝ }
 {
-    match tlv::element(s, at, 48) {
+    match tlv::element(s, at, tags::SEQUENCE) {
         Taken::Value(v) => entries_in(s, at, v),
         Taken::Refused(refusal) => refused(refusal),
     }
@@ -85,8 +86,34 @@ fn entry_list(s: &[u8], at: usize) -> ObjectRead
 fn is_sha256(s: &[u8]) -> bool
     ensures { λ r. ⌜ r ≡ O.isSha256 (now (s .entry)) ⌝ }
 {
-    let alone = [6u8, 9, 96, 134, 72, 1, 101, 3, 4, 2, 1];
-    let followed = [6u8, 9, 96, 134, 72, 1, 101, 3, 4, 2, 1, 5, 0];
+    let alone = [
+        0x06u8,
+        0x09,
+        0x60,
+        0x86,
+        0x48,
+        0x01,
+        0x65,
+        0x03,
+        0x04,
+        0x02,
+        0x01,
+    ];
+    let followed = [
+        0x06u8,
+        0x09,
+        0x60,
+        0x86,
+        0x48,
+        0x01,
+        0x65,
+        0x03,
+        0x04,
+        0x02,
+        0x01,
+        0x05,
+        0x00,
+    ];
     if alike(s, &alone) {
         true
     } else {
@@ -94,13 +121,13 @@ fn is_sha256(s: &[u8]) -> bool
     }
 }
 
-fn algorithm(s: &[u8], at: usize) -> ObjectRead
-    ensures { λ r. ⌜ T.objectOf r ≡ T.told (O.algorithm (now (s .entry)) at) ⌝ }
+fn from_algorithm(s: &[u8], at: usize) -> ObjectRead
+    ensures { λ r. ⌜ T.objectOf r ≡ T.told (O.fromAlgorithm (now (s .entry)) at) ⌝ }
 {
-    match tlv::element(s, at, 48) {
+    match tlv::element(s, at, tags::SEQUENCE) {
         Taken::Value(v) => {
             if is_sha256(cut(s, v)) {
-                entry_list(s, v.to)
+                from_entry_list(s, v.to)
             } else {
                 refused(Refusal {
                     cause: Cause::Algorithm,
@@ -120,13 +147,13 @@ fn is_zero(s: &[u8], v: Stretch) -> bool
     if has_octets(1, v) { number == 0 } else { false }
 }
 
-fn version(s: &[u8], at: usize) -> ObjectRead
-    ensures { λ r. ⌜ T.objectOf r ≡ T.told (O.objectVersion (now (s .entry)) at) ⌝ }
+fn from_version(s: &[u8], at: usize) -> ObjectRead
+    ensures { λ r. ⌜ T.objectOf r ≡ T.told (O.fromVersion (now (s .entry)) at) ⌝ }
 {
-    match tlv::element(s, at, 2) {
+    match tlv::element(s, at, tags::INTEGER) {
         Taken::Value(v) => {
             if is_zero(s, v) {
-                algorithm(s, v.to)
+                from_algorithm(s, v.to)
             } else {
                 refused(Refusal {
                     cause: Cause::SecurityObject,
@@ -139,9 +166,9 @@ fn version(s: &[u8], at: usize) -> ObjectRead
 }
 
 // The entries of a security object whose value stands here.
-pub fn object(w: &[u8], o: Stretch) -> ObjectRead
-    ensures { λ r. ⌜ outcomeOf (r .verdict) ≡ toldOf (O.object (now (w .entry)) o) ⌝ }
-    ensures { λ r. ⌜ r .digests ≡ T.tableOf (O.object (now (w .entry)) o) ⌝ }
+pub fn read(w: &[u8], o: Stretch) -> ObjectRead
+    ensures { λ r. ⌜ outcomeOf (r .verdict) ≡ outcomeIn (O.readObject (now (w .entry)) o) ⌝ }
+    ensures { λ r. ⌜ r .digests ≡ T.tableOf (O.readObject (now (w .entry)) o) ⌝ }
 {
-    version(lent::part(w, 0, o.to), o.from)
+    from_version(lent::part(w, 0, o.to), o.from)
 }

@@ -1,4 +1,5 @@
--- DEMAND 2 for presentations: bytes are accepted exactly when they are the joined encodings of an EF.COM, a security object and group files that
+-- DEMAND 2 for presentations: bytes are accepted exactly when they are the joined encodings of an EF.COM, a security object and
+-- group files that
 -- belong together, and the record is that of the text in group 1.
 use Prim.Native.Nat.{ℕ, _≤_}
 use mathlib.Core.Path.{_≡_, refl, ap, sym, _∙_, subst}
@@ -16,16 +17,17 @@ use Rattle.tlv.specs.Element.{tlv}
 use Rattle.chip.specs.declared.outer.Outer.{Outer}
 use Rattle.tlv.specs.Cut.{cut}
 use Rattle.chip.specs.Outer.{File, files, walked}
-use Rattle.efcom.specs.EfCom.{common}
-use Rattle.object.specs.Object.{Entry, object}
+use Rattle.efcom.specs.EfCom.{readEfCom}
+use Rattle.object.specs.Object.{GroupHash, readObject}
 use Rattle.chip.specs.Files.{filesCheck}
 use Rattle.chip.specs.Presentation.{groupOne, decided, readStages, answerBy, readPresentation}
-use Rattle.text_theorems.specs.Octets.{areOctets}
-use Rattle.presentation_theorems.specs.Presented.{Signed, Lent, Contents, commonInside, commonOf, objectInside, objectOf, allLent, octetsOf, isIn, isOnce, numbers, tagsOf, FileKept, Presented}
+use Rattle.zone.specs.Octets.{areOctets}
+use Rattle.presentation_theorems.specs.Presented.{Signed, Lent, Contents, commonInside, commonOf, objectInside, objectOf}
+use Rattle.presentation_theorems.specs.Presented.{allLent, octetsOf, isIn, isOnce, numbers, tagsOf, FileKept, Presented}
 use Rattle.refusal.proofs.Outcomes.{refused-not-passed}
 use Rattle.text_theorems.proofs.Acceptance.{accepted-exactly}
 use Rattle.presentation_theorems.proofs.NoneTwice.{once-none, none-once}
-use Rattle.tlv.proofs.Told.{first-value, value-then, one-value, checked-value, value-checked}
+use Rattle.tlv.proofs.Joined.{first-value, value-then, one-value, checked-value, value-checked}
 use Rattle.presentation_theorems.proofs.EfCom.{common-read, read-common}
 use Rattle.presentation_theorems.proofs.ObjectEntry.{signedIn}
 use Rattle.presentation_theorems.proofs.SecurityObject.{object-read, read-object}
@@ -37,45 +39,56 @@ use Rattle.presentation_theorems.proofs.OuterWalk.{Walked, walked-parts
 -- ---- the stages in order
 
 module _ (w : List ℕ) (o : Outer) where
-  abbrev pub from-files : Stretch → List Entry → List File → Read Record
+  abbrev pub from-files : Stretch → List GroupHash → List File → Read Record
   from-files tags es fs = checked (filesCheck w (cut w tags) [] es fs) (groupOne w fs)
 
-  abbrev pub from-object : Stretch → List Entry → Read Record
+  abbrev pub from-object : Stretch → List GroupHash → Read Record
   from-object tags es = andThen (files w (o .object .to)) (from-files tags es)
 
   abbrev pub from-common : Stretch → Read Record
-  from-common tags = andThen (object w (o .object)) (from-object tags)
+  from-common tags = andThen (readObject w (o .object)) (from-object tags)
 
-file-kept : (tags : List ℕ) (xs : List Signed) (ls : List Lent) → EachGroup ls → EachBacked tags xs ls → (l : Lent) → isIn l ls → FileKept tags xs l
+file-kept : (tags : List ℕ) (xs : List Signed) (ls : List Lent) → EachGroup ls → EachBacked tags xs ls → (l : Lent) → isIn l ls
+    → FileKept tags xs l
 unfolding EachGroup EachBacked
 file-kept tags xs ls g b l m = record { of-group = g l m; listed = b l m .is-listed; signed = b l m .is-signed }
 
 module _ (w : List ℕ) (small : areOctets w) (r : Record) where
   -- what was decided, of what was walked
   decided-read : (o : Outer) (fs : List File) → Walked w (cut w (o .efcom)) (cut w (o .object)) o fs → length w ≤ 65535
-      → w ≡ tlv 96 (cut w (o .efcom)) ++ (tlv 48 (cut w (o .object)) ++ allLent (lentIn w fs)) → decided w o ≡ value r
+      → w ≡ tlv 0x60 (cut w (o .efcom)) ++ (tlv 0x30 (cut w (o .object)) ++ allLent (lentIn w fs)) → decided w o ≡ value r
       → (p : Contents) × (w ≡ octetsOf p) × Presented p × (readText (p .text) .kept ≡ r)
   unfolding decided octetsOf commonOf objectOf
   decided-read o fs h most there e =
       let c = cut w (o .efcom) in
       let d = cut w (o .object) in
-      let a = first-value (common w (o .efcom)) (from-common w o) r e in
+      let a = first-value (readEfCom w (o .efcom)) (from-common w o) r e in
       let tags = a .0 in
-      let b = first-value (object w (o .object)) (from-object w o tags) r (a .2) in
+      let b = first-value (readObject w (o .object)) (from-object w o tags) r (a .2) in
       let es = b .0 in
       let x = first-value (files w (o .object .to)) (from-files w o tags es) r (b .2) in
       let same : fs ≡ x .0 = one-value (files w (o .object .to)) fs (x .0) (h .files-walked) (x .1) in
-      let last : from-files w o tags es fs ≡ value r = subst (λ (q : List File). from-files w o tags es q ≡ value r) (sym same) (x .2) in
+      let last : from-files w o tags es fs
+      ≡ value r = subst (λ (q : List File). from-files w o tags es q ≡ value r) (sym same) (x .2) in
       let y = checked-value (filesCheck w (cut w tags) [] es fs) (groupOne w fs) r last in
-      let l = common-read w 0 96 c (drop (o .efcom .to) w) (o .efcom) (h .common-stands) small tags (a .1) in
-      let s = object-read w (o .efcom .to) 48 d (drop (o .object .to) w) (o .object) (h .object-stands) small es (b .1) in
+      let l = common-read w 0 0x60 c (drop (o .efcom .to) w) (o .efcom) (h .common-stands) small tags (a .1) in
+      let s = object-read w (o .efcom .to) 0x30 d (drop (o .object .to) w) (o .object) (h .object-stands) small es (b .1) in
       let k = files-backed w (cut w tags) es [] fs (h .files-stand) (y .0) in
       let t = one-read w fs (h .files-stand) small r (y .1) in
-      let p : Contents = record { tags = cut w tags; digits = l .0; followed = s .0; entries = signedIn w es; lent = lentIn w fs; text = t .0 } in
-      let whole : w ≡ tlv 96 (commonInside (l .0) (cut w tags)) ++ (tlv 48 (objectInside (s .0) (signedIn w es)) ++ allLent (lentIn w fs)) =
+      let p : Contents = record {
+        tags = cut w tags;
+        digits = l .0;
+        followed = s .0;
+        entries = signedIn w es;
+        lent =
+            lentIn w fs;
+        text = t .0;
+      } in
+      let whole : w ≡ tlv 0x60 (commonInside (l .0) (cut w tags))
+      ++ (tlv 0x30 (objectInside (s .0) (signedIn w es)) ++ allLent (lentIn w fs)) =
       there
-      ∙ ap (λ (q : List ℕ). tlv 96 q ++ (tlv 48 d ++ allLent (lentIn w fs))) (l .1)
-      ∙ ap (λ (q : List ℕ). tlv 96 (commonInside (l .0) (cut w tags)) ++ (tlv 48 q ++ allLent (lentIn w fs))) (s .1) in (
+      ∙ ap (λ (q : List ℕ). tlv 0x60 q ++ (tlv 0x30 d ++ allLent (lentIn w fs))) (l .1)
+      ∙ ap (λ (q : List ℕ). tlv 0x60 (commonInside (l .0) (cut w tags)) ++ (tlv 0x30 q ++ allLent (lentIn w fs))) (s .1) in (
         p,
         whole,
         record {
@@ -127,24 +140,33 @@ read-stages p k =
     let fs = a .1 in
     let h = a .4 in
     let lent : lentIn w fs ≡ p .lent = a .3 in
-    let l = read-common w 0 96 c (drop (o .efcom .to) w) (o .efcom) (h .common-stands) most (p .digits) (p .tags) refl
+    let l = read-common w 0 0x60 c (drop (o .efcom .to) w) (o .efcom) (h .common-stands) most (p .digits) (p .tags) refl
     (record { six-digits = k .digits-six; only-digits = k .digits-only })
     (record { known-tags = k .tags-known; once-tags = k .tags-once; most-tags = k .tags-most }) in
     let tags = l .0 in
-    let s = read-object w (o .efcom .to) 48 d (drop (o .object .to) w) (o .object) (h .object-stands) most (p .followed) (p .entries) refl
-    (record { each-kept = k .entry-kept; once-kept = k .numbers-once; least-kept = k .entries-least; most-kept = k .entries-most }) in
+    let s = read-object w (o .efcom .to) 0x30 d (drop (o .object .to) w) (o .object) (h .object-stands) most (p .followed)
+    (p .entries) refl
+    (record {
+      each-kept = k .entry-kept;
+      once-kept = k .numbers-once;
+      least-kept = k .entries-least;
+      most-kept =
+          k .entries-most;
+    }) in
     let es = s .0 in
     let once = subst (λ (q : List Signed). isOnce (numbers q) ≡ true) (sym (s .2)) (k .numbers-once) in
     let tags-once = subst (λ (q : List Lent). isOnce (tagsOf q) ≡ true) (sym lent) (k .lent-once) in
     let backed = subst (λ (q : List Lent). EachBacked (cut w tags) (signedIn w es) q) (sym lent)
     (subst (λ (q : List Signed). EachBacked (cut w tags) q (p .lent)) (sym (s .2))
     (subst (λ (q : List ℕ). EachBacked q (p .entries) (p .lent)) (sym (l .2)) (each-backed p k))) in
-    let check = backed-files w (cut w tags) es (length w) (s .3) once [] fs (h .files-stand) (none-once (tagsOf (lentIn w fs)) tags-once) backed in
-    let one = subst (λ (q : List Lent). isIn (record { tag = 97; content = tlv 24351 (p .text) }) q) (sym lent) (k .group-one) in
+    let check = backed-files w (cut w tags) es (length w) (s .3) once [] fs (h .files-stand)
+    (none-once (tagsOf (lentIn w fs)) tags-once) backed in
+    let one = subst (λ (q : List Lent). isIn (record { tag = 0x61; content = tlv 0x5F1F (p .text) }) q) (sym lent)
+    (k .group-one) in
     let text = read-one w fs (h .files-stand) most (p .text) tags-once one (accepted-exactly (p .text) .1 (k .text-kept)) in
     value-then (walked w) (λ (q : Outer). decided w q) o (value r) (a .2)
-    (value-then (common w (o .efcom)) (from-common w o) tags (value r) (l .1)
-    (value-then (object w (o .object)) (from-object w o tags) es (value r) (s .1)
+    (value-then (readEfCom w (o .efcom)) (from-common w o) tags (value r) (l .1)
+    (value-then (readObject w (o .object)) (from-object w o tags) es (value r) (s .1)
     (value-then (files w (o .object .to)) (from-files w o tags es) fs (value r) (h .files-walked)
     (value-checked (filesCheck w (cut w tags) [] es fs) (groupOne w fs) (value r) check text))))
 
@@ -181,8 +203,10 @@ presented-contents w small e =
     (b .0, b .1, b .2, a .2 ∙ sym (b .3))
 
 -- bytes are accepted exactly when they are those of contents that belong together
-pub presented-exactly : (w : List ℕ) → areOctets w → (readPresentation w .outcome ≡ passed) ↔ ((p : Contents) × (w ≡ octetsOf p) × Presented p)
+pub presented-exactly : (w : List ℕ) → areOctets w
+    → (readPresentation w .outcome ≡ passed) ↔ ((p : Contents) × (w ≡ octetsOf p) × Presented p)
 presented-exactly w small = (
   λ e. let a = presented-contents w small e in (a .0, a .1, a .2),
-  λ h. ap (λ (v : List ℕ). readPresentation v .outcome) (h .1) ∙ ap (λ (x : Answer). x .outcome) (presented-text (h .0) (h .2)) ∙ accepted-exactly (h .0 .text) .1 (h .2 .text-kept),
+  λ h. ap (λ (v : List ℕ). readPresentation v .outcome) (h .1) ∙ ap (λ (x : Answer). x .outcome) (presented-text (h .0) (h .2))
+      ∙ accepted-exactly (h .0 .text) .1 (h .2 .text-kept),
 )

@@ -1,8 +1,9 @@
--- The bytes of a presentation tell its contents: no two contents that belong together give the same bytes. So "its text" is one text.
+-- The bytes of a presentation tell its contents: no two contents that belong together give the same bytes. So "its text" is one
+-- text.
 use Prim.Native.Nat.{ℕ, _+_, _≤_}
 use mathlib.Core.Path.{_≡_, refl, ap, sym, _∙_, subst}
 use mathlib.Core.Logic.{inl, inr}
-use mathlib.Core.Bool.{Bool, true, false, not}
+use mathlib.Core.Bool.{Bool, true, false, not, false≢true}
 use mathlib.Core.List.{List, [], _∷_, _++_, append-nil}
 use native.Mathlib.Omega.{arith}
 use borrow.Author.Tests.{not-true}
@@ -13,8 +14,9 @@ use Rattle.tlv.proofs.Encoded.{length-tlv, some-head, prefix-free, tag-first}
 use Rattle.lent.specs.Octets.{stands}
 use Rattle.tlv.specs.Tags.{isGroup}
 use Rattle.object.specs.Object.{sha256Name}
-use Rattle.presentation_theorems.specs.Presented.{Signed, Lent, Contents, commonInside, commonOf, signedOf, allSigned, algorithmOf, objectInside, objectOf, fileOf, allLent, octetsOf, isIn, isOnce, tagsOf, Presented}
-use Rattle.text_theorems.proofs.NumberSpan.{false-not-true}
+use Rattle.presentation_theorems.specs.Presented.{Signed, Lent, Contents, commonInside, commonOf, signedOf, allSigned}
+use Rattle.presentation_theorems.specs.Presented.{algorithmOf, objectInside, objectOf, fileOf, allLent, octetsOf, isIn}
+use Rattle.presentation_theorems.specs.Presented.{isOnce, tagsOf, Presented}
 use Rattle.presentation_theorems.proofs.GroupFiles.{group-below}
 use Rattle.presentation_theorems.proofs.GroupOne.{in-tags}
 
@@ -51,9 +53,10 @@ nothing-same tag c r e =
 common-tells : (a b c d : List ℕ) → length (commonInside a b) ≤ 65535 → commonInside a b ≡ commonInside c d → (a ≡ c) × (b ≡ d)
 unfolding commonInside
 common-tells a b c d most e =
-    let x = split 24321 (48 ∷ 49 ∷ 48 ∷ 55 ∷ []) (48 ∷ 49 ∷ 48 ∷ 55 ∷ []) (tlv 24374 a ++ tlv 92 b) (tlv 24374 c ++ tlv 92 d) most e in
-    let y = split 24374 a c (tlv 92 b) (tlv 92 d) (x .rest-fits) (x .same-rest) in
-    (y .same-content, split-last 92 b d (y .rest-fits) (y .same-rest))
+    let x = split 0x5F01 (0x30 ∷ 0x31 ∷ 0x30 ∷ 0x37 ∷ []) (0x30 ∷ 0x31 ∷ 0x30 ∷ 0x37 ∷ []) (tlv 0x5F36 a ++ tlv 0x5C b)
+    (tlv 0x5F36 c ++ tlv 0x5C d) most e in
+    let y = split 0x5F36 a c (tlv 0x5C b) (tlv 0x5C d) (x .rest-fits) (x .same-rest) in
+    (y .same-content, split-last 0x5C b d (y .rest-fits) (y .same-rest))
 
 -- ---- the object
 
@@ -70,29 +73,36 @@ same-head c d a b e = cc
 signed-tells : (xs ys : List Signed) → length (allSigned xs) ≤ 65535 → allSigned xs ≡ allSigned ys → xs ≡ ys
 unfolding allSigned signedOf
 signed-tells [] [] most e = refl
-signed-tells [] (y ∷ ys) most e = absurd (nothing-same 48 (tlv 2 (y .number ∷ []) ++ tlv 4 (y .digest)) (allSigned ys) e)
-signed-tells (x ∷ xs) [] most e = absurd (nothing-same 48 (tlv 2 (x .number ∷ []) ++ tlv 4 (x .digest)) (allSigned xs) (sym e))
+signed-tells [] (y ∷ ys) most e = absurd (nothing-same 0x30 (tlv 0x02 (y .number ∷ []) ++ tlv 0x04 (y .digest)) (allSigned ys) e)
+signed-tells (x ∷ xs) [] most e = absurd
+    (nothing-same 0x30 (tlv 0x02 (x .number ∷ []) ++ tlv 0x04 (x .digest)) (allSigned xs) (sym e))
 signed-tells (x ∷ xs) (y ∷ ys) most e =
-    let a = split 48 (tlv 2 (x .number ∷ []) ++ tlv 4 (x .digest)) (tlv 2 (y .number ∷ []) ++ tlv 4 (y .digest)) (allSigned xs) (allSigned ys) most e in
-    let b = split 2 (x .number ∷ []) (y .number ∷ []) (tlv 4 (x .digest)) (tlv 4 (y .digest)) (a .content-fits) (a .same-content) in
+    let a = split 0x30 (tlv 0x02 (x .number ∷ []) ++ tlv 0x04 (x .digest)) (tlv 0x02 (y .number ∷ []) ++ tlv 0x04 (y .digest))
+    (allSigned xs) (allSigned ys) most e in
+    let b = split 2 (x .number ∷ []) (y .number ∷ []) (tlv 0x04 (x .digest)) (tlv 0x04 (y .digest)) (a .content-fits)
+    (a .same-content) in
     let number : x .number ≡ y .number = same-head (x .number) (y .number) [] [] (b .same-content) in
     let digest : x .digest ≡ y .digest = split-last 4 (x .digest) (y .digest) (b .rest-fits) (b .same-rest) in
     let rest : xs ≡ ys = signed-tells xs ys (a .rest-fits) (a .same-rest) in
     λ i. record { number = number i; digest = digest i } ∷ rest i
 
-object-tells : (a b : Bool) (xs ys : List Signed) → length (objectInside a xs) ≤ 65535 → objectInside a xs ≡ objectInside b ys → (a ≡ b) × (xs ≡ ys)
+object-tells : (a b : Bool) (xs ys : List Signed) → length (objectInside a xs) ≤ 65535 → objectInside a xs ≡ objectInside b ys
+    → (a ≡ b) × (xs ≡ ys)
 unfolding objectInside
 object-tells a b xs ys most e =
-    let x = split 2 (0 ∷ []) (0 ∷ []) (tlv 48 (algorithmOf a) ++ tlv 48 (allSigned xs)) (tlv 48 (algorithmOf b) ++ tlv 48 (allSigned ys)) most e in
-    let y = split 48 (algorithmOf a) (algorithmOf b) (tlv 48 (allSigned xs)) (tlv 48 (allSigned ys)) (x .rest-fits) (x .same-rest) in
-    let all = split-last 48 (allSigned xs) (allSigned ys) (y .rest-fits) (y .same-rest) in
-    let long = length-tlv 48 (allSigned xs) in
+    let x = split 2 (0 ∷ []) (0 ∷ []) (tlv 0x30 (algorithmOf a) ++ tlv 0x30 (allSigned xs))
+    (tlv 0x30 (algorithmOf b) ++ tlv 0x30 (allSigned ys)) most e in
+    let y = split 0x30 (algorithmOf a) (algorithmOf b) (tlv 0x30 (allSigned xs)) (tlv 0x30 (allSigned ys)) (x .rest-fits)
+    (x .same-rest) in
+    let all = split-last 0x30 (allSigned xs) (allSigned ys) (y .rest-fits) (y .same-rest) in
+    let long = length-tlv 0x30 (allSigned xs) in
     let fits = y .rest-fits in
     (algorithm-tells a b (y .same-content), signed-tells xs ys (omega arith) all)
 
 -- ---- the files
 
-lent-tells : (xs ys : List Lent) → ((f : Lent) → isIn f xs → isGroup (f .tag) ≡ true) → ((f : Lent) → isIn f ys → isGroup (f .tag) ≡ true)
+lent-tells : (xs ys : List Lent) → ((f : Lent) → isIn f xs → isGroup (f .tag) ≡ true)
+    → ((f : Lent) → isIn f ys → isGroup (f .tag) ≡ true)
     → length (allLent xs) ≤ 65535 → allLent xs ≡ allLent ys → xs ≡ ys
 unfolding allLent fileOf isIn
 lent-tells [] [] g h most e = refl
@@ -100,25 +110,30 @@ lent-tells [] (y ∷ ys) g h most e = absurd (nothing-same (y .tag) (y .content)
 lent-tells (x ∷ xs) [] g h most e = absurd (nothing-same (x .tag) (x .content) (allLent xs) (sym e))
 lent-tells (x ∷ xs) (y ∷ ys) g h most e =
     let s = tlv (x .tag) (x .content) ++ allLent xs in
-    let one : getD s 0 0 ≡ x .tag = tag-first s 0 (x .tag) (x .content) (allLent xs) (group-below (x .tag) (g x (inl refl))) refl in
+    let one : getD s 0 0 ≡ x .tag = tag-first s 0 (x .tag) (x .content) (allLent xs)
+    (group-below (x .tag) (g x (inl refl))) refl in
     let two : getD s 0 0 ≡ y .tag = tag-first s 0 (y .tag) (y .content) (allLent ys) (group-below (y .tag) (h y (inl refl))) e in
     let tag : x .tag ≡ y .tag = sym one ∙ two in
-    let a = split (x .tag) (x .content) (y .content) (allLent xs) (allLent ys) most (e ∙ ap (λ (t : ℕ). tlv t (y .content) ++ allLent ys) (sym tag)) in
+    let a = split (x .tag) (x .content) (y .content) (allLent xs) (allLent ys) most
+    (e ∙ ap (λ (t : ℕ). tlv t (y .content) ++ allLent ys) (sym tag)) in
     let content : x .content ≡ y .content = a .same-content in
     let rest : xs ≡ ys = lent-tells xs ys (λ f m. g f (inr m)) (λ f m. h f (inr m)) (a .rest-fits) (a .same-rest) in
     λ i. record { tag = tag i; content = content i } ∷ rest i
 
 -- where no tag is lent twice, a tag tells its content
-content-tells : (n : ℕ) (a b : List ℕ) (ls : List Lent) → isOnce (tagsOf ls) ≡ true → isIn (record { tag = n; content = a }) ls → isIn (record { tag = n; content = b }) ls → a ≡ b
+content-tells : (n : ℕ) (a b : List ℕ) (ls : List Lent) → isOnce (tagsOf ls) ≡ true → isIn (record { tag = n; content = a }) ls
+    → isIn (record { tag = n; content = b }) ls → a ≡ b
 unfolding isIn isOnce tagsOf
 content-tells n a b [] once k l = absurd k
 content-tells n a b (x ∷ ls) once (inl k) (inl l) = ap (λ (f : Lent). f .content) (k ∙ sym l)
 content-tells n a b (x ∷ ls) once (inl k) (inr m) =
     let c = and-both (not (stands (x .tag) (tagsOf ls))) (isOnce (tagsOf ls)) once in
-    absurd (false-not-true (sym (not-true (stands (x .tag) (tagsOf ls)) (c .0)) ∙ ap (λ (f : Lent). stands (f .tag) (tagsOf ls)) (sym k) ∙ in-tags (record { tag = n; content = b }) ls m))
+    absurd (false≢true (sym (not-true (stands (x .tag) (tagsOf ls)) (c .0)) ∙ ap (λ (f : Lent). stands (f .tag) (tagsOf ls))
+    (sym k) ∙ in-tags (record { tag = n; content = b }) ls m))
 content-tells n a b (x ∷ ls) once (inr m) (inl l) =
     let c = and-both (not (stands (x .tag) (tagsOf ls))) (isOnce (tagsOf ls)) once in
-    absurd (false-not-true (sym (not-true (stands (x .tag) (tagsOf ls)) (c .0)) ∙ ap (λ (f : Lent). stands (f .tag) (tagsOf ls)) (sym l) ∙ in-tags (record { tag = n; content = a }) ls m))
+    absurd (false≢true (sym (not-true (stands (x .tag) (tagsOf ls)) (c .0)) ∙ ap (λ (f : Lent). stands (f .tag) (tagsOf ls))
+    (sym l) ∙ in-tags (record { tag = n; content = a }) ls m))
 content-tells n a b (x ∷ ls) once (inr m) (inr o) =
     content-tells n a b ls (and-both (not (stands (x .tag) (tagsOf ls))) (isOnce (tagsOf ls)) once .1) m o
 
@@ -130,7 +145,8 @@ lent-fits f (x ∷ ls) most (inl k) =
     let n = length-append (tlv (x .tag) (x .content)) (allLent ls) in
     let m = length-tlv (x .tag) (x .content) in
     subst (λ (y : Lent). length (y .content) ≤ 65535) (sym k) (omega arith)
-lent-fits f (x ∷ ls) most (inr k) = lent-fits f ls (let n = length-append (tlv (x .tag) (x .content)) (allLent ls) in omega arith) k
+lent-fits f (x ∷ ls) most (inr k) = lent-fits f ls
+    (let n = length-append (tlv (x .tag) (x .content)) (allLent ls) in omega arith) k
 
 -- ---- all of it
 
@@ -139,12 +155,18 @@ unfolding octetsOf commonOf objectOf
 octets-tell p q k l e =
     let c = commonInside (p .digits) (p .tags) in
     let d = objectInside (p .followed) (p .entries) in
-    let a = split 96 c (commonInside (q .digits) (q .tags)) (tlv 48 d ++ allLent (p .lent)) (tlv 48 (objectInside (q .followed) (q .entries)) ++ allLent (q .lent)) (k .size) e in
-    let b = split 48 d (objectInside (q .followed) (q .entries)) (allLent (p .lent)) (allLent (q .lent)) (a .rest-fits) (a .same-rest) in
+    let a = split 0x60 c (commonInside (q .digits) (q .tags)) (tlv 0x30 d ++ allLent (p .lent))
+    (tlv 0x30 (objectInside (q .followed) (q .entries)) ++ allLent (q .lent)) (k .size) e in
+    let b = split 0x30 d (objectInside (q .followed) (q .entries)) (allLent (p .lent)) (allLent (q .lent)) (a .rest-fits)
+    (a .same-rest) in
     let x = common-tells (p .digits) (p .tags) (q .digits) (q .tags) (a .content-fits) (a .same-content) in
     let y = object-tells (p .followed) (q .followed) (p .entries) (q .entries) (b .content-fits) (b .same-content) in
-    let z = lent-tells (p .lent) (q .lent) (λ f m. k .file-kept f m .of-group) (λ f m. l .file-kept f m .of-group) (b .rest-fits) (b .same-rest) in
-    let one = subst (isIn (record { tag = 97; content = tlv 24351 (p .text) })) z (k .group-one) in
-    let held : tlv 24351 (p .text) ≡ tlv 24351 (q .text) = content-tells 97 (tlv 24351 (p .text)) (tlv 24351 (q .text)) (q .lent) (l .lent-once) one (l .group-one) in
-    let t : p .text ≡ q .text = split-last 24351 (p .text) (q .text) (lent-fits (record { tag = 97; content = tlv 24351 (p .text) }) (p .lent) (b .rest-fits) (k .group-one)) held in
+    let z = lent-tells (p .lent) (q .lent) (λ f m. k .file-kept f m .of-group) (λ f m. l .file-kept f m .of-group) (b .rest-fits)
+    (b .same-rest) in
+    let one = subst (isIn (record { tag = 0x61; content = tlv 0x5F1F (p .text) })) z (k .group-one) in
+    let held : tlv 0x5F1F (p .text)
+    ≡ tlv 0x5F1F (q .text) = content-tells 0x61 (tlv 0x5F1F (p .text)) (tlv 0x5F1F (q .text)) (q .lent) (l .lent-once) one
+    (l .group-one) in
+    let t : p .text ≡ q .text = split-last 0x5F1F (p .text) (q .text)
+    (lent-fits (record { tag = 0x61; content = tlv 0x5F1F (p .text) }) (p .lent) (b .rest-fits) (k .group-one)) held in
     λ i. record { tags = x .1 i; digits = x .0 i; followed = y .0 i; entries = y .1 i; lent = z i; text = t i }

@@ -1,4 +1,5 @@
--- What a reading step by step says when it gives a value, and the laws of elements in the words of the stages: a stretch is cut from its holder.
+-- What a reading step by step says when it gives a value, and the laws of elements in the words of the stages: a stretch is cut
+-- from its holder.
 use Prim.Native.Nat.{ℕ, zero, suc, _+_, _-_, _≤_, _<_}
 use mathlib.Core.Path.{_≡_, refl, ap, sym, _∙_}
 use mathlib.Core.Bool.{true}
@@ -18,9 +19,9 @@ use Rattle.tlv.specs.Element.{tlv, element}
 use Rattle.tlv.proofs.Encoded.{Stands, reads, back, length-tlv, some-head}
 use Rattle.tlv.specs.Cut.{cut, hasOctets, endCheck}
 use Rattle.lent.specs.Octets.{alike}
-use Rattle.text_theorems.specs.Octets.{isOctet, areOctets}
+use Rattle.zone.specs.Octets.{isOctet, areOctets}
 use Rattle.refusal.proofs.Outcomes.{unless-kept, kept-unless}
-use Rattle.text_theorems.proofs.TrailingFillers.{every-take}
+use Rattle.zone.proofs.Every.{every-take}
 
 -- ---- elements
 
@@ -41,14 +42,17 @@ module _ (s : List ℕ) (at tag : ℕ) where
   unfolding cut
   read-element small v e = reads s at tag (octet-below s small) v e
 
-  pub element-read : length s ≤ 65535 → (c rest : List ℕ) → drop at s ≡ tlv tag c ++ rest → (v : Stretch) × (element s at tag ≡ value v) × Stands s at tag c rest v
+  pub element-read : length s ≤ 65535 → (c rest : List ℕ) → drop at s ≡ tlv tag c ++ rest
+      → (v : Stretch) × (element s at tag ≡ value v) × Stands s at tag c rest v
   element-read most c rest e =
-      let whole : length s - at ≡ length (tlv tag c) + length rest = sym (length-drop at s) ∙ ap length e ∙ length-append (tlv tag c) rest in
+      let whole : length s - at ≡ length (tlv tag c) + length rest = sym (length-drop at s) ∙ ap length e
+      ∙ length-append (tlv tag c) rest in
       let long = length-tlv tag c in
       back s at tag c rest (omega arith) e
 
   -- the same, where nothing follows
-  pub last-read : length s ≤ 65535 → (c : List ℕ) → drop at s ≡ tlv tag c → (v : Stretch) × (element s at tag ≡ value v) × Stands s at tag c [] v
+  pub last-read : length s ≤ 65535 → (c : List ℕ) → drop at s ≡ tlv tag c
+      → (v : Stretch) × (element s at tag ≡ value v) × Stands s at tag c [] v
   last-read most c e = element-read most c [] (e ∙ sym (append-nil (tlv tag c)))
 
 module _ (s : List ℕ) (at tag : ℕ) (c rest : List ℕ) (v : Stretch) (h : Stands s at tag c rest v) where
@@ -66,7 +70,8 @@ module _ (s : List ℕ) (at tag : ℕ) (c rest : List ℕ) (v : Stretch) (h : St
   octets-had n e = let k = h .to-place in eq-eqb (v .from + n) (v .to) (omega arith)
 
   pub place-behind : (at < v .from) × (v .from ≤ v .to) × (v .to ≤ length s)
-  place-behind = let a = h .from-place in let b = h .to-place in let d = h .ends-within in (omega (arith, some-head tag (length c)), omega arith, d)
+  place-behind = let a = h .from-place in let b = h .to-place in let d = h .ends-within in
+      (omega (arith, some-head tag (length c)), omega arith, d)
 
   -- a whole element, from its tag to its end
   pub whole-there : take (v .to - at) (drop at s) ≡ tlv tag c
@@ -84,14 +89,16 @@ module _ (s : List ℕ) (at tag : ℕ) (c rest : List ℕ) (v : Stretch) (h : St
   from-there =
       let a = h .to-place in
       let sum : v .from + (v .to - v .from) ≡ v .to = omega arith in
-      sym (take-append-drop (v .to - v .from) (drop (v .from) s)) ∙ rw (drop-drop (v .to - v .from) (v .from) s, sum, h .content-there, h .rest-there)
+      sym (take-append-drop (v .to - v .from) (drop (v .from) s))
+      ∙ rw (drop-drop (v .to - v .from) (v .from) s, sum, h .content-there, h .rest-there)
 
   -- a value of one octet
   pub one-octet : length c ≡ 1 → c ≡ getD s (v .from) 0 ∷ []
   one-octet one = go c one from-there
     where
       first : (x : ℕ) (q : List ℕ) → drop (v .from) s ≡ x ∷ q → getD s (v .from) 0 ≡ x
-      first x q e = ap (λ (n : ℕ). getD s n 0) (sym (add-zero (v .from))) ∙ sym (getD-drop (v .from) s 0 0) ∙ ap (λ (l : List ℕ). getD l 0 0) e
+      first x q e = ap (λ (n : ℕ). getD s n 0) (sym (add-zero (v .from))) ∙ sym (getD-drop (v .from) s 0 0)
+          ∙ ap (λ (l : List ℕ). getD l 0 0) e
 
       go : (l : List ℕ) → length l ≡ 1 → drop (v .from) s ≡ l ++ rest → l ≡ getD s (v .from) 0 ∷ []
       go [] e f = absurd (omega arith)
@@ -141,10 +148,12 @@ same-alike a b e = rw e (itself b)
 
 -- ---- a stretch of a prefix is a stretch of the whole
 
-pub cut-before : (w : List ℕ) (e from to : ℕ) → to ≤ e → from ≤ to → take (to - from) (drop from (take e w)) ≡ take (to - from) (drop from w)
+pub cut-before : (w : List ℕ) (e from to : ℕ) → to ≤ e → from ≤ to
+    → take (to - from) (drop from (take e w)) ≡ take (to - from) (drop from w)
 cut-before w e from to h k = go w e from to h k
   where
-    go : (w : List ℕ) (e from to : ℕ) → to ≤ e → from ≤ to → take (to - from) (drop from (take e w)) ≡ take (to - from) (drop from w)
+    go : (w : List ℕ) (e from to : ℕ) → to ≤ e → from ≤ to
+        → take (to - from) (drop from (take e w)) ≡ take (to - from) (drop from w)
     go w e zero to a b = take-take (to - 0) e w (omega arith)
     go [] e (suc f) to a b = ap (λ (l : List ℕ). take (to - suc f) (drop (suc f) l)) (take-all e [] (omega arith))
     go (c ∷ w) zero (suc f) to a b = absurd (omega arith)

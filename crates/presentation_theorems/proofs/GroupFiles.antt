@@ -11,13 +11,13 @@ use lib.ListN.{length, drop, getD, length-append, length-drop, drop-of-length-le
 use Rattle.tlv.specs.declared.Stretch.{Stretch}
 use Rattle.tlv.specs.Read.{Read, value, andThen}
 use Rattle.tlv.specs.Element.{tlv, element}
-use Rattle.tlv.proofs.Told.{same-value, kept-value, first-value, value-then}
+use Rattle.tlv.proofs.Joined.{never-value, same-value, kept-value, first-value, value-then}
 use Rattle.tlv.proofs.Encoded.{Stands, length-tlv, some-head, tag-first}
 use Rattle.tlv.specs.Cut.{cut}
 use Rattle.tlv.specs.Tags.{groupOf, isGroup}
 use Rattle.chip.specs.Outer.{File, fileAt, filesFrom}
 use Rattle.chip.specs.Files.{fileOctets}
-use Rattle.text_theorems.specs.Octets.{areOctets}
+use Rattle.zone.specs.Octets.{areOctets}
 use Rattle.presentation_theorems.specs.Presented.{Lent, fileOf, allLent, isIn}
 use Rattle.presentation_theorems.proofs.Elements.{read-element, element-read, cut-there, place-behind, whole-there}
 
@@ -27,13 +27,13 @@ group-none : (tag : ℕ) → 256 ≤ tag → groupOf tag ≡ 0
 unfolding groupOf
 group-none tag h =
     rw (
-      ne-eqb tag 97 (λ e. omega arith),
-      ne-eqb tag 117 (λ e. omega arith),
-      ne-eqb tag 99 (λ e. omega arith),
-      ne-eqb tag 118 (λ e. omega arith),
-      ne-eqb tag 101 (λ e. omega arith),
-      le-leb 103 tag (omega arith),
-      lt-leb tag 112 (omega arith),
+      ne-eqb tag 0x61 (λ e. omega arith),
+      ne-eqb tag 0x75 (λ e. omega arith),
+      ne-eqb tag 0x63 (λ e. omega arith),
+      ne-eqb tag 0x76 (λ e. omega arith),
+      ne-eqb tag 0x65 (λ e. omega arith),
+      le-leb 0x67 tag (omega arith),
+      lt-leb tag 0x70 (omega arith),
     )
 
 pub group-below : (tag : ℕ) → isGroup tag ≡ true → tag < 256
@@ -86,13 +86,15 @@ one-group l ls h rest k (inl e) = subst (λ (x : Lent). isGroup (x .tag) ≡ tru
 one-group l ls h rest k (inr m) = rest k m
 
 module _ (w : List ℕ) (at : ℕ) where
-  file-read : areOctets w → (held : Stretch) → fileAt w at ≡ value held → (isGroup (getD w at 0) ≡ true) × FileStands w (record { start = at; held = held })
+  file-read : areOctets w → (held : Stretch) → fileAt w at ≡ value held
+      → (isGroup (getD w at 0) ≡ true) × FileStands w (record { start = at; held = held })
   unfolding fileAt FileStands
   file-read small held e =
       let a = kept-value (isGroup (getD w at 0)) (element w at (getD w at 0)) 10 at held e in
       (a .0, read-element w at (getD w at 0) small held (a .1))
 
-  more-files : (held : Stretch) (fs : List File) → isGroup (getD w at 0) ≡ true → FileStands w (record { start = at; held = held }) → FilesRead w (held .to) fs
+  more-files : (held : Stretch) (fs : List File) → isGroup (getD w at 0) ≡ true
+      → FileStands w (record { start = at; held = held }) → FilesRead w (held .to) fs
       → FilesRead w at (record { start = at; held = held } ∷ fs)
   unfolding allLent lentIn lentAt fileOf FileStands
   more-files held fs g h rest =
@@ -110,17 +112,18 @@ module _ (w : List ℕ) (at : ℕ) where
       (omega (arith, p .0, p .1), p .2)
 
 -- from a place on: what is walked is what stands there
-pub files-read : (more : ℕ) (w : List ℕ) (at : ℕ) (fs : List File) → areOctets w → at ≤ length w → length w ≤ at + more → filesFrom more w at ≡ value fs → FilesRead w at fs
+pub files-read : (more : ℕ) (w : List ℕ) (at : ℕ) (fs : List File) → areOctets w → at ≤ length w → filesFrom more w at ≡ value fs
+    → FilesRead w at fs
 unfolding filesFrom
-files-read zero w at fs small h k e = subst (FilesRead w at) (same-value e) (no-files w at (omega arith))
-files-read (suc more) w at fs small h k e =
-    go (leb (length w) at) refl e (λ (n : ℕ) (gs : List File) i j f. files-read more w n gs small i j f)
+files-read zero w at fs small h e = absurd (never-value 10 at fs e)
+files-read (suc more) w at fs small h e =
+    go (leb (length w) at) refl e (λ (n : ℕ) (gs : List File) i f. files-read more w n gs small i f)
   where
     onwards : Stretch → Read (List File)
     onwards held = andThen (filesFrom more w (held .to)) (λ (rest : List File). value (record { start = at; held = held } ∷ rest))
 
     go : (b : Bool) → leb (length w) at ≡ b → cond b (value []) (andThen (fileAt w at) onwards) ≡ value fs
-        → ((n : ℕ) (gs : List File) → n ≤ length w → length w ≤ n + more → filesFrom more w n ≡ value gs → FilesRead w n gs)
+        → ((n : ℕ) (gs : List File) → n ≤ length w → filesFrom more w n ≡ value gs → FilesRead w n gs)
         → FilesRead w at fs
     go true p f rest = subst (FilesRead w at) (same-value f) (no-files w at (leb-true (length w) at p))
     go false p f rest =
@@ -128,8 +131,9 @@ files-read (suc more) w at fs small h k e =
         let held = a .0 in
         let r = file-read w at small held (a .1) in
         let places = behind-file w at held (r .1) in
-        let b = first-value (filesFrom more w (held .to)) (λ (q : List File). value (record { start = at; held = held } ∷ q)) fs (a .2) in
-        let last = rest (held .to) (b .0) (places .1) (omega (arith, places .0)) (b .1) in
+        let b = first-value (filesFrom more w (held .to)) (λ (q : List File). value (record { start = at; held = held } ∷ q)) fs
+        (a .2) in
+        let last = rest (held .to) (b .0) (places .1) (b .1) in
         subst (FilesRead w at) (same-value (b .2)) (more-files w at held (b .0) (r .0) (r .1) last)
 
 -- no file is empty
@@ -138,8 +142,10 @@ unfolding fileOf
 some-file l = omega (arith, length-tlv (l .tag) (l .content), some-head (l .tag) (length (l .content)))
 
 -- one file that stands at a place
-pub read-file : (w : List ℕ) (at : ℕ) (l : Lent) (rest : List ℕ) → length w ≤ 65535 → isGroup (l .tag) ≡ true → drop at w ≡ fileOf l ++ rest
-    → (held : Stretch) × (fileAt w at ≡ value held) × (lentAt w (record { start = at; held = held }) ≡ l) × FileStands w (record { start = at; held = held }) × (drop (held .to) w ≡ rest)
+pub read-file : (w : List ℕ) (at : ℕ) (l : Lent) (rest : List ℕ) → length w ≤ 65535 → isGroup (l .tag) ≡ true
+    → drop at w ≡ fileOf l ++ rest
+    → (held : Stretch) × (fileAt w at ≡ value held) × (lentAt w (record { start = at; held = held }) ≡ l)
+    × FileStands w (record { start = at; held = held }) × (drop (held .to) w ≡ rest)
 unfolding fileAt fileOf lentAt FileStands
 read-file w at l rest most g e =
     let t = l .tag in
@@ -150,7 +156,8 @@ read-file w at l rest most g e =
     let next : drop (held .to) w ≡ rest = a .2 .rest-there in
     let stands-so : Stands w at (getD w at 0) (cut w held) (drop (held .to) w) held =
     subst (λ (n : ℕ). Stands w at n (cut w held) (drop (held .to) w) held) (sym first)
-    (subst (λ (c : List ℕ). Stands w at t c (drop (held .to) w) held) (sym there) (subst (λ (r : List ℕ). Stands w at t (l .content) r held) (sym next) (a .2))) in (
+    (subst (λ (c : List ℕ). Stands w at t c (drop (held .to) w) held) (sym there)
+    (subst (λ (r : List ℕ). Stands w at t (l .content) r held) (sym next) (a .2))) in (
       held,
       rw (first, g) (a .1),
       λ i. record { tag = first i; content = there i },
@@ -158,19 +165,19 @@ read-file w at l rest most g e =
       next,
     )
 
-pub read-files : (more : ℕ) (w : List ℕ) (at : ℕ) (ls : List Lent) → length w ≤ 65535 → at ≤ length w → length w ≤ at + more → EachGroup ls → drop at w ≡ allLent ls
+pub read-files : (more : ℕ) (w : List ℕ) (at : ℕ) (ls : List Lent) → length w ≤ 65535 → at ≤ length w → length w < at + more
+    → EachGroup ls
+    → drop at w ≡ allLent ls
     → (fs : List File) × (filesFrom more w at ≡ value fs) × (lentIn w fs ≡ ls) × EachStands w fs
 unfolding filesFrom allLent lentIn EachGroup isIn
-read-files zero w at [] most h k g e = ([], refl, refl, no-files w at (omega arith) .files-stand)
+read-files zero w at ls most h k g e = absurd (omega arith)
 read-files (suc more) w at [] most h k g e =
     let none : length w - at ≡ 0 = sym (length-drop at w) ∙ ap length e in
     let end : length w ≤ at = omega arith in
     ([], rw (le-leb (length w) at end), refl, no-files w at end .files-stand)
-read-files zero w at (l ∷ ls) most h k g e =
-    let some : length w - at ≡ length (fileOf l) + length (allLent ls) = sym (length-drop at w) ∙ ap length e ∙ length-append (fileOf l) (allLent ls) in
-    absurd (omega (arith, some-file l))
 read-files (suc more) w at (l ∷ ls) most h k g e =
-    let some : length w - at ≡ length (fileOf l) + length (allLent ls) = sym (length-drop at w) ∙ ap length e ∙ length-append (fileOf l) (allLent ls) in
+    let some : length w - at ≡ length (fileOf l) + length (allLent ls) = sym (length-drop at w) ∙ ap length e
+    ∙ length-append (fileOf l) (allLent ls) in
     let a = read-file w at l (allLent ls) most (g l (inl refl)) e in
     let held = a .0 in
     let f : File = record { start = at; held = held } in
@@ -181,7 +188,8 @@ read-files (suc more) w at (l ∷ ls) most h k g e =
     let over : leb (length w) at ≡ false = lt-leb (length w) at (omega (arith, some-file l)) in (
       f ∷ b .0,
       rw over
-          (value-then (fileAt w at) (λ (u : Stretch). andThen (filesFrom more w (u .to)) (λ (q : List File). value (record { start = at; held = u } ∷ q))) held (value (f ∷ b .0)) (a .1)
+          (value-then (fileAt w at) (λ (u : Stretch). andThen (filesFrom more w (u .to))
+          (λ (q : List File). value (record { start = at; held = u } ∷ q))) held (value (f ∷ b .0)) (a .1)
           (value-then (filesFrom more w (held .to)) (λ (q : List File). value (f ∷ q)) (b .0) (value (f ∷ b .0)) (b .1) refl)),
       cc,
       one-stands w f (b .0) (a .3) (b .3),

@@ -1,22 +1,14 @@
 -- Nothing stands twice: a walk that keeps what stood before passes exactly the lists in which none repeats another.
 use Prim.Native.Nat.{ℕ}
 use mathlib.Core.Path.{_≡_, refl, ap, sym, _∙_}
-use mathlib.Core.Bool.{Bool, true, false, not, _&&_, _||_}
+use mathlib.Core.Bool.{Bool, true, false, not, _&&_, _||_, false≢true}
 use mathlib.Core.List.{List, [], _∷_}
 use mathlib.Core.Logic.{_⊎_, inl, inr}
 use borrow.Author.Tests.{eqb-true, eq-eqb, ne-eqb, not-true}
 use lib.Dec.{eqb}
-use Rattle.lent.proofs.Bools.{and-both, both-and, or-either}
+use Rattle.lent.proofs.Bools.{and-both, both-and, or-either, not-so, or-neither}
 use Rattle.lent.specs.Octets.{stands}
 use Rattle.presentation_theorems.specs.Presented.{isOnce}
-use Rattle.text_theorems.proofs.NumberSpan.{false-not-true}
-
-pub or-neither : (a b : Bool) → a || b ≡ false → (a ≡ false) × (b ≡ false)
-or-neither true b e = absurd (false-not-true (sym e))
-or-neither false b e = (refl, e)
-
-pub not-kept : (b : Bool) → b ≡ false → not b ≡ true
-not-kept b e = rw e
 
 -- none of a list stands among others
 unfoldable pub Apart : List ℕ → List ℕ → Type 0
@@ -41,20 +33,21 @@ stands-later d c t e = rw e (go (eqb d c))
 
 pub once-apart : (before l : List ℕ) → onceAfter before l ≡ true → (isOnce l ≡ true) × Apart before l
 unfolding onceAfter isOnce Apart stands
-once-apart before [] e = (refl, λ d h. absurd (false-not-true h))
+once-apart before [] e = (refl, λ d h. absurd (false≢true h))
 once-apart before (c ∷ t) e =
     let both = and-both (not (stands c before)) (onceAfter (c ∷ before) t) e in
     let rest = once-apart (c ∷ before) t (both .1) in
-    (both-and (not-kept (stands c t) (none (rest .1))) (rest .0), apart (not-true (stands c before) (both .0)) (rest .1))
+    (both-and (not-so (stands c t) (none (rest .1))) (rest .0), apart (not-true (stands c before) (both .0)) (rest .1))
   where
     none : ((d : ℕ) → stands d t ≡ true → stands d (c ∷ before) ≡ false) → stands c t ≡ false
     none h = go (stands c t) refl
       where
         go : (b : Bool) → stands c t ≡ b → b ≡ false
-        go true f = absurd (false-not-true (sym (h c f) ∙ stands-first c before))
+        go true f = absurd (false≢true (sym (h c f) ∙ stands-first c before))
         go false f = refl
 
-    apart : stands c before ≡ false → ((d : ℕ) → stands d t ≡ true → stands d (c ∷ before) ≡ false) → (d : ℕ) → stands d (c ∷ t) ≡ true → stands d before ≡ false
+    apart : stands c before ≡ false → ((d : ℕ) → stands d t ≡ true → stands d (c ∷ before) ≡ false) → (d : ℕ)
+        → stands d (c ∷ t) ≡ true → stands d before ≡ false
     apart f h d g = go (or-either (eqb d c) (stands d t) g)
       where
         go : (eqb d c ≡ true) ⊎ (stands d t ≡ true) → stands d before ≡ false
@@ -66,10 +59,12 @@ unfolding onceAfter isOnce Apart stands
 apart-once before [] e h = refl
 apart-once before (c ∷ t) e h =
     let both = and-both (not (stands c t)) (isOnce t) e in
-    both-and (not-kept (stands c before) (h c (stands-first c t))) (apart-once (c ∷ before) t (both .1) (later (not-true (stands c t) (both .0))))
+    both-and (not-so (stands c before) (h c (stands-first c t)))
+    (apart-once (c ∷ before) t (both .1) (later (not-true (stands c t) (both .0))))
   where
     later : stands c t ≡ false → (d : ℕ) → stands d t ≡ true → stands d (c ∷ before) ≡ false
-    later f d g = rw (ne-eqb d c (λ k. false-not-true (sym f ∙ ap (λ (x : ℕ). stands x t) (sym k) ∙ g))) (h d (stands-later d c t g))
+    later f d g = rw (ne-eqb d c (λ k. false≢true (sym f ∙ ap (λ (x : ℕ). stands x t) (sym k) ∙ g)))
+        (h d (stands-later d c t g))
 
 pub once-none : (l : List ℕ) → onceAfter [] l ≡ true → isOnce l ≡ true
 once-none l e = once-apart [] l e .0

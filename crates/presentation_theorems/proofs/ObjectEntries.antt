@@ -1,4 +1,5 @@
--- DEMAND 2, stage 4, the list of entries: read exactly where the joined encodings of kept entries stand, no number twice, two to sixteen of them.
+-- DEMAND 2, stage 4, the list of entries: read exactly where the joined encodings of kept entries stand, no number twice, two to
+-- sixteen of them.
 use Prim.Native.Nat.{ℕ, zero, suc, _+_, _-_, _≤_, _<_}
 use mathlib.Core.Path.{_≡_, refl, ap, sym, _∙_, subst}
 use mathlib.Core.Bool.{Bool, true, false, cond, not, _&&_}
@@ -9,22 +10,24 @@ use borrow.Author.Tests.{leb-true, le-leb, lt-leb, lt-ltb, not-true}
 use lib.Dec.{leb}
 use lib.ListN.{length, take, drop, length-append, length-drop, drop-of-length-le}
 use lib.Seq.{length-take-le}
-use Rattle.lent.proofs.Bools.{and-both, both-and}
+use Rattle.lent.proofs.Bools.{and-both, both-and, not-so}
 use Rattle.refusal.specs.Outcome.{Outcome, passed, refused, unless, orElse}
 use Rattle.tlv.specs.declared.Stretch.{Stretch}
 use Rattle.tlv.specs.Read.{Read, value, andThen, checked}
 use Rattle.tlv.specs.Element.{tlv, element}
-use Rattle.tlv.proofs.Told.{same-value, first-value, value-then, checked-value, value-checked}
+use Rattle.tlv.proofs.Joined.{never-value, same-value, first-value, value-then, checked-value, value-checked}
 use Rattle.tlv.proofs.Encoded.{inside, length-tlv, some-head}
 use Rattle.tlv.specs.Cut.{cut, endCheck}
 use Rattle.lent.specs.Octets.{stands}
-use Rattle.object.specs.Object.{Entry, entryAt, entriesFrom, numbersOnce, count, entriesCheck, entryList}
-use Rattle.text_theorems.specs.Octets.{areOctets}
+use Rattle.object.specs.Object.{GroupHash, entryAt, entriesFrom, entries, numbersOnce, count, entriesCheck, fromEntryList}
+use Rattle.zone.specs.Octets.{areOctets}
 use Rattle.presentation_theorems.specs.Presented.{Signed, signedOf, allSigned, isIn, isOnce, numbers, EntryKept}
 use Rattle.refusal.proofs.Outcomes.{refused-not-passed, both-passed, unless-kept}
-use Rattle.presentation_theorems.proofs.NoneTwice.{onceAfter, once-none, none-once, not-kept}
-use Rattle.presentation_theorems.proofs.Elements.{take-octets, take-most, read-element, last-read, place-behind, nothing-left, left-nothing}
-use Rattle.presentation_theorems.proofs.ObjectEntry.{signedAt, signedIn, heldIn, signed-before, held-more, EntryRead, entry-read, read-entry}
+use Rattle.presentation_theorems.proofs.NoneTwice.{onceAfter, once-none, none-once}
+use Rattle.presentation_theorems.proofs.Elements.{take-octets, take-most, read-element, last-read, place-behind}
+use Rattle.presentation_theorems.proofs.Elements.{nothing-left, left-nothing}
+use Rattle.presentation_theorems.proofs.ObjectEntry.{signedAt, signedIn, heldIn, signed-before, held-more, EntryRead}
+use Rattle.presentation_theorems.proofs.ObjectEntry.{entry-read, read-entry}
 
 -- ---- entries, one behind the other
 
@@ -36,7 +39,7 @@ unfolding EachKept isIn
 one-kept y ys k rest x (inl e) = subst EntryKept (sym e) k
 one-kept y ys k rest x (inr m) = rest x m
 
-record EntriesRead (s : List ℕ) (at : ℕ) (es : List Entry) : Type 0 where
+record EntriesRead (s : List ℕ) (at : ℕ) (es : List GroupHash) : Type 0 where
   entries-there : drop at s ≡ allSigned (signedIn s es)
   entries-kept : EachKept (signedIn s es)
   entries-held : heldIn (length s) es ≡ true
@@ -45,11 +48,13 @@ no-entries : (s : List ℕ) (at : ℕ) → length s ≤ at → EntriesRead s at 
 unfolding allSigned signedIn heldIn EachKept isIn
 no-entries s at h = record { entries-there = drop-of-length-le s h; entries-kept = λ x k. absurd k; entries-held = refl }
 
-held-one : (n : ℕ) (e : Entry) (es : List Entry) → 0 < e .digest → e .digest + 32 ≤ n → heldIn n es ≡ true → heldIn n (e ∷ es) ≡ true
+held-one : (n : ℕ) (e : GroupHash) (es : List GroupHash) → 0 < e .digest → e .digest + 32 ≤ n → heldIn n es ≡ true
+    → heldIn n (e ∷ es) ≡ true
 unfolding heldIn
 held-one n e es a b h = both-and (both-and (lt-ltb 0 (e .digest) a) (le-leb (e .digest + 32) n b)) h
 
-more-entries : (s : List ℕ) (at : ℕ) (e : Entry) (es : List Entry) → EntryRead s at e → EntriesRead s (e .end) es → EntriesRead s at (e ∷ es)
+more-entries : (s : List ℕ) (at : ℕ) (e : GroupHash) (es : List GroupHash) → EntryRead s at e → EntriesRead s (e .end) es
+    → EntriesRead s at (e ∷ es)
 unfolding allSigned signedIn
 more-entries s at e es r rest = record {
   entries-there = r .entry-there ∙ ap (λ (l : List ℕ). signedOf (signedAt s e) ++ l) (rest .entries-there);
@@ -57,47 +62,48 @@ more-entries s at e es r rest = record {
   entries-held = held-one (length s) e es (r .entry-digest) (r .entry-within) (rest .entries-held);
 }
 
-entries-read : (more : ℕ) (s : List ℕ) (at : ℕ) (es : List Entry) → areOctets s → at ≤ length s → length s ≤ at + more → entriesFrom more s at ≡ value es
+entries-read : (more : ℕ) (s : List ℕ) (at : ℕ) (es : List GroupHash) → areOctets s → at ≤ length s
+    → entriesFrom more s at ≡ value es
     → EntriesRead s at es
 unfolding entriesFrom
-entries-read zero s at es small h k e = subst (EntriesRead s at) (same-value e) (no-entries s at (omega arith))
-entries-read (suc more) s at es small h k e =
-    go (leb (length s) at) refl e (λ (n : ℕ) (fs : List Entry) i j f. entries-read more s n fs small i j f)
+entries-read zero s at es small h e = absurd (never-value 10 at es e)
+entries-read (suc more) s at es small h e =
+    go (leb (length s) at) refl e (λ (n : ℕ) (fs : List GroupHash) i f. entries-read more s n fs small i f)
   where
-    onwards : Entry → Read (List Entry)
-    onwards x = andThen (entriesFrom more s (x .end)) (λ (rest : List Entry). value (x ∷ rest))
+    onwards : GroupHash → Read (List GroupHash)
+    onwards x = andThen (entriesFrom more s (x .end)) (λ (rest : List GroupHash). value (x ∷ rest))
 
     go : (b : Bool) → leb (length s) at ≡ b → cond b (value []) (andThen (entryAt s at) onwards) ≡ value es
-        → ((n : ℕ) (fs : List Entry) → n ≤ length s → length s ≤ n + more → entriesFrom more s n ≡ value fs → EntriesRead s n fs)
+        → ((n : ℕ) (fs : List GroupHash) → n ≤ length s → entriesFrom more s n ≡ value fs → EntriesRead s n fs)
         → EntriesRead s at es
     go true p f rest = subst (EntriesRead s at) (same-value f) (no-entries s at (leb-true (length s) at p))
     go false p f rest =
         let a = first-value (entryAt s at) onwards es f in
         let x = a .0 in
         let r = entry-read s at small x (a .1) in
-        let b = first-value (entriesFrom more s (x .end)) (λ (q : List Entry). value (x ∷ q)) es (a .2) in
-        let last = rest (x .end) (b .0) (r .entry-ends) (omega (arith, r .entry-behind)) (b .1) in
+        let b = first-value (entriesFrom more s (x .end)) (λ (q : List GroupHash). value (x ∷ q)) es (a .2) in
+        let last = rest (x .end) (b .0) (r .entry-ends) (b .1) in
         subst (EntriesRead s at) (same-value (b .2)) (more-entries s at x (b .0) r last)
 
 -- no entry is empty
 some-signed : (x : Signed) → 1 ≤ length (signedOf x)
 unfolding signedOf
 some-signed x =
-    let c = tlv 2 (x .number ∷ []) ++ tlv 4 (x .digest) in
-    omega (arith, length-tlv 48 c, some-head 48 (length c))
+    let c = tlv 0x02 (x .number ∷ []) ++ tlv 0x04 (x .digest) in
+    omega (arith, length-tlv 0x30 c, some-head 0x30 (length c))
 
-read-entries : (more : ℕ) (s : List ℕ) (at : ℕ) (xs : List Signed) → length s ≤ 65535 → at ≤ length s → length s ≤ at + more → EachKept xs → drop at s ≡ allSigned xs
-    → (es : List Entry) × (entriesFrom more s at ≡ value es) × (signedIn s es ≡ xs) × (heldIn (length s) es ≡ true)
+read-entries : (more : ℕ) (s : List ℕ) (at : ℕ) (xs : List Signed) → length s ≤ 65535 → at ≤ length s → length s < at + more
+    → EachKept xs
+    → drop at s ≡ allSigned xs
+    → (es : List GroupHash) × (entriesFrom more s at ≡ value es) × (signedIn s es ≡ xs) × (heldIn (length s) es ≡ true)
 unfolding entriesFrom allSigned signedIn heldIn EachKept isIn
-read-entries zero s at [] most h k kept e = ([], refl, refl, refl)
+read-entries zero s at xs most h k kept e = absurd (omega arith)
 read-entries (suc more) s at [] most h k kept e =
     let none : length s - at ≡ 0 = sym (length-drop at s) ∙ ap length e in
     ([], rw (le-leb (length s) at (omega arith)), refl, refl)
-read-entries zero s at (x ∷ xs) most h k kept e =
-    let some : length s - at ≡ length (signedOf x) + length (allSigned xs) = sym (length-drop at s) ∙ ap length e ∙ length-append (signedOf x) (allSigned xs) in
-    absurd (omega (arith, some-signed x))
 read-entries (suc more) s at (x ∷ xs) most h k kept e =
-    let some : length s - at ≡ length (signedOf x) + length (allSigned xs) = sym (length-drop at s) ∙ ap length e ∙ length-append (signedOf x) (allSigned xs) in
+    let some : length s - at ≡ length (signedOf x) + length (allSigned xs) = sym (length-drop at s) ∙ ap length e
+    ∙ length-append (signedOf x) (allSigned xs) in
     let a = read-entry s at most x (allSigned xs) (kept x (inl refl)) e in
     let y = a .0 in
     let b = read-entries more s (y .end) xs most (a .5) (omega (arith, a .4)) (λ z m. kept z (inr m)) (a .3) in
@@ -106,15 +112,18 @@ read-entries (suc more) s at (x ∷ xs) most h k kept e =
     let over : leb (length s) at ≡ false = lt-leb (length s) at (omega (arith, some-signed x)) in (
       y ∷ b .0,
       rw over
-          (value-then (entryAt s at) (λ (z : Entry). andThen (entriesFrom more s (z .end)) (λ (q : List Entry). value (z ∷ q))) y (value (y ∷ b .0)) (a .1)
-          (value-then (entriesFrom more s (y .end)) (λ (q : List Entry). value (y ∷ q)) (b .0) (value (y ∷ b .0)) (b .1) refl)),
+          (value-then (entryAt s at) (λ (z : GroupHash). andThen (entriesFrom more s (z .end))
+          (λ (q : List GroupHash). value (z ∷ q))) y (value (y ∷ b .0)) (a .1)
+          (value-then (entriesFrom more s (y .end)) (λ (q : List GroupHash). value (y ∷ q)) (b .0) (value (y ∷ b .0))
+          (b .1) refl)),
       cc,
       held-one (length s) y (b .0) (a .6) (a .7) (b .3),
     )
 
 -- ---- their numbers and how many they are
 
-once-numbers : (s : List ℕ) (before : List ℕ) (es : List Entry) → numbersOnce before es ≡ passed → onceAfter before (numbers (signedIn s es)) ≡ true
+once-numbers : (s : List ℕ) (before : List ℕ) (es : List GroupHash) → numbersOnce before es ≡ passed
+    → onceAfter before (numbers (signedIn s es)) ≡ true
 unfolding numbersOnce onceAfter numbers signedIn signedAt
 once-numbers s before [] e = refl
 once-numbers s before (x ∷ es) e = go (stands (x .group) before) refl e (once-numbers s (x .group ∷ before) es)
@@ -123,16 +132,17 @@ once-numbers s before (x ∷ es) e = go (stands (x .group) before) refl e (once-
         → (numbersOnce (x .group ∷ before) es ≡ passed → onceAfter (x .group ∷ before) (numbers (signedIn s es)) ≡ true)
         → not (stands (x .group) before) && onceAfter (x .group ∷ before) (numbers (signedIn s es)) ≡ true
     go true f h rest = absurd (refused-not-passed h)
-    go false f h rest = both-and (not-kept (stands (x .group) before) f) (rest h)
+    go false f h rest = both-and (not-so (stands (x .group) before) f) (rest h)
 
-numbers-once : (s : List ℕ) (before : List ℕ) (es : List Entry) → onceAfter before (numbers (signedIn s es)) ≡ true → numbersOnce before es ≡ passed
+numbers-once : (s : List ℕ) (before : List ℕ) (es : List GroupHash) → onceAfter before (numbers (signedIn s es)) ≡ true
+    → numbersOnce before es ≡ passed
 unfolding numbersOnce onceAfter numbers signedIn signedAt
 numbers-once s before [] e = refl
 numbers-once s before (x ∷ es) e =
     let both = and-both (not (stands (x .group) before)) (onceAfter (x .group ∷ before) (numbers (signedIn s es))) e in
     rw (not-true (stands (x .group) before) (both .0)) (numbers-once s (x .group ∷ before) es (both .1))
 
-counted : (s : List ℕ) (es : List Entry) → count es ≡ length (signedIn s es)
+counted : (s : List ℕ) (es : List GroupHash) → count es ≡ length (signedIn s es)
 unfolding count signedIn
 counted s [] = refl
 counted s (e ∷ es) = ap suc (counted s es)
@@ -143,7 +153,7 @@ pub record SignedKept (xs : List Signed) : Type 0 where
   pub least-kept : 2 ≤ length xs
   pub most-kept : length xs ≤ 16
 
-module _ (s : List ℕ) (es : List Entry) (at : ℕ) where
+module _ (s : List ℕ) (es : List GroupHash) (at : ℕ) where
   abbrev rest-check : Outcome
   rest-check = orElse (unless (leb 2 (count es)) 12 at) (unless (leb (count es) 16) 12 at)
 
@@ -166,61 +176,72 @@ module _ (s : List ℕ) (es : List Entry) (at : ℕ) where
       let same = counted s es in
       let least : 2 ≤ count es = omega (arith, k .least-kept) in
       let most : count es ≤ 16 = omega (arith, k .most-kept) in
-      rw (numbers-once s [] es (none-once (numbers (signedIn s es)) (k .once-kept)), le-leb 2 (count es) least, le-leb (count es) 16 most)
+      rw (
+        numbers-once s [] es (none-once (numbers (signedIn s es)) (k .once-kept)),
+        le-leb 2 (count es) least,
+        le-leb
+            (count es) 16 most,
+      )
 
 -- ---- the list
 
 module _ (s : List ℕ) (at : ℕ) where
   -- what goes on from the list's value, and from its entries
-  abbrev then-checks : Stretch → List Entry → Read (List Entry)
+  abbrev then-checks : Stretch → List GroupHash → Read (List GroupHash)
   then-checks u q = checked (entriesCheck q at) (checked (endCheck s (u .to)) (value q))
 
-  abbrev then-entries : Stretch → Read (List Entry)
-  then-entries u = andThen (entriesFrom (length s) (take (u .to) s) (u .from)) (then-checks u)
+  abbrev then-entries : Stretch → Read (List GroupHash)
+  then-entries u = andThen (entries (take (u .to) s) (u .from)) (then-checks u)
 
-  pub list-of-entries : areOctets s → (es : List Entry) → entryList s at ≡ value es
-      → (drop at s ≡ tlv 48 (allSigned (signedIn s es))) × SignedKept (signedIn s es) × (heldIn (length s) es ≡ true)
-  unfolding entryList
+  pub list-of-entries : areOctets s → (es : List GroupHash) → fromEntryList s at ≡ value es
+      → (drop at s ≡ tlv 0x30 (allSigned (signedIn s es))) × SignedKept (signedIn s es) × (heldIn (length s) es ≡ true)
+  unfolding fromEntryList entries
   list-of-entries small es e =
-      let a = first-value (element s at 48) then-entries es e in
+      let a = first-value (element s at 0x30) then-entries es e in
       let v = a .0 in
       let t = take (v .to) s in
-      let b = first-value (entriesFrom (length s) t (v .from)) (then-checks v) es (a .2) in
+      let b = first-value (entries t (v .from)) (then-checks v) es (a .2) in
       let x = b .0 in
       let c = checked-value (entriesCheck x at) (checked (endCheck s (v .to)) (value x)) es (b .2) in
       let d = checked-value (endCheck s (v .to)) (value x) es (c .1) in
-      let h = read-element s at 48 small v (a .1) in
-      let places = place-behind s at 48 (cut s v) (drop (v .to) s) v h in
+      let h = read-element s at 0x30 small v (a .1) in
+      let places = place-behind s at 0x30 (cut s v) (drop (v .to) s) v h in
       let long : length t ≡ v .to = length-take-le (v .to) s (h .ends-within) in
-      let r = entries-read (length s) t (v .from) x (take-octets (v .to) s small) (omega (arith, places .1)) (omega (arith, places .2)) (b .1) in
+      let r = entries-read (suc (length t)) t (v .from) x (take-octets (v .to) s small) (omega (arith, places .1)) (b .1) in
       let held : heldIn (v .to) x ≡ true = ap (λ (n : ℕ). heldIn n x) (sym long) ∙ r .entries-held in
       let same : signedIn t x ≡ signedIn s x = signed-before s (v .to) x held in
-      let content : cut s v ≡ allSigned (signedIn s x) = sym (inside s at 48 (cut s v) (drop (v .to) s) v h) ∙ r .entries-there ∙ ap allSigned same in
-      let there : drop at s ≡ tlv 48 (allSigned (signedIn s x)) =
-      h .octets-there ∙ ap (λ (l : List ℕ). tlv 48 (cut s v) ++ l) (nothing-left s (v .to) (d .0)) ∙ append-nil (tlv 48 (cut s v)) ∙ ap (tlv 48) content in
-      subst (λ (q : List Entry). (drop at s ≡ tlv 48 (allSigned (signedIn s q))) × SignedKept (signedIn s q) × (heldIn (length s) q ≡ true)) (same-value (d .1))
+      let content : cut s v ≡ allSigned (signedIn s x) = sym (inside s at 0x30 (cut s v) (drop (v .to) s) v h) ∙ r .entries-there
+      ∙ ap allSigned same in
+      let there : drop at s ≡ tlv 0x30 (allSigned (signedIn s x)) =
+      h .octets-there ∙ ap (λ (l : List ℕ). tlv 0x30 (cut s v) ++ l) (nothing-left s (v .to) (d .0))
+      ∙ append-nil (tlv 0x30 (cut s v)) ∙ ap (tlv 0x30) content in
+      subst (λ (q : List GroupHash). (drop at s ≡ tlv 0x30 (allSigned (signedIn s q))) × SignedKept (signedIn s q) ×
+      (heldIn (length s) q ≡ true)) (same-value (d .1))
       (there, check-kept s x at (subst EachKept same (r .entries-kept)) (c .0), held-more (v .to) (length s) x (places .2) held)
 
-  pub entries-listed : length s ≤ 65535 → (xs : List Signed) → drop at s ≡ tlv 48 (allSigned xs) → SignedKept xs
-      → (es : List Entry) × (entryList s at ≡ value es) × (signedIn s es ≡ xs) × (heldIn (length s) es ≡ true)
-  unfolding entryList EachKept
+  pub entries-listed : length s ≤ 65535 → (xs : List Signed) → drop at s ≡ tlv 0x30 (allSigned xs) → SignedKept xs
+      → (es : List GroupHash) × (fromEntryList s at ≡ value es) × (signedIn s es ≡ xs) × (heldIn (length s) es ≡ true)
+  unfolding fromEntryList entries EachKept
   entries-listed most xs e k =
-      let a = last-read s at 48 most (allSigned xs) e in
+      let a = last-read s at 0x30 most (allSigned xs) e in
       let v = a .0 in
       let h = a .2 in
       let t = take (v .to) s in
-      let places = place-behind s at 48 (allSigned xs) [] v h in
+      let places = place-behind s at 0x30 (allSigned xs) [] v h in
       let long : length t ≡ v .to = length-take-le (v .to) s (h .ends-within) in
-      let b = read-entries (length s) t (v .from) xs (take-most (v .to) 65535 s most) (omega (arith, places .1)) (omega (arith, places .2)) (k .each-kept)
-      (inside s at 48 (allSigned xs) [] v h) in
+      let b = read-entries (suc (length t)) t (v .from) xs (take-most (v .to) 65535 s most) (omega (arith, places .1))
+      (omega arith) (k .each-kept)
+      (inside s at 0x30 (allSigned xs) [] v h) in
       let es = b .0 in
       let held : heldIn (v .to) es ≡ true = ap (λ (n : ℕ). heldIn n es) (sym long) ∙ b .3 in
       let same : signedIn s es ≡ xs = sym (signed-before s (v .to) es held) ∙ b .2 in (
         es,
-        value-then (element s at 48) then-entries v (value es) (a .1)
-            (value-then (entriesFrom (length s) t (v .from)) (then-checks v) es (value es) (b .1)
-            (value-checked (entriesCheck es at) (checked (endCheck s (v .to)) (value es)) (value es) (kept-check s es at (subst SignedKept (sym same) k))
-            (value-checked (endCheck s (v .to)) (value es) (value es) (left-nothing s (v .to) (places .2) (h .rest-there)) refl))),
+        value-then (element s at 0x30) then-entries v (value es) (a .1)
+            (value-then (entries t (v .from)) (then-checks v) es (value es) (b .1)
+            (value-checked (entriesCheck es at) (checked (endCheck s (v .to)) (value es)) (value es)
+            (kept-check s es at (subst SignedKept (sym same) k))
+            (value-checked (endCheck s (v .to)) (value es) (value es)
+            (left-nothing s (v .to) (places .2) (h .rest-there)) refl))),
         same,
         held-more (v .to) (length s) es (places .2) held,
       )

@@ -1,6 +1,5 @@
--- Demand 2 for a presentation: what it is to be the joined encodings of an EF.COM, a security object and group files that belong together, said with
--- encoders and without the reader. The words in quotes are those of document 01, "Stages of a presentation"; its tags are numbers here: 5F01 is 24321,
--- 5F36 is 24374, 5F1F is 24351, 5C is 92, 60 is 96, 61 is 97 and 30 is 48.
+-- Demand 2 for a presentation: what it is to be the joined encodings of an EF.COM, a security object and group files that belong
+-- together, said with encoders and without the reader. The words in quotes are those of document 01, "Stages of a presentation".
 use Prim.Native.Nat.{ℕ, _≤_}
 use mathlib.Core.Path.{_≡_}
 use mathlib.Core.Logic.{_⊎_}
@@ -12,6 +11,7 @@ use Rattle.zone.specs.Alphabet.{isDigit, every}
 use Rattle.sha256.specs.Hash.{sha256}
 use Rattle.tlv.specs.Element.{tlv}
 use Rattle.tlv.specs.Tags.{groupOf, isGroup}
+use Rattle.tlv.specs.Tags as Tag
 use Rattle.lent.specs.Octets.{stands}
 use Rattle.object.specs.Object.{sha256Name}
 use Rattle.text_theorems.specs.Accepted.{Keeps}
@@ -47,15 +47,16 @@ pub record Contents : Type 0 where
 
 -- "5F01 of length 4, `0107`; 5F36 of length 6, six digits; 5C, the tag list"
 unfoldable pub commonInside : List ℕ → List ℕ → List ℕ
-commonInside digits tags = tlv 24321 (48 ∷ 49 ∷ 48 ∷ 55 ∷ []) ++ (tlv 24374 digits ++ tlv 92 tags)
+commonInside digits tags = tlv Tag.ldsVersion (0x30 ∷ 0x31 ∷ 0x30 ∷ 0x37 ∷ [])
+    ++ (tlv Tag.unicodeVersion digits ++ tlv Tag.tagList tags)
 
 -- EF.COM, "tag 60"
 unfoldable pub commonOf : Contents → List ℕ
-commonOf p = tlv 96 (commonInside (p .digits) (p .tags))
+commonOf p = tlv Tag.efCom (commonInside (p .digits) (p .tags))
 
 -- "each itself a sequence of a one-octet integer 1-16 and an octet string of 32"
 unfoldable pub signedOf : Signed → List ℕ
-signedOf e = tlv 48 (tlv 2 (e .number ∷ []) ++ tlv 4 (e .digest))
+signedOf e = tlv Tag.sequence (tlv Tag.integer (e .number ∷ []) ++ tlv Tag.octetString (e .digest))
 
 -- "a sequence of entries", joined
 unfoldable pub allSigned : List Signed → List ℕ
@@ -64,15 +65,16 @@ allSigned (e ∷ es) = signedOf e ++ allSigned es
 
 -- "exactly 06 09 60 86 48 01 65 03 04 02 01, alone or followed by 05 00"
 unfoldable pub algorithmOf : Bool → List ℕ
-algorithmOf followed = cond followed (sha256Name ++ (5 ∷ 0 ∷ [])) sha256Name
+algorithmOf followed = cond followed (sha256Name ++ (0x05 ∷ 0x00 ∷ [])) sha256Name
 
 -- "version integer 0; AlgorithmIdentifier of SHA-256; a sequence of entries"
 unfoldable pub objectInside : Bool → List Signed → List ℕ
-objectInside followed entries = tlv 2 (0 ∷ []) ++ (tlv 48 (algorithmOf followed) ++ tlv 48 (allSigned entries))
+objectInside followed entries = tlv Tag.integer (0x00 ∷ [])
+    ++ (tlv Tag.sequence (algorithmOf followed) ++ tlv Tag.sequence (allSigned entries))
 
 -- the content of the security object, "tag 30"
 unfoldable pub objectOf : Contents → List ℕ
-objectOf p = tlv 48 (objectInside (p .followed) (p .entries))
+objectOf p = tlv Tag.sequence (objectInside (p .followed) (p .entries))
 
 -- a whole file, "tag and length included"
 unfoldable pub fileOf : Lent → List ℕ
@@ -141,7 +143,7 @@ pub record Presented (p : Contents) : Type 0 where
   pub file-kept : (f : Lent) → isIn f (p .lent) → FileKept (p .tags) (p .entries) f
   pub lent-once : isOnce (tagsOf (p .lent)) ≡ true
   -- "Inside group 1: 5F1F and the text, exactly filling 61", and the text keeps every rule
-  pub group-one : isIn (record { tag = 97; content = tlv 24351 (p .text) }) (p .lent)
+  pub group-one : isIn (record { tag = Tag.groupOne; content = tlv Tag.text (p .text) }) (p .lent)
   pub text-kept : (f : Form) × Keeps f (p .text)
 
 -- ---- the file of a group
@@ -149,7 +151,7 @@ pub record Presented (p : Contents) : Type 0 where
 -- stages 1 and 2 alone: not "over 65,535"; "tag 60, tag 30, then group tags only, every file ending within the bytes"
 pub record Outside (w c d : List ℕ) (fs : List Lent) : Type 0 where
   pub outside-size : length w ≤ 65535
-  pub outside-octets : w ≡ tlv 96 c ++ (tlv 48 d ++ allLent fs)
+  pub outside-octets : w ≡ tlv Tag.efCom c ++ (tlv Tag.sequence d ++ allLent fs)
   pub outside-groups : (f : Lent) → isIn f fs → isGroup (f .tag) ≡ true
 
 -- no file of that group
@@ -164,17 +166,17 @@ pub record FirstFile (group : ℕ) (fs before : List Lent) (f : Lent) (after : L
 
 -- where a file stands: behind EF.COM, the object and the files before it
 unfoldable pub placeOf : (c d : List ℕ) → List Lent → ℕ
-placeOf c d before = length (tlv 96 c ++ (tlv 48 d ++ allLent before))
+placeOf c d before = length (tlv Tag.efCom c ++ (tlv Tag.sequence d ++ allLent before))
 
 -- ---- a presentation of a text
 
 -- the least that carries a text: group 1 alone, listed and signed, and a second entry, since "fewer than 2" are refused
 unfoldable pub around : List ℕ → Contents
 around t =
-    let one : Lent = record { tag = 97; content = tlv 24351 t } in
+    let one : Lent = record { tag = Tag.groupOne; content = tlv Tag.text t } in
     record {
-      tags = 97 ∷ [];
-      digits = 48 ∷ 52 ∷ 48 ∷ 48 ∷ 48 ∷ 48 ∷ [];
+      tags = Tag.groupOne ∷ [];
+      digits = 0x30 ∷ 0x34 ∷ 0x30 ∷ 0x30 ∷ 0x30 ∷ 0x30 ∷ [];
       followed = false;
       entries = record { number = 1; digest = sha256 (fileOf one) } ∷ (record { number = 2; digest = replicate 32 0 } ∷ []);
       lent = one ∷ [];

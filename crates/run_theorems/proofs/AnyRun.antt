@@ -1,4 +1,5 @@
--- DEMAND 3, any bytes: they are read as a list of kept houses and records, and either they are the bytes of that list, or they are refused by 18
+-- DEMAND 3, any bytes: they are read as a list of kept houses and records, and either they are the bytes of that list, or they
+-- are refused by 18
 -- at the place where its bytes end, and there no entry stands. So bytes are accepted exactly when some list gives them.
 use Prim.Native.Nat.{ℕ, zero, suc, _+_, _≤_, _<_}
 use mathlib.Core.Path.{_≡_, refl, ap, sym, _∙_}
@@ -10,8 +11,9 @@ use native.Mathlib.Omega.{arith}
 use lib.ListN.{length, drop, length-append, drop-of-length-le}
 use Rattle.entry.specs.Entry.{entryOf}
 use Rattle.entry.specs.Run.{Onward, next, none, refused, readEntry}
-use Rattle.text_theorems.specs.Octets.{areOctets}
-use Rattle.run_theorems.specs.Runs.{Line, isKept, allKept, joined, Reading, onwards, lineAt, readFrom, readRun, Passed, NoEntry, Ends, ended, broken}
+use Rattle.zone.specs.Octets.{areOctets}
+use Rattle.run_theorems.specs.Runs.{Line, isKept, allKept, joined, Reading, onwards, lineAt, readFrom, readRun, Passed}
+use Rattle.run_theorems.specs.Runs.{NoEntry, Ends, ended, broken}
 use Rattle.run_theorems.proofs.WrittenThenRead.{some-octets}
 use Rattle.run_theorems.proofs.ListReadBack.{end-read, read-joined}
 use Rattle.run_theorems.proofs.OneAnswer.{none-not-refused, none-end, refused-here, no-entry}
@@ -41,7 +43,8 @@ one-more w at n l x p f =
     let here : drop at w ≡ e ++ drop n w = passed-there w at n (l .house) (l .kept) p in
     record {
       lines-kept = rw (p .house-kept, p .record-kept) (f .lines-kept);
-      lines-there = rw place (here ∙ ap (λ (y : List ℕ). e ++ y) (f .lines-there) ∙ sym (append-assoc e j (drop (n + length j) w)));
+      lines-there = rw place (here ∙ ap (λ (y : List ℕ). e ++ y) (f .lines-there) ∙ sym
+          (append-assoc e j (drop (n + length j) w)));
       stopped = rw place (f .stopped);
     }
 
@@ -64,12 +67,15 @@ read-from (suc most) w at small h k = go (readEntry w at .onward) refl (λ (n : 
         let other : at ≡ length w → ⊥ = here .1 in
         nothing-more w at (refused c p) (inr (here .0, omega arith, no-entry w at h c p e))
 
--- what the reading of any bytes says: a list of kept lines, whose bytes they are, or with whose bytes they begin and no entry follows
+-- what the reading of any bytes says: a list of kept lines, whose bytes they are, or with whose bytes they begin and no entry
+-- follows
 pub read-any : (w : List ℕ) → areOctets w → (allKept (readRun w .lines) ≡ true) × Ends w (readRun w .lines) (readRun w .stop)
 unfolding readRun Stop
-read-any w small = let f = read-from (length w) w 0 small (omega arith) (omega arith) in (f .lines-kept, go (readFrom (length w) w 0) f)
+read-any w small = let f = read-from (length w) w 0 small (omega arith) (omega arith) in
+    (f .lines-kept, go (readFrom (length w) w 0) f)
   where
-    ends : (o : Onward) (ls : List Line) → w ≡ joined ls ++ drop (length (joined ls)) w → Stop w (length (joined ls)) o → Ends w ls o
+    ends : (o : Onward) (ls : List Line) → w ≡ joined ls ++ drop (length (joined ls)) w → Stop w (length (joined ls)) o
+        → Ends w ls o
     ends o ls p (inl h) =
         let all : length w ≤ length (joined ls) = omega (arith, h .1) in
         rw (h .0) (ended (p ∙ rw (drop-of-length-le w all, append-nil)))
@@ -85,7 +91,8 @@ ends-all (ended p) e = p
 ends-all (broken p a b c d) e = absurd (none-not-refused 18 p (sym e))
 
 -- bytes are accepted exactly when some list gives them
-pub accepted-exactly : (w : List ℕ) → areOctets w → (readRun w .stop ≡ none) ↔ ((ls : List Line) × (allKept ls ≡ true) × (w ≡ joined ls))
+pub accepted-exactly : (w : List ℕ) → areOctets w
+    → (readRun w .stop ≡ none) ↔ ((ls : List Line) × (allKept ls ≡ true) × (w ≡ joined ls))
 accepted-exactly w small = (
   λ e. (readRun w .lines, read-any w small .0, ends-all (read-any w small .1) e),
   λ h. ap (λ (v : List ℕ). readRun v .stop) (h .2) ∙ ap (λ (x : Reading). x .stop) (read-joined (h .0) (h .1)),
@@ -96,5 +103,6 @@ ends-else : {w : List ℕ} {ls : List Line} {o : Onward} → Ends w ls o → (w 
 ends-else (ended p) h = absurd (h p)
 ends-else (broken p a b c d) h = (p, refl)
 
-pub others-refused : (w : List ℕ) → areOctets w → ((ls : List Line) → allKept ls ≡ true → w ≡ joined ls → ⊥) → (p : ℕ) × (readRun w .stop ≡ refused 18 p)
+pub others-refused : (w : List ℕ) → areOctets w → ((ls : List Line) → allKept ls ≡ true → w ≡ joined ls → ⊥)
+    → (p : ℕ) × (readRun w .stop ≡ refused 18 p)
 others-refused w small h = ends-else (read-any w small .1) (h (readRun w .lines) (read-any w small .0))

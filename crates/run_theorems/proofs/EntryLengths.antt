@@ -1,4 +1,5 @@
--- DEMAND 3, lengths: the entry of a sound record with a name of n characters has 278 + 6n bits rounded up to bytes, 36 at n = 1 and 64 at n = 39, and no
+-- DEMAND 3, lengths: the entry of a sound record with a name of n characters has 278 + 6n bits rounded up to bytes, 36 at n = 1
+-- and 64 at n = 39, and no
 -- entry has fewer or more.
 use Prim.Native.Nat.{ℕ, _≤_}
 use mathlib.Core.Path.{_≡_, refl}
@@ -8,8 +9,8 @@ use lib.ListN.{length}
 use Rattle.zone.specs.declared.record.Record.{Record}
 use Rattle.sound.specs.Sound.{isSound}
 use Rattle.entry.specs.Entry.{entryOf, size}
-use Rattle.text_theorems.proofs.SoundRecord.{taken-apart}
-use Rattle.run_theorems.proofs.EntryBits.{length-entry}
+use Rattle.sound.proofs.SoundRecord.{taken-apart}
+use Rattle.entry.proofs.EntryBits.{length-entry}
 
 pub shortest : size 1 ≡ 36
 unfolding size

@@ -1,4 +1,5 @@
--- DEMAND 3, the key: the first thirty bytes of the entries of two houses and sound records agree exactly when house, form, state, whole number,
+-- DEMAND 3, the key: the first thirty bytes of the entries of two houses and sound records agree exactly when house, form, state,
+-- whole number,
 -- birth and expiry agree; so it is for the records of two accepted texts.
 use Prim.Native.Nat.{ℕ}
 use mathlib.Core.Path.{_≡_, refl, ap, sym, _∙_}
@@ -9,8 +10,6 @@ use native.Mathlib.Omega.{arith}
 use lib.ListN.{length, take}
 use lib.Seq.{take-at}
 use Rattle.refusal.specs.Outcome.{passed}
-use Rattle.zone.specs.declared.form.Form.{Form}
-use Rattle.zone.specs.declared.form.Recognised.the-variants.{As}
 use Rattle.zone.specs.declared.record.Record.{Record}
 use Rattle.zone.specs.Record.{trimmedLength, trimmed, padded}
 use Rattle.zone.proofs.Padded.{padded-exact, padded-trimmed}
@@ -22,11 +21,13 @@ use Rattle.entry.specs.Entry.{putKey, putRest, size, isHouse}
 use Rattle.entry.specs.Run.{spare}
 use Rattle.run_theorems.specs.Keys.{keyOf, wholeNumber, SameKey}
 use Rattle.text_theorems.proofs.RecordOfText.{kept-and-sound}
-use Rattle.run_theorems.proofs.BitsOfOctets.{bitsOf, isBit}
-use Rattle.run_theorems.proofs.OctetsOfBits.{bits-octets, take-octets}
-use Rattle.text_theorems.proofs.SoundRecord.{Sound, taken-apart}
-use Rattle.run_theorems.proofs.EntryBits.{entryBits, key-followed, key-bits, length-key, length-entry-bits, entry-bits-bits, entry-filled}
+use Rattle.entry.proofs.BitsOfOctets.{bitsOf, isBit}
+use Rattle.entry.proofs.OctetsOfBits.{bits-octets, take-octets}
+use Rattle.sound.proofs.SoundRecord.{Sound, taken-apart}
+use Rattle.entry.proofs.EntryBits.{entryBits, key-followed, key-bits, length-key, length-entry-bits, entry-bits-bits}
+use Rattle.entry.proofs.EntryBits.{entry-filled}
 use Rattle.run_theorems.proofs.WrittenThenRead.{key-read}
+use Rattle.zone.proofs.FormByLength.{as-same}
 
 -- ---- the thirty bytes are those of the key's bits
 
@@ -42,7 +43,8 @@ module _ (h : ℕ) (r : Record) (o : Sound r) where
   unfolding keyOf size
   key-octets =
       let t = putRest r (put (spare (r .«name_len»)) 0 []) in
-      let front : take 240 (putKey h r t) ≡ putKey h r [] = ap (take 240) (sym (key-followed h r [] t)) ∙ take-at (putKey h r []) t 240 key-length in
+      let front : take 240 (putKey h r t) ≡ putKey h r [] = ap (take 240) (sym (key-followed h r [] t))
+      ∙ take-at (putKey h r []) t 240 key-length in
       ap (take 30) (entry-filled r o h)
       ∙ take-octets 30 (size (r .«name_len»)) (entryBits h r []) (entry-bits-bits r o h) (length-entry-bits r o h) (omega arith)
       ∙ ap octets front
@@ -56,10 +58,8 @@ module _ (h : ℕ) (r : Record) (o : Sound r) where
 
 -- ---- agreeing keys
 
-as-same : (f g : Form) → As f ≡ As g → f ≡ g
-as-same f g e = cc
-
-module _ (h k : ℕ) (r q : Record) (house : isHouse h ≡ true) (sound : isSound r ≡ true) (house′ : isHouse k ≡ true) (sound′ : isSound q ≡ true) where
+module _ (h k : ℕ) (r q : Record) (house : isHouse h ≡ true) (sound : isSound r ≡ true) (house′ : isHouse k ≡ true)
+    (sound′ : isSound q ≡ true) where
   o : Sound r
   o = taken-apart r sound
 
@@ -87,14 +87,16 @@ module _ (h k : ℕ) (r q : Record) (house : isHouse h ≡ true) (sound : isSoun
   unfolding putKey
   agreed e =
       let number : r .number ≡ q .number = number-whole h r o ∙ ap (padded 22) (e .same-number) ∙ sym (number-whole k q o′) in
-      let bits : putKey h r [] ≡ putKey k q [] = rw (e .same-house, e .same-form, e .same-state, number, e .same-birth, e .same-expiry) in
+      let bits : putKey h r [] ≡ putKey k q [] = rw
+      (e .same-house, e .same-form, e .same-state, number, e .same-birth, e .same-expiry) in
       key-octets h r o ∙ ap octets bits ∙ sym (key-octets k q o′)
 
   pub key-exactly : (keyOf h r ≡ keyOf k q) ↔ SameKey h r k q
   key-exactly = (agreeing, agreed)
 
 -- for two accepted texts, each kept under a house
-pub texts-key : (h k : ℕ) (t u : List ℕ) → isHouse h ≡ true → isHouse k ≡ true → readText t .outcome ≡ passed → readText u .outcome ≡ passed
+pub texts-key : (h k : ℕ) (t u : List ℕ) → isHouse h ≡ true → isHouse k ≡ true → readText t .outcome ≡ passed
+    → readText u .outcome ≡ passed
     → (keyOf h (readText t .kept) ≡ keyOf k (readText u .kept)) ↔ SameKey h (readText t .kept) k (readText u .kept)
 texts-key h k t u house house′ e f =
     key-exactly h k (readText t .kept) (readText u .kept) house (kept-and-sound t e .3) house′ (kept-and-sound u f .3)

@@ -1,13 +1,3 @@
--- a range of octets as its bits
-pub mod BitsOfOctets
--- bits gathered by eights
-pub mod OctetsOfBits
--- the codes of characters, forms and sexes tell them
-pub mod Codes
--- numbers and characters in bits, put and read
-pub mod FieldBits
--- the bits of an entry
-pub mod EntryBits
 -- DEMAND 3: an entry that stands in a run is read as its house and record (`decoded`)
 pub mod WrittenThenRead
 -- DEMAND 3: what the reader passes over is the entry of what it answers (`passed-over`)

@@ -1,4 +1,5 @@
--- DEMAND 3, the run read back: the bytes of a list of kept houses and records are read as that list, to their end; so joined entries of two different
+-- DEMAND 3, the run read back: the bytes of a list of kept houses and records are read as that list, to their end; so joined
+-- entries of two different
 -- lists never give the same bytes. And of any bytes, no list with whose bytes they begin goes further than the list that is read.
 use Prim.Native.Nat.{ℕ, zero, suc, _+_, _≤_}
 use mathlib.Core.Path.{_≡_, refl, ap, sym, _∙_}
@@ -33,7 +34,8 @@ line-read : (most : ℕ) (front rest : List ℕ) (l : Line) → isKept l ≡ tru
     (x : Reading) → readFrom most (front ++ (e ++ rest)) (length front + length e) ≡ x
     → readFrom (suc most) (front ++ (e ++ rest)) (length front) ≡ record { lines = l ∷ x .lines; stop = x .stop }
 unfolding readFrom onwards lineAt
-line-read most front rest l k x e = let both = kept-both l k in rw (read-back (l .house) (l .kept) (both .0) (both .1) front rest, e)
+line-read most front rest l k x e = let both = kept-both l k in rw
+    (read-back (l .house) (l .kept) (both .0) (both .1) front rest, e)
 
 read-lines : (ls : List Line) (most : ℕ) (front : List ℕ) → allKept ls ≡ true → length ls ≤ most
     → readFrom most (front ++ joined ls) (length front) ≡ record { lines = ls; stop = none }
@@ -44,7 +46,8 @@ read-lines (l ∷ ls) (suc most) front k h =
     let e = entryOf (l .house) (l .kept) in
     let both = and-both (isKept l) (allKept ls) k in
     let rest = read-lines ls most (front ++ e) (both .1) (omega arith) in
-    line-read most front (joined ls) l (both .0) (record { lines = ls; stop = none }) (rw (append-assoc front e (joined ls), length-append front e) at rest)
+    line-read most front (joined ls) l (both .0) (record { lines = ls; stop = none })
+    (rw (append-assoc front e (joined ls), length-append front e) at rest)
 
 -- no entry is empty
 enough : (ls : List Line) → allKept ls ≡ true → length ls ≤ length (joined ls)
@@ -81,7 +84,8 @@ begins (l ∷ ls) (suc most) front rest k h =
     let read = line-read most front (joined ls ++ rest) l (both .0) (readFrom most w (length front + length e)) refl in
     (b .0, rw (append-assoc e (joined ls) rest) (ap (λ (x : Reading). x .lines) read ∙ ap (λ (x : List Line). l ∷ x) back))
 
-pub begins-read : (w : List ℕ) (ls : List Line) (rest : List ℕ) → allKept ls ≡ true → w ≡ joined ls ++ rest → (more : List Line) × (readRun w .lines ≡ ls ++ more)
+pub begins-read : (w : List ℕ) (ls : List Line) (rest : List ℕ) → allKept ls ≡ true → w ≡ joined ls ++ rest
+    → (more : List Line) × (readRun w .lines ≡ ls ++ more)
 unfolding readRun
 begins-read w ls rest k e =
     let b = begins ls (length w) [] rest k (rw (e, length-append (joined ls) rest) (omega (arith, enough ls k))) in

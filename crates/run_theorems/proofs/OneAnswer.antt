@@ -13,8 +13,9 @@ use Rattle.zone.specs.declared.form.Recognised.{Recognised}
 use Rattle.zone.specs.declared.form.Recognised.the-variants.{As, Unknown}
 use Rattle.zone.specs.Record.{blank}
 use Rattle.entry.specs.Entry.{entryOf, size}
-use Rattle.entry.specs.Run.{Standing, Onward, next, none, refused, houseIn, formIn, nameLength, recordIn, isEntry, entryBy, noEntry, readEntry}
-use Rattle.text_theorems.specs.Octets.{areOctets}
+use Rattle.entry.specs.Run.{Standing, Onward, next, none, refused, houseIn, formIn, nameLength, recordIn, isEntry, entryBy}
+use Rattle.entry.specs.Run.{noEntry, readEntry}
+use Rattle.zone.specs.Octets.{areOctets}
 use Rattle.run_theorems.specs.Runs.{Line, isKept, lineAt, NoEntry}
 use Rattle.run_theorems.proofs.WrittenThenRead.{entry-there}
 use Rattle.run_theorems.proofs.ListReadBack.{kept-both}
@@ -30,13 +31,15 @@ next-not-none : (n : ℕ) → next n ≡ none → ⊥
 next-not-none n e = let z : _≡_ {A = ℕ} 0 1 = cc in omega arith
 
 -- an entry is passed over, or the answer is 18 here
-entry-or-not : (told : Recognised) (s : List ℕ) (at : ℕ) (o : Onward) → entryBy told s at .onward ≡ o → (o ≡ next (at + size (nameLength s))) ⊎ (o ≡ refused 18 at)
+entry-or-not : (told : Recognised) (s : List ℕ) (at : ℕ) (o : Onward) → entryBy told s at .onward ≡ o
+    → (o ≡ next (at + size (nameLength s))) ⊎ (o ≡ refused 18 at)
 unfolding entryBy noEntry
 entry-or-not Unknown s at o e = inr (sym e)
 entry-or-not (As f) s at o e = go (isEntry f s) e
   where
     go : (x : Bool)
-        → cond x (record { onward = next (at + size (nameLength s)); house = houseIn s; kept = recordIn f s }) (noEntry at) .onward ≡ o
+        → cond x (record { onward = next (at + size (nameLength s)); house = houseIn s; kept = recordIn f s })
+        (noEntry at) .onward ≡ o
         → (o ≡ next (at + size (nameLength s))) ⊎ (o ≡ refused 18 at)
     go true h = inl (sym h)
     go false h = inr (sym h)
@@ -51,7 +54,8 @@ module _ (w : List ℕ) (at : ℕ) where
       other (inr h) = none-not-refused 18 at h
 
       go : (a : Bool) → eqb at (length w) ≡ a → (b : Bool)
-          → cond a (record { onward = none; house = 0; kept = blank }) (cond b (noEntry at) (entryBy (formIn (drop at w)) (drop at w) at)) .onward ≡ none
+          → cond a (record { onward = none; house = 0; kept = blank })
+          (cond b (noEntry at) (entryBy (formIn (drop at w)) (drop at w) at)) .onward ≡ none
           → at ≡ length w
       go true p b h = eqb-true at (length w) p
       go false p true h = absurd (none-not-refused 18 at (sym h))
@@ -61,12 +65,14 @@ module _ (w : List ℕ) (at : ℕ) where
   unfolding readEntry noEntry
   refused-here k p e = go (eqb at (length w)) refl (ltb (length w) at) e
     where
-      other : (refused k p ≡ next (at + size (nameLength (drop at w)))) ⊎ (refused k p ≡ refused 18 at) → refused k p ≡ refused 18 at
+      other : (refused k p ≡ next (at + size (nameLength (drop at w)))) ⊎ (refused k p ≡ refused 18 at)
+          → refused k p ≡ refused 18 at
       other (inl h) = absurd (next-not-refused (at + size (nameLength (drop at w))) k p (sym h))
       other (inr h) = h
 
       go : (a : Bool) → eqb at (length w) ≡ a → (b : Bool)
-          → cond a (record { onward = none; house = 0; kept = blank }) (cond b (noEntry at) (entryBy (formIn (drop at w)) (drop at w) at)) .onward ≡ refused k p
+          → cond a (record { onward = none; house = 0; kept = blank })
+          (cond b (noEntry at) (entryBy (formIn (drop at w)) (drop at w) at)) .onward ≡ refused k p
           → (refused k p ≡ refused 18 at) × (at ≡ length w → ⊥)
       go true q b h = absurd (none-not-refused k p h)
       go false q true h = (sym h, eqb-false at (length w) q)
@@ -82,13 +88,20 @@ module _ (w : List ℕ) (at : ℕ) where
   -- the reading goes on exactly where the entry of a kept house and record stands, and there with what follows it
   pub goes-on-exactly : areOctets w → at ≤ length w → (n : ℕ)
       → (readEntry w at .onward ≡ next n)
-      ↔ ((l : Line) × (isKept l ≡ true) × (drop at w ≡ entryOf (l .house) (l .kept) ++ drop n w) × (n ≡ at + length (entryOf (l .house) (l .kept))))
+      ↔ ((l : Line) × (isKept l ≡ true) × (drop at w ≡ entryOf (l .house) (l .kept) ++ drop n w) ×
+      (n ≡ at + length (entryOf (l .house) (l .kept))))
   unfolding isKept lineAt
   goes-on-exactly small h n = (
     λ e.
-        let p = passed-over w at n small e in
-        (lineAt w at, both-and (p .house-kept) (p .record-kept), passed-there w at n (readEntry w at .house) (readEntry w at .kept) p, p .next-offset),
+        let p = passed-over w at n small e in (
+          lineAt w at,
+          both-and (p .house-kept) (p .record-kept),
+          passed-there w at n (readEntry w at .house)
+              (readEntry w at .kept) p,
+          p .next-offset,
+        ),
     λ x.
         let both = kept-both (x .0) (x .1) in
-        ap (λ (a : Standing). a .onward) (entry-there (x .0 .house) (x .0 .kept) (both .0) (both .1) w at (drop n w) h (x .2)) ∙ ap next (sym (x .3)),
+        ap (λ (a : Standing). a .onward) (entry-there (x .0 .house) (x .0 .kept) (both .0) (both .1) w at (drop n w) h (x .2))
+        ∙ ap next (sym (x .3)),
   )

@@ -1,4 +1,5 @@
--- DEMAND 3, read and written again: where reading a run goes on, the octets that it passed over are the entry of the house and the record that it
+-- DEMAND 3, read and written again: where reading a run goes on, the octets that it passed over are the entry of the house and
+-- the record that it
 -- answered, which are kept ones; so a reader takes exactly what a writer gives.
 use Prim.Native.Nat.{ℕ, _+_, _-_, _*_, _≤_, _<_}
 use mathlib.Core.Path.{_≡_, refl, ap, sym, _∙_}
@@ -24,21 +25,24 @@ use Rattle.entry.proofs.Shifts.{bits-below}
 use Rattle.entry.specs.Bits.{put, octets, bitsAt}
 use Rattle.entry.specs.Codes.{formCode, sexCode, sexBy}
 use Rattle.entry.specs.Entry.{puts, putKey, putRest, entryOf, size, isHouse}
-use Rattle.entry.specs.Run.{Standing, next, none, refused, charactersAt, houseIn, formIn, nameLength, recordIn, spare, isWhole, isEntry, entryBy, noEntry, readEntry}
-use Rattle.text_theorems.specs.Octets.{isOctet, areOctets}
+use Rattle.entry.specs.Run.{Standing, next, none, refused, charactersAt, houseIn, formIn, nameLength, recordIn, spare, isWhole}
+use Rattle.entry.specs.Run.{isEntry, entryBy, noEntry, readEntry}
+use Rattle.zone.specs.Octets.{isOctet, areOctets}
 use Rattle.run_theorems.specs.Runs.{Passed}
-use Rattle.text_theorems.proofs.TrailingFillers.{every-take, every-drop, every-each}
-use Rattle.run_theorems.proofs.BitsOfOctets.{bitsOf, length-bits, bits-append}
-use Rattle.run_theorems.proofs.OctetsOfBits.{octets-bits}
-use Rattle.run_theorems.proofs.Codes.{tells-form, tells-sex}
-use Rattle.text_theorems.proofs.SoundRecord.{Sound, taken-apart}
-use Rattle.run_theorems.proofs.FieldBits.{put-number, puts-characters}
-use Rattle.run_theorems.proofs.EntryBits.{entryBits, whole-octets, entry-filled, length-entry}
+use Rattle.zone.proofs.Every.{every-take, every-drop, every-each}
+use Rattle.entry.proofs.BitsOfOctets.{bitsOf, length-bits, bits-append}
+use Rattle.entry.proofs.OctetsOfBits.{octets-bits}
+use Rattle.entry.proofs.FormsAndSexes.{tells-form, tells-sex}
+use Rattle.sound.proofs.SoundRecord.{Sound, taken-apart}
+use Rattle.entry.proofs.FieldBits.{put-number, puts-characters}
+use Rattle.entry.proofs.EntryBits.{entryBits, whole-octets, entry-filled, length-entry}
+use Rattle.entry.proofs.Fields.{length-characters}
 
 take-bits : (n : ℕ) (s : List ℕ) → n ≤ length s → bitsOf (take n s) ≡ take (8 * n) (bitsOf s)
 take-bits n s h =
     let long : length (bitsOf (take n s)) ≡ 8 * n = length-bits (take n s) ∙ ap (λ (k : ℕ). 8 * k) (length-take-le n s h) in
-    let parted : bitsOf s ≡ bitsOf (take n s) ++ bitsOf (drop n s) = ap bitsOf (sym (take-append-drop n s)) ∙ bits-append (take n s) (drop n s) in
+    let parted : bitsOf s ≡ bitsOf (take n s) ++ bitsOf (drop n s) = ap bitsOf (sym (take-append-drop n s))
+    ∙ bits-append (take n s) (drop n s) in
     sym (ap (take (8 * n)) parted ∙ take-at (bitsOf (take n s)) (bitsOf (drop n s)) (8 * n) long)
 
 length-said : (s : List ℕ) (u : List ℕ) → put 6 (nameLength s) u ≡ put 6 (bitsAt s 272 6) u
@@ -88,7 +92,8 @@ module _ (f : Form) (s : List ℕ) (told : formIn s ≡ As f) (t : Tests f s) wh
 
   name-pure : every isCharacter (charactersAt s 278 (nameLength s)) ≡ true
   unfolding recordIn
-  name-pure = ap (every isCharacter) (sym name-there) ∙ every-take isCharacter (nameLength s) (recordIn f s .name) (o .name-characters)
+  name-pure = ap (every isCharacter) (sym name-there)
+      ∙ every-take isCharacter (nameLength s) (recordIn f s .name) (o .name-characters)
 
   rest-there : putRest (recordIn f s) (put (spare (nameLength s)) 0 [])
       ≡ take (12 + (18 + (2 + (6 + (6 * nameLength s + spare (nameLength s)))))) (drop 240 (bitsOf s))
@@ -103,9 +108,11 @@ module _ (f : Form) (s : List ℕ) (told : formIn s ≡ As f) (t : Tests f s) wh
       ap (puts (charactersAt s 278 n)) e0 ∙ puts-characters s 278 n m (omega arith) name-pure in
       let e2 : put 6 n (puts (charactersAt s 278 n) (put m 0 [])) ≡ take (6 + (6 * n + m)) (drop 272 b) =
       ap (put 6 n) e1 ∙ length-said s (take (6 * n + m) (drop 278 b)) ∙ put-number s 272 6 (6 * n + m) (omega arith) in
-      let sex : sexCode (sexBy (bitsAt s 270 2)) ≡ bitsAt s 270 2 = tells-sex (bitsAt s 270 2) (bits-below s 270 2) (o .sex-kept) in
+      let sex : sexCode (sexBy (bitsAt s 270 2))
+      ≡ bitsAt s 270 2 = tells-sex (bitsAt s 270 2) (bits-below s 270 2) (o .sex-kept) in
       rw (name-there, e2, sex, put-number s 270 2 (6 + (6 * n + m)) (omega arith))
-      (ap (puts (charactersAt s 240 2)) (puts-characters s 252 3 (2 + (6 + (6 * n + m))) (omega arith) (o .nationality-characters))
+      (ap (puts (charactersAt s 240 2))
+      (puts-characters s 252 3 (2 + (6 + (6 * n + m))) (omega arith) (o .nationality-characters))
       ∙ puts-characters s 240 2 (18 + (2 + (6 + (6 * n + m)))) (omega arith) (o .code-characters))
 
   all-there : entryBits (houseIn s) (recordIn f s) [] ≡ take (8 * size (nameLength s)) (bitsOf s)
@@ -151,7 +158,8 @@ same-next : (m n : ℕ) → next m ≡ next n → m ≡ n
 same-next m n e = cc
 
 module _ (w : List ℕ) (at n : ℕ) (small : areOctets w) (there : at ≤ length w) where
-  passed-entry : (f : Form) → formIn (drop at w) ≡ As f → isEntry f (drop at w) ≡ true → next (at + size (nameLength (drop at w))) ≡ next n
+  passed-entry : (f : Form) → formIn (drop at w) ≡ As f → isEntry f (drop at w) ≡ true
+      → next (at + size (nameLength (drop at w))) ≡ next n
       → Passed w at n (houseIn (drop at w)) (recordIn f (drop at w))
   unfolding recordIn
   passed-entry f told e same =
@@ -177,7 +185,12 @@ module _ (w : List ℕ) (at n : ℕ) (small : areOctets w) (there : at ≤ lengt
   passed-by (As f) p e = go (isEntry f (drop at w)) refl e
     where
       answer : Bool → Standing
-      answer x = cond x (record { onward = next (at + size (nameLength (drop at w))); house = houseIn (drop at w); kept = recordIn f (drop at w) }) (noEntry at)
+      answer x = cond x (record {
+        onward = next (at + size (nameLength (drop at w)));
+        house = houseIn (drop at w);
+        kept =
+            recordIn f (drop at w);
+      }) (noEntry at)
 
       go : (x : Bool) → isEntry f (drop at w) ≡ x → answer x .onward ≡ next n → Passed w at n (answer x .house) (answer x .kept)
       go true q h = passed-entry f p q h
@@ -188,12 +201,14 @@ pub lent-octets : (w : List ℕ) → ((i : ℕ) → i < length w → getD w i 0 
 unfolding isOctet
 lent-octets w h = every-each isOctet w (λ i k. lt-ltb (getD w i 0) 256 (h i k))
 
-pub passed-over : (w : List ℕ) (at n : ℕ) → areOctets w → readEntry w at .onward ≡ next n → Passed w at n (readEntry w at .house) (readEntry w at .kept)
+pub passed-over : (w : List ℕ) (at n : ℕ) → areOctets w → readEntry w at .onward ≡ next n
+    → Passed w at n (readEntry w at .house) (readEntry w at .kept)
 unfolding readEntry noEntry
 passed-over w at n small e = go (eqb at (length w)) (ltb (length w) at) refl e
   where
     answer : Bool → Bool → Standing
-    answer a b = cond a (record { onward = none; house = 0; kept = blank }) (cond b (noEntry at) (entryBy (formIn (drop at w)) (drop at w) at))
+    answer a b = cond a (record { onward = none; house = 0; kept = blank })
+        (cond b (noEntry at) (entryBy (formIn (drop at w)) (drop at w) at))
 
     go : (a b : Bool) → ltb (length w) at ≡ b → answer a b .onward ≡ next n → Passed w at n (answer a b .house) (answer a b .kept)
     go true b q h = absurd (none-not-next n h)

@@ -1,4 +1,5 @@
--- DEMAND 3, written and read back: where the entry of a house and a sound record stands in a run, reading there answers that house, that record
+-- DEMAND 3, written and read back: where the entry of a house and a sound record stands in a run, reading there answers that
+-- house, that record
 -- and the offset behind the entry, whatever stands before it and behind it.
 use Prim.Native.Nat.{ℕ, _+_, _*_, _≤_}
 use mathlib.Core.Path.{_≡_, refl, ap, sym, _∙_}
@@ -19,13 +20,14 @@ use Rattle.sound.specs.Sound.{isSound}
 use Rattle.entry.specs.Bits.{put, bitsAt}
 use Rattle.entry.specs.Codes.{formCode, formBy, sexCode, sexBy}
 use Rattle.entry.specs.Entry.{puts, putKey, putRest, entryOf, size, isHouse}
-use Rattle.entry.specs.Run.{next, charactersAt, houseIn, formIn, nameLength, recordIn, spare, isWhole, isEntry, entryBy, readEntry}
-use Rattle.text_theorems.proofs.TrailingFillers.{every-take}
-use Rattle.run_theorems.proofs.BitsOfOctets.{bitsOf, bits-append, put-followed}
-use Rattle.run_theorems.proofs.Codes.{form-tells, sex-tells}
-use Rattle.text_theorems.proofs.SoundRecord.{Sound, taken-apart}
-use Rattle.run_theorems.proofs.FieldBits.{next-put, next-puts, number-read, characters-read}
-use Rattle.run_theorems.proofs.EntryBits.{key-followed, rest-followed, entryBits, name-taken, length-entry, bits-entry}
+use Rattle.entry.specs.Run.{next, charactersAt, houseIn, formIn, nameLength, recordIn, spare, isWhole, isEntry, entryBy}
+use Rattle.entry.specs.Run.{readEntry}
+use Rattle.zone.proofs.Every.{every-take}
+use Rattle.entry.proofs.BitsOfOctets.{bitsOf, bits-append, put-followed}
+use Rattle.entry.proofs.FormsAndSexes.{form-tells, sex-tells}
+use Rattle.sound.proofs.SoundRecord.{Sound, taken-apart}
+use Rattle.entry.proofs.FieldBits.{next-put, next-puts, number-read, characters-read}
+use Rattle.entry.proofs.EntryBits.{key-followed, rest-followed, entryBits, name-taken, length-entry, bits-entry}
 use Rattle.zone.specs.Alphabet.{isCharacter}
 
 house-range : (h : ℕ) → isHouse h ≡ true → (1 ≤ h) × (h ≤ 32767)
@@ -97,7 +99,8 @@ rest-read r o s t b6 =
       nationality-read = characters-read s 252 3 (r .nationality) t2 (o .nationality-places) (o .nationality-characters) b7;
       sex-read = ap sexBy (number-read s 270 2 c t3 (sex .1) b8) ∙ sex .0;
       length-read = number-read s 272 6 n t4 (omega (arith, o .name-most)) b9;
-      name-read = characters-read s 278 n (take n (r .name)) t (name-taken r o) (every-take isCharacter n (r .name) (o .name-characters)) b10;
+      name-read = characters-read s 278 n (take n (r .name)) t (name-taken r o)
+          (every-take isCharacter n (r .name) (o .name-characters)) b10;
       behind = b11;
     }
 
@@ -146,7 +149,8 @@ module _ (h : ℕ) (r : Record) (house : isHouse h ≡ true) (sound : isSound r 
         let number = k .number-read-back in
         let ends : trimmedLength (charactersAt s 36 22) ≡ r .«number_len» = ap trimmedLength number ∙ o .number-ends in
         let long = a .length-read in
-        let named : padded 39 (charactersAt s 278 (nameLength s)) ≡ r .name = ap (λ (n : ℕ). padded 39 (charactersAt s 278 n)) long ∙ ap (padded 39) (a .name-read) ∙ name-whole in
+        let named : padded 39 (charactersAt s 278 (nameLength s))
+        ≡ r .name = ap (λ (n : ℕ). padded 39 (charactersAt s 278 n)) long ∙ ap (padded 39) (a .name-read) ∙ name-whole in
         λ i. record {
           form = r .form;
           code = a .code-read i;
@@ -211,5 +215,6 @@ module _ (h : ℕ) (r : Record) (house : isHouse h ≡ true) (sound : isSound r 
   pub entry-there : (w : List ℕ) (at : ℕ) (rest : List ℕ) → at ≤ length w → drop at w ≡ entryOf h r ++ rest
       → readEntry w at ≡ record { onward = next (at + length (entryOf h r)); house = h; kept = r }
   entry-there w at rest within there =
-      let whole : take at w ++ (entryOf h r ++ rest) ≡ w = ap (λ (x : List ℕ). take at w ++ x) (sym there) ∙ take-append-drop at w in
+      let whole : take at w ++ (entryOf h r ++ rest) ≡ w = ap (λ (x : List ℕ). take at w ++ x) (sym there)
+      ∙ take-append-drop at w in
       rw (whole, length-take-le at w within) at (read-back (take at w) rest)

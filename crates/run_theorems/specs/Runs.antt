@@ -71,4 +71,5 @@ pub data Ends (w : List ℕ) (ls : List Line) : Onward → Type 0 where
   -- "at the end the answer is that none is left": the bytes are those of the list
   ended : w ≡ joined ls → Ends w ls none
   -- 18, "start of that entry": the bytes begin with those of the list, go on behind them, and no entry stands there
-  broken : (p : ℕ) → p ≡ length (joined ls) → p < length w → w ≡ joined ls ++ drop p w → NoEntry (drop p w) → Ends w ls (refused 18 p)
+  broken : (p : ℕ) → p ≡ length (joined ls) → p < length w → w ≡ joined ls ++ drop p w → NoEntry (drop p w)
+      → Ends w ls (refused 18 p)

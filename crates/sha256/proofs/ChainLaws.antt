@@ -26,7 +26,8 @@ chained-one H M e =
     let le : length M ≤ 64 = omega arith in
     let ge : 64 ≤ length M = omega arith in
     let few : length (drop 64 M) < 64 = rw length-drop (omega arith) in
-    sym (ap (compressed H) (take-all 64 M le)) ∙ sym (chained-none (compressed H (take 64 M)) (drop 64 M) few) ∙ chained-more H M ge
+    sym (ap (compressed H) (take-all 64 M le)) ∙ sym (chained-none (compressed H (take 64 M)) (drop 64 M) few)
+    ∙ chained-more H M ge
 
 chained-two : (H M N : List ℕ) → length M ≡ 64 → length N ≡ 64 → compressed (compressed H M) N ≡ chained H (M ++ N)
 chained-two H M N em en =

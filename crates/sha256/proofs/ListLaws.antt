@@ -2,17 +2,14 @@
 use mathlib.Core.Path.{_≡_, sym, _∙_}
 use mathlib.Core.List.{List, [], _∷_, _++_, append-nil}
 use Prim.Native.Nat.{ℕ, zero, suc, _+_, _-_, _≤_}
-use native.Mathlib.Nat.{zero-add, add-zero, add-suc, suc-add, le-of-eq}
+use native.Mathlib.Nat.{zero-add, add-zero, add-suc, suc-add}
 use native.Mathlib.Omega.{arith}
 use lib.ListN.{length, take, drop, set, replicate, length-append, length-drop, drop-of-length-le, take-append-drop}
 use lib.Seq.{sets, sets-eq, take-all, take-nil, drop-drop, length-take-le}
 
--- a part up to the end is all that is left
-pub rest-all : (m : List ℕ) (at : ℕ) → take (length m - at) (drop at m) ≡ drop at m
-rest-all m at = take-all (length m - at) (drop at m) (le-of-eq (length-drop at m))
-
 -- 32 octets copied to the front of a longer range
-pub front-copied : (d out : List ℕ) → length d ≡ 32 → 32 ≤ length out → take (length out) d ++ drop (length d) out ≡ d ++ drop 32 out
+pub front-copied : (d out : List ℕ) → length d ≡ 32 → 32 ≤ length out
+    → take (length out) d ++ drop (length d) out ≡ d ++ drop 32 out
 front-copied d out n h = let le : length d ≤ length out = omega arith in rw (take-all (length out) d, n)
 
 pub take-part : (i j : ℕ) (l : List ℕ) → take j (drop i l) ≡ drop i (take (i + j) l)

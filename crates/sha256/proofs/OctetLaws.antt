@@ -55,7 +55,17 @@ joined-more h l i hi hl =
     let rest : drop (4 * i + 4) (P ++ D) ≡ drop 4 D =
     ap (λ (k : ℕ). drop (k + 4) (P ++ D)) (sym n) ∙ drop-append-add P D 4 in
     sets-eq vs (P ++ D) (4 * i) fits
-    ∙ rw (nv, take-at P D (4 * i) n, rest, drop-drop 4 (4 * i) l, four, add-one, take-suc h i 0, joined-append (take i h), append-nil)
+    ∙ rw (
+      nv,
+      take-at P D (4 * i) n,
+      rest,
+      drop-drop 4 (4 * i) l,
+      four,
+      add-one,
+      take-suc h i 0,
+      joined-append (take i h),
+      append-nil,
+    )
 
 -- a number's octets look at its low bits only, whatever stands above them
 octets-mod : (k m v : ℕ) → octets k (v % 2 ^ (m + 8 * k)) ≡ octets k v
@@ -75,7 +85,8 @@ octets-append (suc j) k v =
 
 -- the length of n octets in bits, stored as two words at the end of a block
 pub put-length : (l : List ℕ) (n : ℕ) → length l ≡ 64
-    → sets (sets l 56 (octets 4 (n / 2 ^ 29 % 2 ^ 32))) 60 (octets 4 (n * 2 ^ 3 % 2 ^ 64 % 2 ^ 32)) ≡ take 56 l ++ octets 8 (8 * n)
+    → sets (sets l 56 (octets 4 (n / 2 ^ 29 % 2 ^ 32))) 60 (octets 4 (n * 2 ^ 3 % 2 ^ 64 % 2 ^ 32)) ≡ take 56 l
+    ++ octets 8 (8 * n)
 put-length l n len =
     let a = octets 4 (8 * n / 2 ^ 32) in
     let b = octets 4 (8 * n) in

@@ -8,7 +8,8 @@ use lib.Seq.{take-all, set-append-seam, take-at, drop-append-le, take-append-le}
 use Rattle.sha256.specs.Padding.{octets, zeros, padding, padded}
 use Rattle.sha256.proofs.ListLaws.{drop-replicate}
 
--- what 5.1.1 asks: of l = 8 n bits, with k zero bits, 7 of them in the mark's octet, l + 1 + k is 448 modulo 512, and no smaller k would do
+-- what 5.1.1 asks: of l = 8 n bits, with k zero bits, 7 of them in the mark's octet, l + 1 + k is 448 modulo 512, and no smaller
+-- k would do
 pub zeros-right : (n : ℕ) → (8 * n + 1 + (7 + 8 * zeros n)) % 512 ≡ 448
 unfolding zeros
 zeros-right n = omega arith

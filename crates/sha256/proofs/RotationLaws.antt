@@ -1,7 +1,8 @@
 -- Laws on the rotation of words of any width w: what it is in numbers, that it passes through XOR, and that rotations add.
 use mathlib.Core.Path.{_≡_, ap, ap₂, sym, _∙_}
 use Prim.Native.Nat.{ℕ, _+_, _-_, _*_, _/_, _%_, _^_, _≤_, _<_}
-use native.Mathlib.Nat.{add-comm, add-assoc, add-zero, add-mul, mul-assoc, mul-comm, mul-mod-left, mul-add-mod-self-right, mul-add-div-right, mod-lt}
+use native.Mathlib.Nat.{add-comm, add-assoc, add-zero, add-mul, mul-assoc, mul-comm, mul-mod-left, mul-add-mod-self-right}
+use native.Mathlib.Nat.{mul-add-div-right, mod-lt}
 use native.Mathlib.Omega.{arith}
 use lib.Arith.{digits-lt}
 use lib.Bits.{bitXor, or-shifted-r, xor-shr, xor-mod, xor-block, xor-lt}
@@ -73,7 +74,8 @@ nest-two w a b x h bx =
     ∙ ap (bitXor (rotr w a x)) (rotr-rotr w a b x h bx)
 
 pub nest-three : (w a b c x : ℕ) → a + (b + c) ≤ w → x < 2 ^ w
-    → rotr w a (bitXor x (rotr w b (bitXor x (rotr w c x)))) ≡ bitXor (bitXor (rotr w a x) (rotr w (a + b) x)) (rotr w (a + (b + c)) x)
+    → rotr w a (bitXor x (rotr w b (bitXor x (rotr w c x))))
+    ≡ bitXor (bitXor (rotr w a x) (rotr w (a + b) x)) (rotr w (a + (b + c)) x)
 nest-three w a b c x h bx =
     let P = rotr w b x in
     let Q = rotr w (b + c) x in

@@ -30,7 +30,17 @@ schedule M = extended 48 (upTo (word M) 16)
 -- step 2: the working variables are the words of the hash value
 unfoldable pub started : List ℕ → Working
 started H =
-    record { a = getD H 0 0; b = getD H 1 0; c = getD H 2 0; d = getD H 3 0; e = getD H 4 0; f = getD H 5 0; g = getD H 6 0; h = getD H 7 0 }
+    record {
+      a = getD H 0 0;
+      b = getD H 1 0;
+      c = getD H 2 0;
+      d = getD H 3 0;
+      e = getD H 4 0;
+      f = getD H 5 0;
+      g = getD H 6 0;
+      h =
+          getD H 7 0;
+    }
 
 -- step 3: T1 and T2, of the constant K_t, the word W_t and the working variables
 unfoldable pub T1 : ℕ → ℕ → Working → ℕ

@@ -1,3 +1,4 @@
 -- The laws of this crate.
 pub mod Numbers  -- what a number leaves in its room
 pub mod Walks  -- the order in which the code joins its checks is the text order
+pub mod Near  -- a refusal stands near the text

@@ -7,7 +7,8 @@ use Rattle.refusal.specs.Outcome.{Outcome, orElse}
 use Rattle.refusal.proofs.Outcomes.{orElse-assoc, orElse-passed}
 use Rattle.zone.specs.declared.form.Form.{Form}
 use Rattle.zone.specs.declared.form.Form.the-variants.{Td1, Td2, Td3}
-use Rattle.zone.specs.Part.{Part, code, state, number, numberCheck, birth, birthCheck, sex, expiry, expiryCheck, nationality, composite, name, personal, personalCheck, optional, rank, same}
+use Rattle.zone.specs.Part.{Part, code, state, number, numberCheck, birth, birthCheck, sex, expiry, expiryCheck, nationality}
+use Rattle.zone.specs.Part.{composite, name, personal, personalCheck, optional, rank, same}
 use Rattle.zone.specs.Form.{layout, partOf, parts, start, startIn, width, widthIn}
 use Rattle.text.specs.Order.{fieldCheck, digitCheck, inOrder}
 use Rattle.text.specs.Inner.Checks.{ifHas, inTurn}

@@ -5,7 +5,8 @@ use lib.ListN.{length, getD}
 use lib.Dec.{eqb}
 use Rattle.refusal.specs.Outcome.{Outcome, passed, orElse, unless}
 use Rattle.zone.specs.Alphabet.{firstForeign}
-use Rattle.zone.specs.Part.{Part, code, state, number, numberCheck, optional, birth, birthCheck, sex, expiry, expiryCheck, nationality, optional2, composite, name, personal, personalCheck}
+use Rattle.zone.specs.Part.{Part, code, state, number, numberCheck, optional, birth, birthCheck, sex, expiry, expiryCheck}
+use Rattle.zone.specs.Part.{nationality, optional2, composite, name, personal, personalCheck}
 use Rattle.zone.specs.Form.{parts, start, field, covered}
 use Rattle.zone.specs.declared.form.Form.{Form}
 use Rattle.digit.specs.Check.{digitOf}

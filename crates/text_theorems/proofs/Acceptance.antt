@@ -14,7 +14,8 @@ use Rattle.zone.specs.declared.form.Recognised.{Recognised}
 use Rattle.zone.specs.declared.form.Recognised.the-variants.{As, Unknown}
 use Rattle.zone.specs.Alphabet.{isCharacter, isFiller, isForeign, firstForeign}
 use Rattle.zone.proofs.First.{first-none, none-first}
-use Rattle.zone.specs.Part.{Part, code, state, number, numberCheck, optional, birth, birthCheck, sex, expiry, expiryCheck, nationality, optional2, composite, name, personal, personalCheck}
+use Rattle.zone.specs.Part.{Part, code, state, number, numberCheck, optional, birth, birthCheck, sex, expiry, expiryCheck}
+use Rattle.zone.specs.Part.{nationality, optional2, composite, name, personal, personalCheck}
 use Rattle.zone.specs.Form.{formOf, parts, start, width, total, field, covered}
 use Rattle.digit.specs.Check.{digitOf}
 use Rattle.field.specs.Code.{codeRule}
@@ -26,7 +27,8 @@ use Rattle.text.specs.Order.{characters, fieldCheck, numberDigit, furtherDigit,
 use Rattle.text.specs.Read.{readText, readBy, answered, recordBy}
 use Rattle.text_theorems.specs.Accepted.{Keeps, has, filler}
 use Rattle.text_theorems.proofs.FirstFailing.{answered-outcome}
-use Rattle.text_theorems.proofs.FormByLength.{told-by, by-told, common}
+use Rattle.zone.proofs.FormByLength.{told-by, by-told}
+use Rattle.text_theorems.proofs.FormByLength.{common}
 use Rattle.refusal.proofs.Outcomes.{refused-not-passed, both-passed, unless-kept, kept-unless}
 use Rattle.text_theorems.proofs.PartByPart.{digit-kept, kept-digit, walk-each, each-walk}
 use Rattle.text_theorems.proofs.NumberSpan.{short-span, long-span, span-ends, long-has}
@@ -46,10 +48,12 @@ module _ (f : Form) (t : List ℕ) (told : length t ≡ total f) (accepted : ver
   span : Span
   span = spanOf f t
 
-  stages : (characters t ≡ passed) × (inOrder (fieldCheck f t span) (parts f) ≡ passed) × (inOrder (digitCheck f t span) (parts f) ≡ passed)
+  stages : (characters t ≡ passed) × (inOrder (fieldCheck f t span) (parts f) ≡ passed)
+      × (inOrder (digitCheck f t span) (parts f) ≡ passed)
   unfolding verdictBy span
   stages =
-      let one = both-passed (characters t) (orElse (inOrder (fieldCheck f t span) (parts f)) (inOrder (digitCheck f t span) (parts f))) accepted in
+      let one = both-passed (characters t)
+      (orElse (inOrder (fieldCheck f t span) (parts f)) (inOrder (digitCheck f t span) (parts f))) accepted in
       let two = both-passed (inOrder (fieldCheck f t span) (parts f)) (inOrder (digitCheck f t span) (parts f)) (one .1) in
       (one .0, two .0, two .1)
 
@@ -75,7 +79,8 @@ module _ (f : Form) (t : List ℕ) (told : length t ≡ total f) (accepted : ver
   short-kept : isLong f t ≡ false → getD t (start f numberCheck) 0 ≡ digitOf (field f number t)
   unfolding span digitCheck numberDigit checkedBy
   short-kept short =
-      digit-kept t (start f numberCheck) (field f number t) (rw (short-span f t short) at (digit-passed numberCheck (common f .has-number-check)))
+      digit-kept t (start f numberCheck) (field f number t)
+      (rw (short-span f t short) at (digit-passed numberCheck (common f .has-number-check)))
 
   long-kept : isLong f t ≡ true
       → getD t (start f optional + (filler f t - 1)) 0 ≡ digitOf (field f number t ++ take (filler f t - 1) (field f optional t))
@@ -88,7 +93,8 @@ module _ (f : Form) (t : List ℕ) (told : length t ≡ total f) (accepted : ver
   unfolding characters firstForeign isForeign
   characters-kept i h =
       not-false (isCharacter (getD t i 0))
-      (first-none isForeign t (eqb-true (firstForeign t) (length t) (unless-kept (eqb (firstForeign t) (length t)) 2 (firstForeign t) (stages .0))) i h)
+      (first-none isForeign t (eqb-true (firstForeign t) (length t)
+      (unless-kept (eqb (firstForeign t) (length t)) 2 (firstForeign t) (stages .0))) i h)
 
   pub keeps : Keeps f t
   unfolding fieldCheck digitCheck
@@ -99,7 +105,8 @@ module _ (f : Form) (t : List ℕ) (told : length t ≡ total f) (accepted : ver
     state-kept = unless-kept (stateRule (field f state t)) 4 (start f state) (field-passed state (common f .has-state));
     number-begins = number-kept .0;
     number-ends = ends;
-    nationality-kept = unless-kept (stateRule (field f nationality t)) 4 (start f nationality) (field-passed nationality (common f .has-nationality));
+    nationality-kept = unless-kept (stateRule (field f nationality t)) 4 (start f nationality)
+        (field-passed nationality (common f .has-nationality));
     birth-kept = unless-kept (birthRule (field f birth t)) 6 (start f birth) (field-passed birth (common f .has-birth));
     sex-kept = unless-kept (sexRule (getD t (start f sex) 0)) 7 (start f sex) (field-passed sex (common f .has-sex));
     expiry-kept = unless-kept (expiryRule (field f expiry t)) 6 (start f expiry) (field-passed expiry (common f .has-expiry));
@@ -116,14 +123,17 @@ module _ (f : Form) (t : List ℕ) (told : length t ≡ total f) (accepted : ver
 
 module _ (f : Form) (t : List ℕ) (k : Keeps f t) where
   -- short or long, the number's own digit is right at the one place where it stands
-  number-right : (b : Bool) → isLong f t ≡ b → (spanRule (spanOf f t) ≡ true) × (numberDigit f t (spanOf f t) ≡ passed) × (furtherDigit f t (spanOf f t) ≡ passed)
+  number-right : (b : Bool) → isLong f t ≡ b
+      → (spanRule (spanOf f t) ≡ true) × (numberDigit f t (spanOf f t) ≡ passed) × (furtherDigit f t (spanOf f t) ≡ passed)
   unfolding spanRule numberDigit furtherDigit checkedBy
-  number-right false e = rw (short-span f t e) (refl, kept-digit t (start f numberCheck) (field f number t) (k .number-digit e), refl)
+  number-right false e = rw (short-span f t e)
+      (refl, kept-digit t (start f numberCheck) (field f number t) (k .number-digit e), refl)
   number-right true e =
       rw (long-span f t e (k .number-ends e .0) (k .number-ends e .1)) (
         refl,
         refl,
-        kept-digit t (start f optional + (filler f t - 1)) (field f number t ++ take (filler f t - 1) (field f optional t)) (k .long-digit e),
+        kept-digit t (start f optional + (filler f t - 1)) (field f number t ++ take (filler f t - 1) (field f optional t))
+            (k .long-digit e),
       )
 
   characters-pass : characters t ≡ passed
@@ -180,17 +190,20 @@ module _ (f : Form) (t : List ℕ) (k : Keeps f t) where
       )
 
 -- a text of a form's length is read as that form
-pub read-as : (f : Form) (t : List ℕ) → length t ≡ total f → readText t ≡ answered (verdictBy f t (spanOf f t)) (recordBy f t (spanOf f t))
+pub read-as : (f : Form) (t : List ℕ) → length t ≡ total f
+    → readText t ≡ answered (verdictBy f t (spanOf f t)) (recordBy f t (spanOf f t))
 unfolding readText readBy
 read-as f t e = rw (told-by f (length t) e)
 
-accepted-by : (told : Recognised) (t : List ℕ) → readBy told t .outcome ≡ passed → (f : Form) × (told ≡ As f) × (verdictBy f t (spanOf f t) ≡ passed)
+accepted-by : (told : Recognised) (t : List ℕ) → readBy told t .outcome ≡ passed
+    → (f : Form) × (told ≡ As f) × (verdictBy f t (spanOf f t) ≡ passed)
 unfolding readBy
 accepted-by Unknown t e = absurd (refused-not-passed (sym (answered-outcome (refused 1 0) _) ∙ e))
 accepted-by (As f) t e = (f, refl, sym (answered-outcome (verdictBy f t (spanOf f t)) (recordBy f t (spanOf f t))) ∙ e)
 
 -- the form of an accepted text, and that its checks passed
-pub accepted-form : (t : List ℕ) → readText t .outcome ≡ passed → (f : Form) × (formOf (length t) ≡ As f) × (verdictBy f t (spanOf f t) ≡ passed)
+pub accepted-form : (t : List ℕ) → readText t .outcome ≡ passed
+    → (f : Form) × (formOf (length t) ≡ As f) × (verdictBy f t (spanOf f t) ≡ passed)
 unfolding readText
 accepted-form t e = accepted-by (formOf (length t)) t e
 
@@ -203,4 +216,5 @@ accepted-exactly t = (forth, λ w. back (w .0) (w .1))
         (w .0, keeps (w .0) t (by-told (w .0) (length t) (w .1)) (w .2))
 
     back : (f : Form) → Keeps f t → readText t .outcome ≡ passed
-    back f k = rw (read-as f t (k .size)) (answered-outcome (verdictBy f t (spanOf f t)) (recordBy f t (spanOf f t)) ∙ passes f t k)
+    back f k = rw (read-as f t (k .size))
+        (answered-outcome (verdictBy f t (spanOf f t)) (recordBy f t (spanOf f t)) ∙ passes f t k)

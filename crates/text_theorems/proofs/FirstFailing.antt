@@ -1,4 +1,5 @@
--- DEMAND 2, the answer: reading a text answers `refused n p` exactly where n at p is the first failing check in the paper's order.
+-- DEMAND 2, the answer: reading a text answers `refused n p` exactly where n at p is the first failing check in the paper's
+-- order.
 use Prim.Native.Nat.{ℕ, _+_, _<_}
 use mathlib.Core.Path.{_≡_, refl, ap, sym, _∙_}
 use mathlib.Core.Logic.{_↔_}
@@ -104,5 +105,6 @@ in-text-order Td2 = refl
 in-text-order Td3 = refl
 
 -- and a long number's digit stands within the optional field, which the walk looks at in its stead
-pub digit-within : (f : Form) (t : List ℕ) (n : ℕ) → spanOf f t ≡ Long n → start f optional + n < start f optional + width f optional
+pub digit-within : (f : Form) (t : List ℕ) (n : ℕ) → spanOf f t ≡ Long n
+    → start f optional + n < start f optional + width f optional
 digit-within f t n e = omega (arith, span-within f t n e)

@@ -1,7 +1,7 @@
 -- How a number stands, from whether it is long and where the first filler of the optional field is.
 use Prim.Native.Nat.{ℕ, _-_, _≤_, _<_}
 use mathlib.Core.Path.{_≡_, refl}
-use mathlib.Core.Bool.{Bool, true, false, cond, _&&_}
+use mathlib.Core.Bool.{Bool, true, false, cond, _&&_, false≢true}
 use mathlib.Core.List.{List}
 use native.Mathlib.Omega.{arith}
 use borrow.Author.Tests.{le-leb, lt-ltb, leb-true, ltb-true}
@@ -15,19 +15,18 @@ use Rattle.text.specs.declared.number.Span.the-variants.{Short, Long, Bad}
 use Rattle.text.specs.Number.{isLong, cutAt, spanOf, spanRule}
 use Rattle.text_theorems.specs.Accepted.{filler, has, among}
 
-pub false-not-true : _≡_ {A = Bool} false true → ⊥
-false-not-true e = let z : _≡_ {A = ℕ} 0 1 = cc in omega arith
-
 pub short-span : (f : Form) (t : List ℕ) → isLong f t ≡ false → spanOf f t ≡ Short
 unfolding spanOf
 short-span f t e = rw e
 
-pub long-span : (f : Form) (t : List ℕ) → isLong f t ≡ true → 2 ≤ filler f t → filler f t < width f optional → spanOf f t ≡ Long (filler f t - 1)
+pub long-span : (f : Form) (t : List ℕ) → isLong f t ≡ true → 2 ≤ filler f t → filler f t < width f optional
+    → spanOf f t ≡ Long (filler f t - 1)
 unfolding spanOf cutAt
 long-span f t e h k = rw (e, le-leb 2 (filler f t) h, lt-ltb (filler f t) (width f optional) k)
 
 -- a long number that ends as it should has its filler where it should
-pub span-ends : (f : Form) (t : List ℕ) → spanRule (spanOf f t) ≡ true → isLong f t ≡ true → (2 ≤ filler f t) × (filler f t < width f optional)
+pub span-ends : (f : Form) (t : List ℕ) → spanRule (spanOf f t) ≡ true → isLong f t ≡ true
+    → (2 ≤ filler f t) × (filler f t < width f optional)
 unfolding spanOf cutAt spanRule
 span-ends f t e long = go (leb 2 k && ltb k w) refl (rw long at e)
   where
@@ -42,14 +41,14 @@ span-ends f t e long = go (leb 2 k && ltb k w) refl (rw long at e)
     go false p q = absurd (bad q)
       where
         bad : spanRule Bad ≡ true → ⊥
-        bad r = false-not-true r
+        bad r = false≢true r
 
 -- a form with long numbers has an optional field
 pub long-has : (f : Form) (t : List ℕ) → isLong f t ≡ true → has f optional ≡ true
 unfolding has among parts partOf layout same rank isLong longest
 long-has Td1 t e = refl
 long-has Td2 t e = refl
-long-has Td3 t e = absurd (false-not-true e)
+long-has Td3 t e = absurd (false≢true e)
 
 -- the further characters and their digit stand within the optional field
 pub span-within : (f : Form) (t : List ℕ) (n : ℕ) → spanOf f t ≡ Long n → n < width f optional

@@ -1,6 +1,6 @@
 -- A walk over parts passes exactly where every part's check does.
 use Prim.Native.Nat.{ℕ}
-use mathlib.Core.Path.{_≡_, refl, ap, sym, _∙_}
+use mathlib.Core.Path.{_≡_, refl, ap, _∙_}
 use mathlib.Core.Bool.{Bool, true, false, _||_}
 use mathlib.Core.List.{List, [], _∷_}
 use native.Mathlib.Omega.{arith}
@@ -9,54 +9,24 @@ use lib.Dec.{eqb}
 use lib.ListN.{getD}
 use Rattle.refusal.specs.Outcome.{Outcome, passed}
 use Rattle.refusal.proofs.Outcomes.{both-passed, unless-kept, kept-unless}
-use Rattle.zone.specs.Part.{Part, code, state, number, numberCheck, optional, birth, birthCheck, sex, expiry, expiryCheck, nationality, optional2, composite, name, personal, personalCheck, rank, same}
+use Rattle.zone.specs.Part.{Part, same}
 use Rattle.text.specs.Order.{inOrder, digitAt}
 use Rattle.digit.specs.Check.{digitOf}
 use Rattle.text_theorems.specs.Accepted.{among}
+use Rattle.zone.proofs.Parts.{same-one, same-self}
 
 pub digit-kept : (t : List ℕ) (place : ℕ) (covers : List ℕ) → digitAt t place covers ≡ passed → getD t place 0 ≡ digitOf covers
 unfolding digitAt
-digit-kept t place covers e = eqb-true (getD t place 0) (digitOf covers) (unless-kept (eqb (getD t place 0) (digitOf covers)) 9 place e)
+digit-kept t place covers e = eqb-true (getD t place 0) (digitOf covers)
+    (unless-kept (eqb (getD t place 0) (digitOf covers)) 9 place e)
 
 pub kept-digit : (t : List ℕ) (place : ℕ) (covers : List ℕ) → getD t place 0 ≡ digitOf covers → digitAt t place covers ≡ passed
 unfolding digitAt
-kept-digit t place covers e = kept-unless (eqb (getD t place 0) (digitOf covers)) 9 place (eq-eqb (getD t place 0) (digitOf covers) e)
+kept-digit t place covers e = kept-unless (eqb (getD t place 0) (digitOf covers)) 9 place
+    (eq-eqb (getD t place 0) (digitOf covers) e)
 
--- two parts of one rank are one part
-ranked : ℕ → Part
-ranked n =
-    getD
-    (code ∷ state ∷ number ∷ numberCheck ∷ optional ∷ birth ∷ birthCheck ∷ sex ∷ expiry ∷ expiryCheck ∷ nationality ∷ optional2 ∷ composite
-    ∷ name ∷ personal ∷ personalCheck ∷ []) n code
-
-ranked-rank : (x : Part) → ranked (rank x) ≡ x
-unfolding ranked rank
-ranked-rank code = refl
-ranked-rank state = refl
-ranked-rank number = refl
-ranked-rank numberCheck = refl
-ranked-rank optional = refl
-ranked-rank birth = refl
-ranked-rank birthCheck = refl
-ranked-rank sex = refl
-ranked-rank expiry = refl
-ranked-rank expiryCheck = refl
-ranked-rank nationality = refl
-ranked-rank optional2 = refl
-ranked-rank composite = refl
-ranked-rank name = refl
-ranked-rank personal = refl
-ranked-rank personalCheck = refl
-
-same-one : (x y : Part) → same x y ≡ true → x ≡ y
-unfolding same
-same-one x y e = sym (ranked-rank x) ∙ (ap ranked (eqb-true (rank x) (rank y) e) ∙ ranked-rank y)
-
-same-self : (x : Part) → same x x ≡ true
-unfolding same
-same-self x = eq-eqb (rank x) (rank x) refl
-
-pub walk-each : (check : Part → Outcome) (xs : List Part) → inOrder check xs ≡ passed → (x : Part) → among x xs ≡ true → check x ≡ passed
+pub walk-each : (check : Part → Outcome) (xs : List Part) → inOrder check xs ≡ passed → (x : Part) → among x xs ≡ true
+    → check x ≡ passed
 unfolding inOrder among
 walk-each check [] e x h = absurd (let z : _≡_ {A = ℕ} 0 1 = cc in omega arith)
 walk-each check (y ∷ ys) e x h = go (same x y) refl h (walk-each check ys (parted .1) x)
@@ -68,7 +38,8 @@ walk-each check (y ∷ ys) e x h = go (same x y) refl h (walk-each check ys (par
     go true p q rest = ap check (same-one x y p) ∙ parted .0
     go false p q rest = rest q
 
-pub each-walk : (check : Part → Outcome) (xs : List Part) → ((x : Part) → among x xs ≡ true → check x ≡ passed) → inOrder check xs ≡ passed
+pub each-walk : (check : Part → Outcome) (xs : List Part) → ((x : Part) → among x xs ≡ true → check x ≡ passed)
+    → inOrder check xs ≡ passed
 unfolding inOrder among
 each-walk check [] h = refl
 each-walk check (y ∷ ys) h = rw (h y first, each-walk check ys (λ x m. h x (later x m)))

@@ -15,7 +15,7 @@ use Rattle.zone.specs.Alphabet.{isCharacter, isFiller, isLetter, isDigit, every
 use Rattle.zone.specs.Part.{Part, code, state, number, optional, birth, expiry, nationality, name, rank, same}
 use Rattle.zone.specs.Form.{start, width, widthIn, layout, total, longest, field}
 use Rattle.zone.specs.Record.{trimmedLength, trimmed, padded}
-use Rattle.zone.proofs.Widths.{within, fixed}
+use Rattle.zone.proofs.Widths.{within, fixed, name-room}
 use Rattle.zone.proofs.Padded.{padded-exact, padded-spare, padded-trimmed, length-padded, take-padded, trimmed-le, trimmed-length}
 use Rattle.field.specs.Code.{codeRule}
 use Rattle.field.specs.Letters.{stateRule, nameRule, isNameCharacter}
@@ -25,11 +25,13 @@ use Rattle.text.specs.Read.{readText, answered, recordBy}
 use Rattle.sound.specs.Sound.{isShaped, isHeld, isSolid, isNumber, isDocument, isHolder, isSound}
 use Rattle.text_theorems.specs.Accepted.{Keeps, filler}
 use Rattle.text_theorems.specs.Held.{Holds}
-use Rattle.text_theorems.proofs.FormByLength.{by-told}
+use Rattle.zone.proofs.FormByLength.{by-told}
 use Rattle.text_theorems.proofs.NumberSpan.{short-span, long-span}
 use Rattle.text_theorems.proofs.Acceptance.{keeps, accepted-form, read-as}
-use Rattle.text_theorems.proofs.SoundRecord.{name-room}
-use Rattle.text_theorems.proofs.TrailingFillers.{trimmed-fillers, trimmed-twice, trimmed-some, ends-solid, letter-solid, solid-before, every-append, every-take, every-drop, every-replicate, every-each}
+use Rattle.zone.proofs.Trimmed.{trimmed-fillers, trimmed-twice, trimmed-some}
+use Rattle.sound.proofs.Solid.{ends-solid, solid-before}
+use Rattle.zone.proofs.Classes.{letter-solid}
+use Rattle.zone.proofs.Every.{every-append, every-take, every-drop, every-replicate, every-each}
 
 -- ---- widths
 
@@ -53,7 +55,8 @@ field-length f x t e = rw (length-take, length-drop) (omega (arith, within f x))
 -- ---- lists with fillers behind them
 
 -- a list that ends in no filler, with room to spare
-held : (most n : ℕ) (s : List ℕ) → 1 ≤ length s → length s ≤ most → length s ≤ n → trimmedLength s ≡ length s → isHeld most (padded n s) (length s) ≡ true
+held : (most n : ℕ) (s : List ℕ) → 1 ≤ length s → length s ≤ most → length s ≤ n → trimmedLength s ≡ length s
+    → isHeld most (padded n s) (length s) ≡ true
 unfolding isHeld
 held most n s a b c e =
     rw (
@@ -68,7 +71,8 @@ first-padded : (n : ℕ) (s : List ℕ) → length s ≤ n → 0 < length s → 
 first-padded n s h k = rw (padded-spare n s h) (List·getD-append s (replicate (n - length s) 60) 0 0 k)
 
 every-padded : (p : ℕ → Bool) (n : ℕ) (s : List ℕ) → length s ≤ n → p 60 ≡ true → every p s ≡ true → every p (padded n s) ≡ true
-every-padded p n s h q e = rw (padded-spare n s h) (every-append p s (replicate (n - length s) 60) e (every-replicate p (n - length s) 60 q))
+every-padded p n s h q e = rw (padded-spare n s h)
+    (every-append p s (replicate (n - length s) 60) e (every-replicate p (n - length s) 60 q))
 
 filler-character : isCharacter 60 ≡ true
 unfolding isCharacter isDigit isLetter isFiller
@@ -131,7 +135,8 @@ module _ (f : Form) (t : List ℕ) (k : Keeps f t) where
         fits = omega (arith, nine, number-room f .1, ends .1);
         ends = ends-solid s rest solid (omega (arith, ends .0));
         begins = rw (List·getD-append s rest 0 0 (omega (arith, nine))) (k .number-begins);
-        pure = every-append isCharacter s rest (pure-field number) (every-take isCharacter (filler f t - 1) (field f optional t) (pure-field optional));
+        pure = every-append isCharacter s rest (pure-field number)
+            (every-take isCharacter (filler f t - 1) (field f optional t) (pure-field optional));
         further = rw (drop-at s rest 9 nine) solid;
       }
 
@@ -205,7 +210,8 @@ module _ (f : Form) (t : List ℕ) (k : Keeps f t) where
       )
       (sure .further)
 
-  name-sound : isHeld (width f name) (padded 39 (trimmed (field f name t))) (length (trimmed (field f name t))) && nameRule (padded 39 (trimmed (field f name t))) ≡ true
+  name-sound : isHeld (width f name) (padded 39 (trimmed (field f name t))) (length (trimmed (field f name t)))
+      && nameRule (padded 39 (trimmed (field f name t))) ≡ true
   unfolding nameRule trimmed
   name-sound =
       let s = field f name t in
@@ -214,9 +220,11 @@ module _ (f : Form) (t : List ℕ) (k : Keeps f t) where
       let some : 0 < length s = omega (arith, name-length, some-name f) in
       let kept : 1 ≤ trimmedLength s = trimmed-some s some (letter-solid (getD s 0 0) (both .0)) in
       both-and
-      (held (width f name) 39 (trimmed s) (rw (trimmed-length s) kept) (rw (trimmed-length s) (omega (arith, trimmed-le s, name-length))) name-fits
+      (held (width f name) 39 (trimmed s) (rw (trimmed-length s) kept)
+      (rw (trimmed-length s) (omega (arith, trimmed-le s, name-length))) name-fits
       (trimmed-twice s ∙ sym (trimmed-length s)))
-      (rw (padded-trimmed 39 s, first-padded 39 s long some, both .0) (every-padded isNameCharacter 39 s long filler-in-name (both .1)))
+      (rw (padded-trimmed 39 s, first-padded 39 s long some, both .0)
+      (every-padded isNameCharacter 39 s long filler-in-name (both .1)))
 
   pub sound : isSound (recordBy f t (spanOf f t)) ≡ true
   unfolding isSound isDocument isHolder recordBy
@@ -232,7 +240,8 @@ module _ (f : Form) (t : List ℕ) (k : Keeps f t) where
       (both-and (ap expiryRule (exact expiry 6 (fixed f .expiry-width)) ∙ k .expiry-kept)
       name-sound)))))
 
-pub kept-and-sound : (t : List ℕ) → readText t .outcome ≡ passed → (f : Form) × Keeps f t × Holds f t (readText t .kept) × (isSound (readText t .kept) ≡ true)
+pub kept-and-sound : (t : List ℕ) → readText t .outcome ≡ passed
+    → (f : Form) × Keeps f t × Holds f t (readText t .kept) × (isSound (readText t .kept) ≡ true)
 unfolding answered
 kept-and-sound t e =
     let w = accepted-form t e in

@@ -4,7 +4,7 @@
 --   text-tells : isSound r ≡ true → isSound q ≡ true → textOf r ≡ textOf q → r ≡ q
 use Prim.Native.Nat.{ℕ, suc, _+_, _-_, _≤_, _<_}
 use mathlib.Core.Path.{_≡_, refl, ap, sym, _∙_}
-use mathlib.Core.Bool.{Bool, true, false, cond, _&&_}
+use mathlib.Core.Bool.{Bool, true, false, cond, _&&_, false≢true}
 use mathlib.Core.List.{List, [], _∷_, _++_}
 use native.Mathlib.Omega.{arith}
 use borrow.Author.Tests.{lt-ltb, ltb-false}
@@ -17,11 +17,12 @@ use Rattle.zone.specs.declared.form.Form.{Form}
 use Rattle.zone.specs.declared.form.Form.the-variants.{Td1, Td2, Td3}
 use Rattle.zone.specs.declared.record.Record.{Record}
 use Rattle.zone.specs.Alphabet.{isCharacter, isFiller, isLetter, firstFiller, every}
-use Rattle.zone.specs.Part.{code, state, number, numberCheck, optional, birth, birthCheck, sex, expiry, expiryCheck, nationality, name, personal, personalCheck, rank, same}
+use Rattle.zone.specs.Part.{code, state, number, numberCheck, optional, birth, birthCheck, sex, expiry, expiryCheck, nationality}
+use Rattle.zone.specs.Part.{name, personal, personalCheck, rank, same}
 use Rattle.zone.specs.Form.{parts, partOf, layout, start, width, widthIn, total, longest, field}
 use Rattle.zone.specs.Record.{trimmed, padded}
-use Rattle.zone.proofs.Widths.{fixed}
-use Rattle.zone.proofs.Padded.{padded-nil, padded-exact, padded-trimmed, trimmed-length}
+use Rattle.zone.proofs.Widths.{fixed, name-room, ones}
+use Rattle.zone.proofs.Padded.{padded-nil, padded-exact, padded-trimmed, trimmed-length, padded-behind}
 use Rattle.digit.specs.Check.{digitOf}
 use Rattle.field.specs.Code.{codeRule}
 use Rattle.field.specs.Letters.{stateRule, sexRule, nameRule, isNameCharacter}
@@ -31,13 +32,16 @@ use Rattle.text.specs.Read.{Answer, readText, answered, recordBy}
 use Rattle.sound.specs.Sound.{isSolid, isSound}
 use Rattle.writing.specs.Text.{numberIn, furtherIn, isWide, textOf}
 use Rattle.text_theorems.specs.Accepted.{Keeps, filler, has, among}
-use Rattle.text_theorems.proofs.NumberSpan.{false-not-true, short-span, long-span}
+use Rattle.text_theorems.proofs.NumberSpan.{short-span, long-span}
 use Rattle.text_theorems.proofs.Acceptance.{passes, read-as}
-use Rattle.text_theorems.proofs.TrailingFillers.{every-append, every-take}
-use Rattle.text_theorems.proofs.SoundRecord.{Sound, taken-apart, name-room}
-use Rattle.text_theorems.proofs.OneCharacter.{ones, in-field}
-use Rattle.text_theorems.proofs.FilledUp.{padded-behind, trimmed-cut, solid, first-padded, fillers-digit, digit-solid, each-every}
-use Rattle.text_theorems.proofs.TextOfRecord.{atCheck, inOptional, given, is-wide, further-all, further-fits, length-text, shown, last-shown, one-shown, full-shown, front-shown, text-pure}
+use Rattle.zone.proofs.Every.{every-append, every-take, each-every}
+use Rattle.sound.proofs.SoundRecord.{Sound, taken-apart}
+use Rattle.zone.proofs.Fields.{in-field}
+use Rattle.zone.proofs.Trimmed.{trimmed-cut}
+use Rattle.sound.proofs.Solid.{solid, first-padded}
+use Rattle.digit.proofs.Written.{fillers-digit, digit-solid}
+use Rattle.text_theorems.proofs.TextOfRecord.{atCheck, inOptional, given, is-wide, further-all, further-fits, length-text}
+use Rattle.text_theorems.proofs.TextOfRecord.{shown, last-shown, one-shown, full-shown, front-shown, text-pure}
 
 and-false : (b : Bool) → b && false ≡ false
 and-false true = refl
@@ -49,8 +53,8 @@ filled-again n s e = padded-trimmed n s ∙ padded-exact n s e
 
 personal-one : (f : Form) → has f personalCheck ≡ true → width f personalCheck ≡ 1
 unfolding has among parts partOf layout width widthIn same rank
-personal-one Td1 e = absurd (false-not-true e)
-personal-one Td2 e = absurd (false-not-true e)
+personal-one Td1 e = absurd (false≢true e)
+personal-one Td2 e = absurd (false≢true e)
 personal-one Td3 e = refl
 
 module _ (r : Record) (s : Sound r) where
@@ -105,13 +109,15 @@ module _ (r : Record) (s : Sound r) where
     filler-shown : filler f t ≡ length (furtherIn r) + 1
     filler-shown =
         ap firstFiller optional-padded
-        ∙ first-padded (width f optional) (furtherIn r ++ (digitOf (numberIn r) ∷ [])) solids (rw one-more (further-fits r s wide .1))
+        ∙ first-padded (width f optional) (furtherIn r ++ (digitOf (numberIn r) ∷ [])) solids
+        (rw one-more (further-fits r s wide .1))
         ∙ one-more
 
     optional-shown : field f optional t
         ≡ furtherIn r ++ (digitOf (numberIn r) ∷ replicate (width f optional - suc (length (furtherIn r))) 60)
     optional-shown =
-        optional-padded ∙ padded-behind (width f optional) (furtherIn r) (digitOf (numberIn r)) (omega (arith, further-fits r s wide .1))
+        optional-padded ∙ padded-behind (width f optional) (furtherIn r) (digitOf (numberIn r))
+        (omega (arith, further-fits r s wide .1))
 
     before-filler : filler f t - 1 ≡ length (furtherIn r)
     before-filler = omega (arith, filler-shown)

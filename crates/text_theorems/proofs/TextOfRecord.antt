@@ -1,7 +1,7 @@
 -- What the text of a record holds, part by part: each part what is given for it, with fillers behind that.
 use Prim.Native.Nat.{ℕ, _+_, _-_, _≤_, _<_}
 use mathlib.Core.Path.{_≡_, refl, ap, sym, _∙_}
-use mathlib.Core.Bool.{Bool, true, false, cond, _||_}
+use mathlib.Core.Bool.{Bool, true, false, cond}
 use mathlib.Core.List.{List, [], _∷_, _++_}
 use native.Mathlib.Nat.{min-eq-left}
 use native.Mathlib.Omega.{arith}
@@ -11,27 +11,25 @@ use lib.Seq.{take-all}
 use Rattle.zone.specs.declared.form.Form.{Form}
 use Rattle.zone.specs.declared.form.Form.the-variants.{Td1, Td2, Td3}
 use Rattle.zone.specs.declared.record.Record.{Record}
-use Rattle.zone.specs.Part.{Part, code, state, number, numberCheck, optional, birth, birthCheck, sex, expiry, expiryCheck, nationality, optional2, composite, name, personal, personalCheck, rank, same}
+use Rattle.zone.specs.Part.{Part, code, state, number, numberCheck, optional, birth, birthCheck, sex, expiry, expiryCheck}
+use Rattle.zone.specs.Part.{nationality, optional2, composite, name, personal, personalCheck, rank, same}
 use Rattle.zone.specs.Alphabet.{isDigit, isLetter, isFiller, isCharacter, every}
 use Rattle.zone.specs.Form.{layout, start, width, widthIn, total, longest, field, covered}
 use Rattle.zone.specs.Record.{padded}
-use Rattle.zone.proofs.Widths.{fixed, within}
-use Rattle.zone.proofs.Padded.{padded-nil, padded-exact, trimmed-le}
+use Rattle.zone.proofs.Widths.{fixed, within, ones}
+use Rattle.zone.proofs.Padded.{padded-nil, padded-exact, trimmed-le, padded-full, cut-fillers}
 use Rattle.digit.specs.Check.{digitOf}
-use Rattle.writing.specs.Text.{put, mark, putOpening, numberIn, furtherIn, isWide, putShort, putLong, putNumber, putDates, putPerson, putLast, putAll, textOf}
+use Rattle.writing.specs.Text.{put, mark, putOpening, numberIn, furtherIn, isWide, putShort, putLong, putNumber, putDates}
+use Rattle.writing.specs.Text.{putPerson, putLast, putAll, textOf}
 use Rattle.text_theorems.specs.Accepted.{among}
-use Rattle.text_theorems.proofs.NumberSpan.{false-not-true}
-use Rattle.text_theorems.proofs.SoundRecord.{Sound}
-use Rattle.text_theorems.proofs.FilledUp.{padded-full, cut-fillers, digit-character}
-use Rattle.text_theorems.proofs.TrailingFillers.{every-append, every-take, every-drop, every-replicate}
-use Rattle.text_theorems.proofs.AfterPut.{put-none, put-more, put-filled, put-other, every-put}
-use Rattle.text_theorems.proofs.OneMarked.{length-put, single, mark-put}
-use Rattle.text_theorems.proofs.OneCharacter.{ones, personal-single, one-there}
-use Rattle.text_theorems.proofs.CompositePlace.{covered-clear}
-
-or-neither : (a b : Bool) → a || b ≡ false → (a ≡ false) × (b ≡ false)
-or-neither true b e = absurd (false-not-true (sym e))
-or-neither false b e = (refl, e)
+use Rattle.sound.proofs.SoundRecord.{Sound}
+use Rattle.digit.proofs.Written.{digit-character}
+use Rattle.zone.proofs.Every.{every-append, every-take, every-drop, every-replicate}
+use Rattle.writing.proofs.AfterPut.{put-none, put-more, put-filled, put-other, every-put}
+use Rattle.writing.proofs.OneMarked.{length-put, single, mark-put, personal-single}
+use Rattle.zone.proofs.Fields.{one-there}
+use Rattle.writing.proofs.CompositePlace.{covered-clear}
+use Rattle.lent.proofs.Bools.{or-neither}
 
 module _ (r : Record) where
   -- ---- what each part is given
@@ -70,7 +68,8 @@ module _ (r : Record) where
 
   whole : List Part
   whole =
-      personalCheck ∷ name ∷ sex ∷ nationality ∷ expiryCheck ∷ expiry ∷ birthCheck ∷ birth ∷ optional ∷ numberCheck ∷ number ∷ state ∷ code ∷ []
+      personalCheck ∷ name ∷ sex ∷ nationality ∷ expiryCheck ∷ expiry ∷ birthCheck ∷ birth ∷ optional ∷ numberCheck ∷ number
+      ∷ state ∷ code ∷ []
 
   blanks : List ℕ
   blanks = replicate (total (r .form)) 60
@@ -88,7 +87,8 @@ module _ (r : Record) where
   length-written [] t e = e
   length-written (x ∷ xs) t e = length-put r x (given x) (written xs t) (length-written xs t e)
 
-  every-written : (p : ℕ → Bool) (xs : List Part) (t : List ℕ) → ((x : Part) → every p (given x) ≡ true) → every p t ≡ true → every p (written xs t) ≡ true
+  every-written : (p : ℕ → Bool) (xs : List Part) (t : List ℕ) → ((x : Part) → every p (given x) ≡ true) → every p t ≡ true
+      → every p (written xs t) ≡ true
   unfolding written
   every-written p [] t h e = e
   every-written p (x ∷ xs) t h e = every-put r p x (given x) (written xs t) (h x) (every-written p xs t h e)
@@ -99,7 +99,8 @@ module _ (r : Record) where
 
   -- ---- part by part
 
-  field-others : (x : Part) (xs : List Part) (t : List ℕ) → length t ≡ total (r .form) → among x xs ≡ false → field (r .form) x (written xs t) ≡ field (r .form) x t
+  field-others : (x : Part) (xs : List Part) (t : List ℕ) → length t ≡ total (r .form) → among x xs ≡ false
+      → field (r .form) x (written xs t) ≡ field (r .form) x t
   unfolding among written
   field-others x [] t e n = refl
   field-others x (y ∷ xs) t e n =
@@ -110,7 +111,8 @@ module _ (r : Record) where
   unfolding field blanks
   field-blank x = cut-fillers (start (r .form) x) (width (r .form) x) (total (r .form)) (within (r .form) x)
 
-  not-given : (x : Part) (xs : List Part) → among x xs ≡ false → field (r .form) x (written xs blanks) ≡ replicate (width (r .form) x) 60
+  not-given : (x : Part) (xs : List Part) → among x xs ≡ false
+      → field (r .form) x (written xs blanks) ≡ replicate (width (r .form) x) 60
   not-given x xs n = field-others x xs blanks length-blanks n ∙ field-blank x
 
   -- a part that stands once among them
@@ -155,35 +157,42 @@ module _ (r : Record) where
     unfolding putDates written given
     dates =
         rw (
-          mark-put r birthCheck (digitOf (take 6 (r .birth))) (written (birth ∷ []) t) (length-written (birth ∷ []) t e) (single (ones (r .form) .birth-check-one)),
+          mark-put r birthCheck (digitOf (take 6 (r .birth))) (written (birth ∷ []) t) (length-written (birth ∷ []) t e)
+              (single (ones (r .form) .birth-check-one)),
           mark-put r expiryCheck (digitOf (take 6 (r .expiry))) (written (expiry ∷ birthCheck ∷ birth ∷ []) t)
               (length-written (expiry ∷ birthCheck ∷ birth ∷ []) t e) (single (ones (r .form) .expiry-check-one)),
         )
 
     person : putPerson r t ≡ written (name ∷ sex ∷ nationality ∷ []) t
     unfolding putPerson written given
-    person = rw (mark-put r sex (r .sex) (written (nationality ∷ []) t) (length-written (nationality ∷ []) t e) (single (fixed (r .form) .sex-width)))
+    person = rw (mark-put r sex (r .sex) (written (nationality ∷ []) t) (length-written (nationality ∷ []) t e)
+        (single (fixed (r .form) .sex-width)))
 
     personal-zero : mark r personalCheck 48 t ≡ written (personalCheck ∷ []) t
     unfolding written given
     personal-zero = mark-put r personalCheck 48 t e (personal-single r)
 
     -- short, or long where the further characters and their digit have room
-    number-put : (isWide r ≡ true → length (furtherIn r) < width (r .form) optional) → putNumber r t ≡ written (optional ∷ numberCheck ∷ number ∷ []) t
+    number-put : (isWide r ≡ true → length (furtherIn r) < width (r .form) optional)
+        → putNumber r t ≡ written (optional ∷ numberCheck ∷ number ∷ []) t
     unfolding putNumber putLong putShort written given atCheck inOptional
     number-put room = go (isWide r) refl
       where
-        marked : (c : ℕ) → mark r numberCheck c (put r number (r .number) t) ≡ put r numberCheck (c ∷ []) (put r number (r .number) t)
-        marked c = mark-put r numberCheck c (put r number (r .number) t) (length-put r number (r .number) t e) (single (ones (r .form) .number-check-one))
+        marked : (c : ℕ) → mark r numberCheck c (put r number (r .number) t)
+            ≡ put r numberCheck (c ∷ []) (put r number (r .number) t)
+        marked c = mark-put r numberCheck c (put r number (r .number) t) (length-put r number (r .number) t e)
+            (single (ones (r .form) .number-check-one))
 
         long-put : (c : ℕ) → length (put r numberCheck (c ∷ []) (put r number (r .number) t)) ≡ total (r .form)
         long-put c = length-put r numberCheck (c ∷ []) (put r number (r .number) t) (length-put r number (r .number) t e)
 
         go : (b : Bool) → isWide r ≡ b
             → cond b (putLong r t) (putShort r t)
-            ≡ put r optional (cond b (furtherIn r ++ (digitOf (numberIn r) ∷ [])) []) (put r numberCheck (cond b 60 (digitOf (take 9 (r .number))) ∷ []) (put r number (r .number) t))
+            ≡ put r optional (cond b (furtherIn r ++ (digitOf (numberIn r) ∷ [])) [])
+            (put r numberCheck (cond b 60 (digitOf (take 9 (r .number))) ∷ []) (put r number (r .number) t))
         go true wide = rw (marked 60) (put-more r optional (furtherIn r) (digitOf (numberIn r)) _ (long-put 60) (room wide))
-        go false short = rw (marked (digitOf (take 9 (r .number)))) (sym (put-none r optional _ (long-put (digitOf (take 9 (r .number))))))
+        go false short = rw (marked (digitOf (take 9 (r .number))))
+            (sym (put-none r optional _ (long-put (digitOf (take 9 (r .number))))))
 
   -- ---- the steps together
 
@@ -266,18 +275,22 @@ module _ (r : Record) (s : Sound r) where
       let d = lastDigit r in
       let blank = shown-before r composite ∙ padded-nil (width f composite) in
       let there = put-filled r composite (d ∷ []) (before r) (length-before r) blank in
-      rw in-order (one-there f composite (put r composite (d ∷ []) (before r)) d (ones f .composite-one) there ∙ ap digitOf (sym (covered-clear r d (before r) (length-before r))))
+      rw in-order (one-there f composite (put r composite (d ∷ []) (before r)) d (ones f .composite-one) there ∙ ap digitOf
+      (sym (covered-clear r d (before r) (length-before r))))
 
   -- a check digit, or the sex
-  pub one-shown : (x : Part) (c : ℕ) → same x composite ≡ false → width (r .form) x ≡ 1 → given r x ≡ c ∷ [] → getD (textOf r) (start (r .form) x) 0 ≡ c
+  pub one-shown : (x : Part) (c : ℕ) → same x composite ≡ false → width (r .form) x ≡ 1 → given r x ≡ c ∷ []
+      → getD (textOf r) (start (r .form) x) 0 ≡ c
   one-shown x c n w g = one-there (r .form) x (textOf r) c w (shown x n ∙ ap (padded (width (r .form) x)) g)
 
   -- a field as wide as its part
-  pub full-shown : (x : Part) (m : ℕ) → same x composite ≡ false → width (r .form) x ≡ m → length (given r x) ≡ m → field (r .form) x (textOf r) ≡ given r x
+  pub full-shown : (x : Part) (m : ℕ) → same x composite ≡ false → width (r .form) x ≡ m → length (given r x) ≡ m
+      → field (r .form) x (textOf r) ≡ given r x
   full-shown x m n w g = shown x n ∙ padded-exact (width (r .form) x) (given r x) (g ∙ sym w)
 
   -- or wider
-  pub front-shown : (x : Part) → same x composite ≡ false → width (r .form) x ≤ length (given r x) → field (r .form) x (textOf r) ≡ take (width (r .form) x) (given r x)
+  pub front-shown : (x : Part) → same x composite ≡ false → width (r .form) x ≤ length (given r x)
+      → field (r .form) x (textOf r) ≡ take (width (r .form) x) (given r x)
   front-shown x n w = shown x n ∙ padded-full (width (r .form) x) (given r x) w
 
   -- ---- the characters
@@ -304,7 +317,8 @@ module _ (r : Record) (s : Sound r) where
       go : (b : Bool) → every isCharacter (cond b (furtherIn r ++ (digitOf (numberIn r) ∷ [])) []) ≡ true
       go true =
           every-append isCharacter (furtherIn r) (digitOf (numberIn r) ∷ [])
-          (rw further-all (every-drop isCharacter 9 (numberIn r) (every-take isCharacter (r .«number_len») (r .number) (s .number-characters))))
+          (rw further-all (every-drop isCharacter 9 (numberIn r)
+          (every-take isCharacter (r .«number_len») (r .number) (s .number-characters))))
           (digit-pure (numberIn r))
       go false = refl
   given-pure birth = s .birth-characters

@@ -1,4 +1,5 @@
--- Demand 2 for a text: what it is to keep every rule, said of the text and without the reader. Each line is a sentence of document 01, "The text".
+-- Demand 2 for a text: what it is to keep every rule, said of the text and without the reader. Each line is a sentence of
+-- document 01, "The text".
 use Prim.Native.Nat.{ℕ, _+_, _-_, _≤_, _<_}
 use mathlib.Core.Path.{_≡_}
 use mathlib.Core.Bool.{Bool, true, false, _||_}
@@ -6,7 +7,8 @@ use mathlib.Core.List.{List, [], _∷_, _++_}
 use lib.ListN.{length, take, getD}
 use Rattle.zone.specs.declared.form.Form.{Form}
 use Rattle.zone.specs.Alphabet.{isCharacter, isFiller, firstFiller}
-use Rattle.zone.specs.Part.{Part, code, state, number, numberCheck, optional, birth, birthCheck, sex, expiry, expiryCheck, nationality, composite, name, personal, personalCheck, same}
+use Rattle.zone.specs.Part.{Part, code, state, number, numberCheck, optional, birth, birthCheck, sex, expiry, expiryCheck}
+use Rattle.zone.specs.Part.{nationality, composite, name, personal, personalCheck, same}
 use Rattle.zone.specs.Form.{parts, start, width, total, field, covered}
 use Rattle.digit.specs.Check.{digitOf}
 use Rattle.field.specs.Code.{codeRule}

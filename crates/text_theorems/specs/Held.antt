@@ -18,7 +18,8 @@ pub record Holds (f : Form) (t : List ℕ) (r : Record) : Type 0 where
   pub code-held : r .code ≡ field f code t
   pub state-held : r .state ≡ field f state t
   pub short-held : isLong f t ≡ false → take (r .«number_len») (r .number) ≡ trimmed (field f number t)
-  pub long-held : isLong f t ≡ true → take (r .«number_len») (r .number) ≡ field f number t ++ take (filler f t - 1) (field f optional t)
+  pub long-held : isLong f t ≡ true
+      → take (r .«number_len») (r .number) ≡ field f number t ++ take (filler f t - 1) (field f optional t)
   pub nationality-held : r .nationality ≡ field f nationality t
   pub birth-held : r .birth ≡ field f birth t
   pub sex-held : r .sex ≡ getD t (start f sex) 0

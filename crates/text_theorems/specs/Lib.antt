@@ -1,5 +1,3 @@
--- what is lent: octets
-pub mod Octets
 -- demand 2: what it is to keep every rule
 pub mod Accepted
 -- demand 2: the checks one after the other

@@ -1,4 +1,5 @@
--- The reader takes exactly what the encoder gives: where an element is read, its encoding stands there, and where an encoding stands, it is read.
+-- The reader takes exactly what the encoder gives: where an element is read, its encoding stands there, and where an encoding
+-- stands, it is read.
 use Prim.Native.Nat.{ℕ, _+_, _-_, _*_, _/_, _%_, _≤_, _<_}
 use mathlib.Core.Path.{_≡_, refl, ap, sym, _∙_, subst}
 use mathlib.Core.Bool.{Bool, true, false, cond, _&&_}
@@ -16,7 +17,7 @@ use Rattle.tlv.specs.declared.Count.{Count}
 use Rattle.tlv.specs.declared.Size.{Size}
 use Rattle.tlv.specs.declared.Size.the-variants.{Of, Unknown}
 use Rattle.tlv.specs.Read.{value}
-use Rattle.tlv.proofs.Told.{never-value, same-value, kept-value}
+use Rattle.tlv.proofs.Joined.{never-value, same-value, kept-value}
 use Rattle.tlv.specs.Element.{tagOctets, lengthOctets, tlv, sizeOf, tagWidth, tagAt, endsWithin, sized, sizeAt, element}
 
 -- ---- two octets of a number
@@ -59,7 +60,8 @@ module _ (s : List ℕ) (at tag : ℕ) where
           let high : tag / 256 ≡ a = ap (λ (n : ℕ). n / 256) (sym f) ∙ two-high a b (small (at + 1)) in
           let low : tag % 256 ≡ b = ap (λ (n : ℕ). n % 256) (sym f) ∙ two-low a b (small (at + 1)) in
           let onwards : at + 1 + 1 ≡ at + 2 = omega arith in
-          rw (high, low) (next-octet s at (omega arith) ∙ ap (λ (l : List ℕ). a ∷ l) (next-octet s (at + 1) (omega arith) ∙ rw onwards))
+          rw (high, low) (next-octet s at (omega arith) ∙ ap (λ (l : List ℕ). a ∷ l)
+          (next-octet s (at + 1) (omega arith) ∙ rw onwards))
 
   octets-tag : (q : List ℕ) → drop at s ≡ tagOctets tag ++ q → (tagAt s at tag ≡ tag) × (drop (at + tagWidth tag) s ≡ q)
   unfolding tagAt tagWidth tagOctets
@@ -104,69 +106,79 @@ module _ (s : List ℕ) (place : ℕ) where
   same-told : {m n : Count} → Of m ≡ Of n → m ≡ n
   same-told e = cc
 
-  short-told : leb x 127 ≡ true → Told (record { count = x; told = 1 })
+  short-told : leb x 0x7F ≡ true → Told (record { count = x; told = 1 })
   unfolding lengthOctets
   short-told a = record {
     told-there = λ h. rw a (next-octet s place (omega arith));
-    told-most = omega (arith, leb-true x 127 a);
+    told-most = omega (arith, leb-true x 0x7F a);
     told-octets = rw a;
   }
 
-  middle-told : x ≡ 129 → 128 ≤ y → y < 256 → Told (record { count = y; told = 2 })
+  middle-told : x ≡ 0x81 → 0x80 ≤ y → y < 256 → Told (record { count = y; told = 2 })
   unfolding lengthOctets
   middle-told a b c = record {
-    told-there = λ h. rw (lt-leb y 127 (omega arith), le-leb y 255 (omega arith))
-        (next-octet s place (omega arith) ∙ rw a (ap (λ (l : List ℕ). 129 ∷ l) (next-octet s (place + 1) (omega arith) ∙ rw onwards-two)));
+    told-there = λ h. rw (lt-leb y 0x7F (omega arith), le-leb y 255 (omega arith))
+        (next-octet s place (omega arith) ∙ rw a
+        (ap (λ (l : List ℕ). 0x81 ∷ l) (next-octet s (place + 1) (omega arith) ∙ rw onwards-two)));
     told-most = omega arith;
-    told-octets = rw (lt-leb y 127 (omega arith), le-leb y 255 (omega arith));
+    told-octets = rw (lt-leb y 0x7F (omega arith), le-leb y 255 (omega arith));
   }
 
-  long-told : x ≡ 130 → 1 ≤ y → y < 256 → z < 256 → Told (record { count = y * 256 + z; told = 3 })
+  long-told : x ≡ 0x82 → 1 ≤ y → y < 256 → z < 256 → Told (record { count = y * 256 + z; told = 3 })
   unfolding lengthOctets
   long-told a b c d = record {
-    told-there = λ h. rw (lt-leb (y * 256 + z) 127 (omega arith), lt-leb (y * 256 + z) 255 (omega arith), two-high y z d, two-low y z d)
+    told-there = λ h. rw (
+      lt-leb (y * 256 + z) 0x7F (omega arith),
+      lt-leb (y * 256 + z) 255 (omega arith),
+      two-high y z d,
+      two-low y z d,
+    )
         (next-octet s place (omega arith)
-        ∙ rw a (ap (λ (l : List ℕ). 130 ∷ l) (next-octet s (place + 1) (omega arith)
+        ∙ rw a (ap (λ (l : List ℕ). 0x82 ∷ l) (next-octet s (place + 1) (omega arith)
         ∙ rw onwards-two (ap (λ (l : List ℕ). y ∷ l) (next-octet s (place + 2) (omega arith) ∙ rw onwards-three)))));
     told-most = omega arith;
-    told-octets = rw (lt-leb (y * 256 + z) 127 (omega arith), lt-leb (y * 256 + z) 255 (omega arith));
+    told-octets = rw (lt-leb (y * 256 + z) 0x7F (omega arith), lt-leb (y * 256 + z) 255 (omega arith));
   }
 
   told : ((i : ℕ) → getD s i 0 < 256) → (n : Count) → sizeAt s place ≡ Of n → Told n
   unfolding sizeAt sizeOf
-  told small n e = go (leb x 127) (eqb x 129 && leb 128 y) (eqb x 130 && leb 1 y) refl refl refl e
+  told small n e = go (leb x 0x7F) (eqb x 0x81 && leb 0x80 y) (eqb x 0x82 && leb 1 y) refl refl refl e
     where
-      go : (a b c : Bool) → leb x 127 ≡ a → eqb x 129 && leb 128 y ≡ b → eqb x 130 && leb 1 y ≡ c
-          → cond a (Of (record { count = x; told = 1 })) (cond b (Of (record { count = y; told = 2 })) (cond c (Of (record { count = y * 256 + z; told = 3 })) Unknown)) ≡ Of n
+      go : (a b c : Bool) → leb x 0x7F ≡ a → eqb x 0x81 && leb 0x80 y ≡ b → eqb x 0x82 && leb 1 y ≡ c
+          → cond a (Of (record { count = x; told = 1 }))
+          (cond b (Of (record { count = y; told = 2 })) (cond c (Of (record { count = y * 256 + z; told = 3 })) Unknown))
+          ≡ Of n
           → Told n
       go true b c p q r f = rw (same-told f) at (short-told p)
       go false true c p q r f =
-          let both = and-both (eqb x 129) (leb 128 y) q in
-          rw (same-told f) at (middle-told (eqb-true x 129 (both .0)) (leb-true 128 y (both .1)) (small (place + 1)))
+          let both = and-both (eqb x 0x81) (leb 0x80 y) q in
+          rw (same-told f) at (middle-told (eqb-true x 0x81 (both .0)) (leb-true 0x80 y (both .1)) (small (place + 1)))
       go false false true p q r f =
-          let both = and-both (eqb x 130) (leb 1 y) r in
-          rw (same-told f) at (long-told (eqb-true x 130 (both .0)) (leb-true 1 y (both .1)) (small (place + 1)) (small (place + 2)))
+          let both = and-both (eqb x 0x82) (leb 1 y) r in
+          rw (same-told f) at (long-told (eqb-true x 0x82 (both .0)) (leb-true 1 y (both .1)) (small (place + 1))
+          (small (place + 2)))
       go false false false p q r f = absurd (not-told f)
 
   -- and back
   octets-length : (n : ℕ) (q : List ℕ) → n ≤ 65535 → drop place s ≡ lengthOctets n ++ q
-      → (sizeAt s place ≡ Of (record { count = n; told = length (lengthOctets n) })) × (drop (place + length (lengthOctets n)) s ≡ q)
+      → (sizeAt s place ≡ Of (record { count = n; told = length (lengthOctets n) }))
+      × (drop (place + length (lengthOctets n)) s ≡ q)
   unfolding sizeAt sizeOf lengthOctets
-  octets-length n q most e = go (leb n 127) (leb n 255) refl refl e
+  octets-length n q most e = go (leb n 0x7F) (leb n 255) refl refl e
     where
-      go : (a b : Bool) → leb n 127 ≡ a → leb n 255 ≡ b
-          → let l = cond a (n ∷ []) (cond b (129 ∷ n ∷ []) (130 ∷ (n / 256) ∷ (n % 256) ∷ [])) in
+      go : (a b : Bool) → leb n 0x7F ≡ a → leb n 255 ≡ b
+          → let l = cond a (n ∷ []) (cond b (0x81 ∷ n ∷ []) (0x82 ∷ (n / 256) ∷ (n % 256) ∷ [])) in
           drop place s ≡ l ++ q
           → (sizeOf x y z ≡ Of (record { count = n; told = length l })) × (drop (place + length l) s ≡ q)
       go true b f g h =
           let one = first-there s place n q h in
           (rw (one .0, f), one .1)
       go false true f g h =
-          let one = first-there s place 129 (n ∷ q) h in
+          let one = first-there s place 0x81 (n ∷ q) h in
           let two = first-there s (place + 1) n q (one .1) in
-          (rw (one .0, two .0, le-leb 128 n (omega (arith, leb-false n 127 f))), rw onwards-two at (two .1))
+          (rw (one .0, two .0, le-leb 0x80 n (omega (arith, leb-false n 0x7F f))), rw onwards-two at (two .1))
       go false false f g h =
-          let one = first-there s place 130 ((n / 256) ∷ (n % 256) ∷ q) h in
+          let one = first-there s place 0x82 ((n / 256) ∷ (n % 256) ∷ q) h in
           let two = first-there s (place + 1) (n / 256) ((n % 256) ∷ q) (one .1) in
           let three = first-there s (place + 2) (n % 256) q (rw onwards-two at (two .1)) in
           let over : 255 < n = leb-false n 255 g in
@@ -213,7 +225,8 @@ pub record Stands (s : List ℕ) (at tag : ℕ) (c rest : List ℕ) (v : Stretch
   pub content-most : length c ≤ 65535
 
 module _ (s : List ℕ) (at tag : ℕ) where
-  sized-stands : ((i : ℕ) → getD s i 0 < 256) → tagAt s at tag ≡ tag → (n : Count) → sizeAt s (at + tagWidth tag) ≡ Of n → (v : Stretch)
+  sized-stands : ((i : ℕ) → getD s i 0 < 256) → tagAt s at tag ≡ tag → (n : Count) → sizeAt s (at + tagWidth tag) ≡ Of n
+      → (v : Stretch)
       → endsWithin s at (at + tagWidth tag + n .told) (at + tagWidth tag + n .told + n .count) ≡ value v
       → Stands s at tag (take (v .to - v .from) (drop (v .from) s)) (drop (v .to) s) v
   unfolding endsWithin headOctets tlv
@@ -229,14 +242,16 @@ module _ (s : List ℕ) (at tag : ℕ) where
       let left : length (drop a s) ≡ length s - a = length-drop a s in
       let long : length content ≡ n .count = length-take-le (b - a) (drop a s) (omega arith) ∙ gap in
       let onwards : a + (b - a) ≡ b = omega arith in
-      let third : drop a s ≡ content ++ drop b s = sym (take-append-drop (b - a) (drop a s)) ∙ rw (drop-drop (b - a) a s, onwards) in
+      let third : drop a s ≡ content ++ drop b s = sym (take-append-drop (b - a) (drop a s))
+      ∙ rw (drop-drop (b - a) a s, onwards) in
       let second : drop place s ≡ lengthOctets (length content) ++ (content ++ drop b s) =
       t .told-there (omega arith) ∙ rw long (ap (λ (l : List ℕ). lengthOctets (n .count) ++ l) third) in
       let first : drop at s ≡ tagOctets tag ++ drop place s = tag-octets s at tag small e (omega arith) in
       let parts : tlv tag content ++ drop b s ≡ tagOctets tag ++ (lengthOctets (length content) ++ (content ++ drop b s)) =
       append-assoc (tagOctets tag) (lengthOctets (length content) ++ content) (drop b s)
       ∙ ap (λ (l : List ℕ). tagOctets tag ++ l) (append-assoc (lengthOctets (length content)) content (drop b s)) in
-      let octets : n .told ≡ length (lengthOctets (length content)) = t .told-octets ∙ ap (λ (k : ℕ). length (lengthOctets k)) (sym long) in
+      let octets : n .told ≡ length (lengthOctets (length content)) = t .told-octets
+      ∙ ap (λ (k : ℕ). length (lengthOctets k)) (sym long) in
       let all : Stands s at tag content (drop b s) (record { from = a; to = b }) = record {
         octets-there = first ∙ ap (λ (l : List ℕ). tagOctets tag ++ l) second ∙ sym parts;
         content-there = refl;
@@ -246,7 +261,8 @@ module _ (s : List ℕ) (at tag : ℕ) where
         ends-within = fits;
         content-most = omega (arith, t .told-most);
       } in
-      subst (λ (u : Stretch). Stands s at tag (take (u .to - u .from) (drop (u .from) s)) (drop (u .to) s) u) (same-value (kept .1)) all
+      subst (λ (u : Stretch). Stands s at tag (take (u .to - u .from) (drop (u .from) s)) (drop (u .to) s) u)
+      (same-value (kept .1)) all
 
   -- where an element is read, its encoding stands there
   pub reads : ((i : ℕ) → getD s i 0 < 256) → (v : Stretch) → element s at tag ≡ value v
@@ -263,7 +279,8 @@ module _ (s : List ℕ) (at tag : ℕ) where
       go t Unknown f h = absurd (never-value 10 at v h)
 
   -- where an encoding stands, it is read
-  pub back : (c rest : List ℕ) → length c ≤ 65535 → drop at s ≡ tlv tag c ++ rest → (v : Stretch) × (element s at tag ≡ value v) × Stands s at tag c rest v
+  pub back : (c rest : List ℕ) → length c ≤ 65535 → drop at s ≡ tlv tag c ++ rest
+      → (v : Stretch) × (element s at tag ≡ value v) × Stands s at tag c rest v
   unfolding element sized endsWithin tlv headOctets
   back c rest most e =
       let place = at + tagWidth tag in
@@ -274,7 +291,8 @@ module _ (s : List ℕ) (at tag : ℕ) where
       e ∙ append-assoc (tagOctets tag) (l ++ c) rest ∙ ap (λ (q : List ℕ). tagOctets tag ++ q) (append-assoc l c rest) in
       let one = octets-tag s at tag (l ++ (c ++ rest)) parts in
       let two = octets-length s place (length c) (c ++ rest) most (one .1) in
-      let whole : length s - at ≡ length (tlv tag c) + length rest = sym (length-drop at s) ∙ ap length e ∙ length-append (tlv tag c) rest in
+      let whole : length s - at ≡ length (tlv tag c) + length rest = sym (length-drop at s) ∙ ap length e
+      ∙ length-append (tlv tag c) rest in
       let long = length-tlv tag c in
       let fits : b ≤ length s = omega (arith, length-tag tag .1) in
       let gap : b - a ≡ length c = omega arith in (
@@ -292,7 +310,8 @@ module _ (s : List ℕ) (at tag : ℕ) where
       )
 
 -- what a stretch holds, read within the octets up to its end
-pub inside : (s : List ℕ) (at tag : ℕ) (c rest : List ℕ) (v : Stretch) → Stands s at tag c rest v → drop (v .from) (take (v .to) s) ≡ c
+pub inside : (s : List ℕ) (at tag : ℕ) (c rest : List ℕ) (v : Stretch) → Stands s at tag c rest v
+    → drop (v .from) (take (v .to) s) ≡ c
 inside s at tag c rest v h =
     let k = h .to-place in
     let long : length (take (v .to) s) ≡ v .to = length-take-le (v .to) s (h .ends-within) in
@@ -305,7 +324,8 @@ inside s at tag c rest v h =
     ∙ h .content-there
 
 -- no encoding is the beginning of another with its tag
-pub prefix-free : (tag : ℕ) (c d r q : List ℕ) → length c ≤ 65535 → length d ≤ 65535 → tlv tag c ++ r ≡ tlv tag d ++ q → (c ≡ d) × (r ≡ q)
+pub prefix-free : (tag : ℕ) (c d r q : List ℕ) → length c ≤ 65535 → length d ≤ 65535 → tlv tag c ++ r ≡ tlv tag d ++ q
+    → (c ≡ d) × (r ≡ q)
 prefix-free tag c d r q hc hd e =
     let s = tlv tag c ++ r in
     let x = back s 0 tag c r hc refl in
@@ -323,9 +343,9 @@ tag-first s at tag c rest h e = first-there s at tag (lengthOctets (length c) ++
 -- at most five octets stand before a content
 pub most-head : (tag n : ℕ) → headOctets tag n ≤ 5
 unfolding headOctets tagWidth lengthOctets
-most-head tag n = go (ltb tag 256) (leb n 127) (leb n 255)
+most-head tag n = go (ltb tag 256) (leb n 0x7F) (leb n 255)
   where
-    go : (a b c : Bool) → cond a 1 2 + length (cond b (n ∷ []) (cond c (129 ∷ n ∷ []) (130 ∷ (n / 256) ∷ (n % 256) ∷ []))) ≤ 5
+    go : (a b c : Bool) → cond a 1 2 + length (cond b (n ∷ []) (cond c (0x81 ∷ n ∷ []) (0x82 ∷ (n / 256) ∷ (n % 256) ∷ []))) ≤ 5
     go true true c = omega arith
     go true false true = omega arith
     go true false false = omega arith

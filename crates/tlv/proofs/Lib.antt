@@ -1,5 +1,10 @@
-pub mod Told
+-- a reading step by step: what it gives, and what its steps must have given
+pub mod Joined
+-- an element ends behind its place and within what holds it
 pub mod Past
+-- walks by a number of steps: any that is enough gives the same
 pub mod Steps
+-- the reader takes exactly what the encoder gives (`reads`, `back`, `prefix-free`)
 pub mod Encoded
+-- stretches
 pub mod Stretches

@@ -11,7 +11,7 @@ use Rattle.tlv.specs.declared.Stretch.{Stretch}
 use Rattle.tlv.specs.declared.Size.{Size}
 use Rattle.tlv.specs.declared.Size.the-variants.{Of, Unknown}
 use Rattle.tlv.specs.Read.{value, refusal}
-use Rattle.tlv.proofs.Told.{never-value, same-value, kept-value}
+use Rattle.tlv.proofs.Joined.{never-value, same-value, kept-value}
 use Rattle.tlv.specs.Element.{sized, sizeAt, endsWithin, tagAt, tagWidth, element}
 
 sized-past : (s : List ℕ) (at place : ℕ) (z : Size) → length s < place → sized s at place z ≡ refusal 10 at
@@ -51,7 +51,8 @@ sized-within s at place (Of z) v e =
     rw (← same-value (k .1)) (omega arith, omega arith, within)
 sized-within s at place Unknown v e = absurd (never-value 10 at v e)
 
-pub value-within : (s : List ℕ) (at tag : ℕ) (v : Stretch) → element s at tag ≡ value v → (at < v .from) × (v .from ≤ v .to) × (v .to ≤ length s)
+pub value-within : (s : List ℕ) (at tag : ℕ) (v : Stretch) → element s at tag ≡ value v
+    → (at < v .from) × (v .from ≤ v .to) × (v .to ≤ length s)
 unfolding element
 value-within s at tag v e =
     let p = at + tagWidth tag in

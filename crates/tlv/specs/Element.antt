@@ -21,7 +21,7 @@ tagOctets tag = cond (ltb tag 256) (tag ∷ []) ((tag / 256) ∷ (tag % 256) ∷
 
 -- 00-7F, 81 80-FF, 82 0100-FFFF
 unfoldable pub lengthOctets : ℕ → List ℕ
-lengthOctets n = cond (leb n 127) (n ∷ []) (cond (leb n 255) (129 ∷ n ∷ []) (130 ∷ (n / 256) ∷ (n % 256) ∷ []))
+lengthOctets n = cond (leb n 0x7F) (n ∷ []) (cond (leb n 255) (0x81 ∷ n ∷ []) (0x82 ∷ (n / 256) ∷ (n % 256) ∷ []))
 
 unfoldable pub tlv : ℕ → List ℕ → List ℕ
 tlv tag content = tagOctets tag ++ (lengthOctets (length content) ++ content)
@@ -31,9 +31,9 @@ tlv tag content = tagOctets tag ++ (lengthOctets (length content) ++ content)
 -- the length that stands at a place, by its first three octets, and how many of them tell it
 unfoldable pub sizeOf : (a b c : ℕ) → Size
 sizeOf a b c =
-    cond (leb a 127) (Of (record { count = a; told = 1 }))
-    (cond (eqb a 129 && leb 128 b) (Of (record { count = b; told = 2 }))
-    (cond (eqb a 130 && leb 1 b) (Of (record { count = b * 256 + c; told = 3 })) Unknown))
+    cond (leb a 0x7F) (Of (record { count = a; told = 1 }))
+    (cond (eqb a 0x81 && leb 0x80 b) (Of (record { count = b; told = 2 }))
+    (cond (eqb a 0x82 && leb 1 b) (Of (record { count = b * 256 + c; told = 3 })) Unknown))
 
 -- no words of the paper: the length itself, 0 for none
 unfoldable pub countIn : Size → Count

@@ -1,4 +1,8 @@
+-- what a reading from place to place gives
 pub mod Read
-pub mod Element
-pub mod Cut
+-- tags as named
 pub mod Tags
+-- elements: encoding and reading
+pub mod Element
+-- a stretch of lent octets
+pub mod Cut

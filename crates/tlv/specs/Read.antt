@@ -17,6 +17,6 @@ checked passed next = next
 checked (refused n p) next = refusal n p
 
 -- whether there is a value, or the refusal
-unfoldable pub toldOf : {A : Type 0} → Read A → Outcome
-toldOf (value a) = passed
-toldOf (refusal n p) = refused n p
+unfoldable pub outcomeIn : {A : Type 0} → Read A → Outcome
+outcomeIn (value a) = passed
+outcomeIn (refusal n p) = refused n p

@@ -2,9 +2,9 @@
 ghost use mathlib.Core.Path.{_≡_};
 ghost use Rattle.refusal.specs.Outcome.{outcomeOf};
 ghost use Rattle.tlv.specs.Cut as C;
+use crate::Stretch;
 use refusal::Cause;
 use refusal::Verdict;
-use crate::Stretch;
 
 // The octets of a stretch, as a part of what was lent.
 pub fn cut(s: &[u8], v: Stretch) -> &[u8]

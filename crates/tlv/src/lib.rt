@@ -3,8 +3,10 @@ ghost use mathlib.Core.Path.{_≡_};
 ghost use Prim.Native.Nat.{_+_, _<_, _≤_, _^_};
 ghost use Rattle.tlv.specs.Read.{refusal};
 ghost use Rattle.tlv.specs.Element.{sizeOf, countIn, sizeAt, tagAt, tagWidth, endsWithin, sized, element, takenOf};
+
 pub mod cut;
 pub mod tags;
+
 use refusal::Cause;
 use refusal::Refusal;
 
@@ -37,14 +39,14 @@ pub fn size_of(a: u8, b: u8, c: u8) -> Size
     ensures { λ r. ⌜ r ≡ sizeOf a b c ⌝ }
     ensures { λ r. ⌜ (countIn r .told ≤ 3) × (countIn r .count < 65536) ⌝ }
 {
-    if a <= 127 {
+    if a <= 0x7F {
         return Size::Of(Count {
             count: a as usize,
             told: 1,
         });
     }
-    if a == 129 {
-        if 128 <= b {
+    if a == 0x81 {
+        if 0x80 <= b {
             return Size::Of(Count {
                 count: b as usize,
                 told: 2,
@@ -52,7 +54,7 @@ pub fn size_of(a: u8, b: u8, c: u8) -> Size
         }
         return Size::Unknown;
     }
-    if a == 130 {
+    if a == 0x82 {
         if 1 <= b {
             return Size::Of(Count {
                 count: b as usize * 256 + c as usize,

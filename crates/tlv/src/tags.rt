@@ -1,19 +1,35 @@
-// The groups and their tags.
+// Tags as document 01 names them, and the groups of theirs.
 ghost use mathlib.Core.Path.{_≡_};
 ghost use Prim.Native.Nat.{_≤_};
 ghost use Rattle.tlv.specs.Tags.{groupOf, isGroup};
+
+pub const EF_COM: u16 = 0x60;
+
+pub const SEQUENCE: u16 = 0x30;
+
+pub const LDS_VERSION: u16 = 0x5F01;
+
+pub const UNICODE_VERSION: u16 = 0x5F36;
+
+pub const TAG_LIST: u16 = 0x5C;
+
+pub const INTEGER: u16 = 0x02;
+
+pub const OCTET_STRING: u16 = 0x04;
+
+pub const TEXT: u16 = 0x5F1F;
 
 // The group of a tag, 0 where it is no group's.
 pub fn group_of(tag: u8) -> u8
     ensures { λ r. ⌜ (r ≡ groupOf tag) × (r ≤ 16) ⌝ }
 {
     match tag {
-        97 => 1,
-        117 => 2,
-        99 => 3,
-        118 => 4,
-        101 => 5,
-        103..=112 => tag - 96,
+        0x61 => 1,
+        0x75 => 2,
+        0x63 => 3,
+        0x76 => 4,
+        0x65 => 5,
+        0x67..=0x70 => tag - 0x60,
         _ => 0,
     }
 }

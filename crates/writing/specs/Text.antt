@@ -6,7 +6,8 @@ use mathlib.Core.List.{List}
 use lib.Dec.{ltb}
 use lib.ListN.{length, take, drop, set, replicate}
 use Rattle.lent.specs.Copied.{copiedAt}
-use Rattle.zone.specs.Part.{Part, code, state, number, numberCheck, optional, birth, birthCheck, sex, expiry, expiryCheck, nationality, composite, name, personalCheck}
+use Rattle.zone.specs.Part.{Part, code, state, number, numberCheck, optional, birth, birthCheck, sex, expiry, expiryCheck}
+use Rattle.zone.specs.Part.{nationality, composite, name, personalCheck}
 use Rattle.zone.specs.Alphabet.{filler}
 use Rattle.zone.specs.Rooms.{dateRoom, nine, further}
 use Rattle.zone.specs.Form.{start, width, total, covered}

@@ -1,11 +1,12 @@
 -- The laws of `every`, over the test p: by which a loop over all characters steps, and where a search finds none that fails it.
 use mathlib.Core.Path.{_≡_, refl, sym, _∙_}
-use mathlib.Core.List.{List, [], _∷_}
+use mathlib.Core.List.{List, [], _∷_, _++_}
 use mathlib.Core.Bool.{Bool, true, false, not, _&&_, and-true, and-assoc}
-use Prim.Native.Nat.{ℕ, _+_, _≤_, _<_}
+use Prim.Native.Nat.{ℕ, _+_, _≤_, _<_, zero, suc, _-_}
 use native.Mathlib.Numerals.{add-one}
-use lib.ListN.{length, drop, getD, drop-of-length-le}
+use lib.ListN.{length, drop, getD, drop-of-length-le, take, replicate}
 use lib.Seq.{drop-cons}
+use native.Mathlib.Omega.{arith}
 use Rattle.lent.proofs.Bools.{and-both}
 use Rattle.zone.specs.Alphabet.{every, first}
 
@@ -41,3 +42,40 @@ pub every-first : (p : ℕ → Bool) (s : List ℕ) → every p s ≡ true → f
 unfolding every first
 every-first p [] e = refl
 every-first p (c ∷ s) e = let both = and-both (p c) (every p s) e in rw (both .0, every-first p s (both .1))
+
+pub every-append : (p : ℕ → Bool) (a b : List ℕ) → every p a ≡ true → every p b ≡ true → every p (a ++ b) ≡ true
+unfolding every
+every-append p [] b e f = f
+every-append p (c ∷ a) b e f =
+    let both = and-both (p c) (every p a) e in
+    rw (both .0, every-append p a b (both .1) f)
+
+pub every-take : (p : ℕ → Bool) (n : ℕ) (s : List ℕ) → every p s ≡ true → every p (take n s) ≡ true
+unfolding every
+every-take p zero s e = refl
+every-take p (suc n) [] e = refl
+every-take p (suc n) (c ∷ s) e =
+    let both = and-both (p c) (every p s) e in
+    rw (both .0, every-take p n s (both .1))
+
+pub every-drop : (p : ℕ → Bool) (n : ℕ) (s : List ℕ) → every p s ≡ true → every p (drop n s) ≡ true
+unfolding every
+every-drop p zero s e = e
+every-drop p (suc n) [] e = refl
+every-drop p (suc n) (c ∷ s) e = every-drop p n s (and-both (p c) (every p s) e .1)
+
+pub every-replicate : (p : ℕ → Bool) (m c : ℕ) → p c ≡ true → every p (replicate m c) ≡ true
+unfolding every
+every-replicate p zero c e = refl
+every-replicate p (suc m) c e = rw (e, every-replicate p m c e)
+
+pub every-each : (p : ℕ → Bool) (s : List ℕ) → ((i : ℕ) → i < length s → p (getD s i 0) ≡ true) → every p s ≡ true
+unfolding every
+every-each p [] h = refl
+every-each p (c ∷ s) h = rw (h 0 (omega arith), every-each p s (λ i k. h (suc i) (omega arith)))
+
+pub each-every : (p : ℕ → Bool) (s : List ℕ) → every p s ≡ true → (i : ℕ) → i < length s → p (getD s i 0) ≡ true
+unfolding every
+each-every p [] e i h = absurd (omega arith)
+each-every p (c ∷ s) e zero h = and-both (p c) (every p s) e .0
+each-every p (c ∷ s) e (suc i) h = each-every p s (and-both (p c) (every p s) e .1) i (omega arith)

@@ -42,3 +42,12 @@ pub none-first : (p : ℕ → Bool) (s : List ℕ) → ((i : ℕ) → i < length
 unfolding first
 none-first p [] h = refl
 none-first p (c ∷ s) h = rw (h 0 (omega arith), none-first p s (λ i k. h (suc i) (omega arith)))
+
+pub first-le : (p : ℕ → Bool) (s : List ℕ) → first p s ≤ length s
+unfolding first
+first-le p [] = omega arith
+first-le p (c ∷ s) = go (p c) (first-le p s)
+  where
+    go : (b : Bool) → first p s ≤ length s → cond b 0 (suc (first p s)) ≤ suc (length s)
+    go true h = omega arith
+    go false h = omega arith

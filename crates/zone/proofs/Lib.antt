@@ -1,8 +1,12 @@
-pub mod Classes  -- digits and letters by their numbers
+-- The laws of the alphabet, the forms and the record.
+pub mod Classes  -- digits, letters and fillers by their numbers
 pub mod Coding  -- characters and their codes tell each other; the table by codes
-pub mod Covers  -- what the composite covers, as four pieces
-pub mod Every  -- `every`: the steps of a loop over all characters
+pub mod Every  -- `every`: the steps of a loop over all characters, and lists joined and cut
 pub mod First  -- `first`: the steps of a search, and where it finds none
-pub mod Padded  -- `padded`: copies over fillers, and trailing fillers that make no difference
-pub mod Trimmed  -- `trimmedLength`: one character more, and its bound
+pub mod Parts  -- the parts of a text: each has its own rank, and no two overlap
 pub mod Widths  -- the widths that every form shares, and that every part lies within the text
+pub mod Covers  -- what the composite covers, as four pieces
+pub mod Padded  -- `padded`: copies over fillers, and trailing fillers that make no difference
+pub mod Trimmed  -- `trimmedLength`: one character more, its bound, and lists joined and cut
+pub mod Fields  -- the characters of a text found in its fields
+pub mod FormByLength  -- the form that a length tells

@@ -1,15 +1,16 @@
 -- The laws of `padded`: a copy over fillers is one, two copies one behind the other are one, and trailing fillers make no
 -- difference.
-use Prim.Native.Nat.{ℕ, zero, suc, _+_, _-_, _≤_}
-use mathlib.Core.Path.{_≡_, refl}
+use Prim.Native.Nat.{ℕ, zero, suc, _+_, _-_, _≤_, _<_}
+use mathlib.Core.Path.{_≡_, refl, ap, _∙_}
 use mathlib.Core.Bool.{Bool, true, false, cond, _&&_}
-use mathlib.Core.List.{List, [], _∷_, _++_, append-nil}
+use mathlib.Core.List.{List, [], _∷_, _++_, append-nil, append-assoc}
 use native.Mathlib.Nat.{sub-zero, suc-sub-suc}
 use native.Mathlib.Omega.{arith}
 use borrow.Author.Tests.{eqb-true}
 use lib.Dec.{eqb}
 use lib.ListN.{length, take, drop, replicate, length-replicate, length-take, length-append}
-use lib.Seq.{take-all}
+use lib.Seq.{take-all, take-take}
+use native.Mathlib.Numerals.{add-one}
 use Rattle.lent.specs.Copied.{copied, copiedAt}
 use Rattle.lent.proofs.Bools.{and-both}
 use Rattle.lent.proofs.Lists.{drop-replicate}
@@ -113,3 +114,38 @@ padded-trimmed (suc n) (c ∷ s) = go (isFiller c && eqb (trimmedLength s) 0) re
         → padded (suc n) (take (cond b 0 (suc (trimmedLength s))) (c ∷ s)) ≡ padded (suc n) (c ∷ s)
     go true e h = padded-fillers n c s e h
     go false e h = rw (padded-cons n c (take (trimmedLength s) s), padded-cons n c s, h)
+
+-- what does not fit makes no difference
+pub padded-cut : (n : ℕ) (s : List ℕ) → padded n (take n s) ≡ padded n s
+unfolding padded
+padded-cut n s =
+    let e : n - length (take n s) ≡ n - length s = rw length-take (omega arith) in
+    rw (take-take n n s (omega arith), e)
+
+pub padded-full : (n : ℕ) (s : List ℕ) → n ≤ length s → padded n s ≡ take n s
+unfolding padded
+padded-full n s h =
+    let e : n - length s ≡ 0 = omega arith in
+    rw (e, append-nil)
+
+pub padded-behind : (n : ℕ) (s : List ℕ) (c : ℕ) → length s < n
+    → padded n (s ++ (c ∷ [])) ≡ s ++ (c ∷ replicate (n - suc (length s)) 60)
+padded-behind n s c h =
+    let m : length (s ++ (c ∷ [])) ≡ suc (length s) = length-append s (c ∷ []) ∙ add-one (length s) in
+    padded-spare n (s ++ (c ∷ [])) (rw m (omega arith)) ∙ rw m (append-assoc s (c ∷ []) (replicate (n - suc (length s)) 60))
+
+-- fillers cut from fillers
+pub cut-fillers : (a w n : ℕ) → a + w ≤ n → take {A = ℕ} w (drop a (replicate n 60)) ≡ replicate w 60
+cut-fillers zero zero n h = refl
+cut-fillers zero (suc w) zero h = absurd (omega arith)
+cut-fillers zero (suc w) (suc n) h = ap (λ (l : List ℕ). 60 ∷ l) (cut-fillers zero w n (omega arith))
+cut-fillers (suc a) w zero h = absurd (omega arith)
+cut-fillers (suc a) w (suc n) h = cut-fillers a w n (omega arith)
+
+pub fillers-left : (k w : ℕ) (l : List ℕ) → k ≤ w → take w l ≡ replicate w 60 → take (w - k) (drop k l) ≡ replicate (w - k) 60
+fillers-left zero w l h e = rw (sub-zero w) e
+fillers-left (suc k) zero l h e = absurd (omega arith)
+fillers-left (suc k) (suc w) [] h e = absurd (omega (arith, ap length e))
+fillers-left (suc k) (suc w) (c ∷ l) h e =
+    let n : suc w - suc k ≡ w - k = omega arith in
+    rw n (fillers-left k w l (omega arith) (ap (drop 1) e))

@@ -1,15 +1,17 @@
 -- The laws of `trimmedLength`: one character more at the end, and its bound.
 use mathlib.Core.Path.{_≡_, refl}
 use mathlib.Core.List.{List, [], _∷_, _++_}
-use mathlib.Core.Bool.{Bool, true, false, cond, _&&_}
-use Prim.Native.Nat.{ℕ, suc, _+_, _≤_, _<_}
+use mathlib.Core.Bool.{Bool, true, false, cond, _&&_, not}
+use Prim.Native.Nat.{ℕ, suc, _+_, _≤_, _<_, zero, _-_}
 use native.Mathlib.Numerals.{add-one}
 use native.Mathlib.Omega.{arith}
-use lib.ListN.{length, take, getD}
+use lib.ListN.{length, take, getD, replicate}
 use lib.Dec.{eqb, eqb·suc-zero}
-use lib.Seq.{take-suc, length-take-le}
+use lib.Seq.{take-suc, length-take-le, take-take}
+use borrow.Author.Tests.{eqb-true}
 use Rattle.zone.specs.Alphabet.{isFiller}
-use Rattle.zone.specs.Record.{trimmedLength}
+use Rattle.zone.specs.Record.{trimmedLength, trimmed}
+use Rattle.lent.proofs.Bools.{and-both}
 
 -- behind anything, a filler changes nothing, and another character makes the whole count
 pub trimmed-snoc : (s : List ℕ) (c : ℕ) → trimmedLength (s ++ (c ∷ [])) ≡ cond (isFiller c) (trimmedLength s) (suc (length s))
@@ -37,3 +39,48 @@ module _ (s : List ℕ) (i : ℕ) (h : i < length s) where
   trimmed-other e =
       let k : i ≤ length s = omega arith in
       rw (add-one i, take-suc s i 0 h, trimmed-snoc, e, length-take-le i s k)
+
+fillers-none : (m : ℕ) → trimmedLength (replicate m 60) ≡ 0
+unfolding trimmedLength isFiller
+fillers-none zero = refl
+fillers-none (suc m) = rw (fillers-none m)
+
+pub trimmed-fillers : (s : List ℕ) (m : ℕ) → trimmedLength (s ++ replicate m 60) ≡ trimmedLength s
+unfolding trimmedLength
+trimmed-fillers [] m = fillers-none m
+trimmed-fillers (c ∷ s) m = rw (trimmed-fillers s m)
+
+pub trimmed-twice : (s : List ℕ) → trimmedLength (take (trimmedLength s) s) ≡ trimmedLength s
+unfolding trimmedLength
+trimmed-twice [] = refl
+trimmed-twice (c ∷ s) = go (isFiller c && eqb (trimmedLength s) 0) refl (trimmed-twice s)
+  where
+    go : (b : Bool) → isFiller c && eqb (trimmedLength s) 0 ≡ b → trimmedLength (take (trimmedLength s) s) ≡ trimmedLength s
+        → trimmedLength (take (cond b 0 (suc (trimmedLength s))) (c ∷ s)) ≡ cond b 0 (suc (trimmedLength s))
+    go true e h = refl
+    go false e h = rw (h, e)
+
+-- a list that begins with no filler is not all fillers
+pub trimmed-some : (s : List ℕ) → 0 < length s → isFiller (getD s 0 0) ≡ false → 1 ≤ trimmedLength s
+unfolding trimmedLength
+trimmed-some [] h e = absurd (omega arith)
+trimmed-some (c ∷ s) h e = rw e (omega arith)
+
+trimmed-rest : (w c : ℕ) (s : List ℕ) → trimmedLength (c ∷ s) ≤ suc w → trimmedLength s ≤ w
+unfolding trimmedLength
+trimmed-rest w c s h = go (isFiller c && eqb (trimmedLength s) 0) refl h
+  where
+    go : (b : Bool) → isFiller c && eqb (trimmedLength s) 0 ≡ b → cond b 0 (suc (trimmedLength s)) ≤ suc w → trimmedLength s ≤ w
+    go true e k = omega (arith, eqb-true (trimmedLength s) 0 (and-both (isFiller c) (eqb (trimmedLength s) 0) e .1))
+    go false e k = omega arith
+
+trimmed-front : (w : ℕ) (s : List ℕ) → trimmedLength s ≤ w → trimmedLength (take w s) ≡ trimmedLength s
+unfolding trimmedLength
+trimmed-front zero s h = omega arith
+trimmed-front (suc w) [] h = refl
+trimmed-front (suc w) (c ∷ s) h = rw (trimmed-front w s (trimmed-rest w c s h))
+
+-- a cut behind it loses nothing
+pub trimmed-cut : (w : ℕ) (s : List ℕ) → trimmedLength s ≤ w → trimmed (take w s) ≡ trimmed s
+unfolding trimmed
+trimmed-cut w s h = rw (trimmed-front w s h) (take-take (trimmedLength s) w s h)

@@ -4,4 +4,5 @@ pub mod Part
 pub mod Form
 pub mod Rooms
 pub mod Record
+pub mod Octets
 pub mod Inner

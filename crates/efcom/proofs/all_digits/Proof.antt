@@ -33,8 +33,11 @@ loop-less c = search needs
 loop-again : tie.Need-loop-again Inv-loop μ-loop
 loop-again c =
     let l = c .before .before .before .before .loop in
-    let s = now (c .before .before .before .before .before .before .args .s) in
-    (search needs, every-more isDigit s (l .i) (every isDigit s) (l .inv .1) (search needs) (sym (c .before .is-digit .ensures) ∙ c .if1 .taken))
+    let s = now (c .before .before .before .before .before .before .args .s) in (
+      search needs,
+      every-more isDigit s (l .i) (every isDigit s) (l .inv .1) (search needs)
+          (sym (c .before .is-digit .ensures) ∙ c .if1 .taken),
+    )
 
 returns : tie.Need-returns Inv-loop μ-loop
 returns c =

@@ -1,5 +1,5 @@
 -- The checks in their order, on what was seen.
-use Rattle.object.proofs.Sums.{walk-told}
+use Rattle.object.proofs.EntriesByTable.{walk-told}
 use Rattle.tlv.specs.Cut.{endCheck}
 use borrow.Author.Needs.{needs}
 use denote.Ref.{now}
@@ -31,7 +31,17 @@ returns : tie.Need-returns
 returns c =
     let a = c .before .before .before .before .before .before .before .before .before .before .args in
     let s = now (a .s) in
-    rw (c .settled .ensures, c .before .or-else2 .ensures, c .before .before .or-else .ensures, c .before .before .before .end-check .ensures, c .before .before .before .before .seen-check .ensures, c .before .before .before .before .before .before .before .entries .ensures .0, c .before .before .before .before .before .before .before .entries .ensures .1, c .before .before .before .before .before .before .before .before .part .ensures) (walk-told s (a .at) (a .v .from) (a .v .to) (endCheck s (a .v .to)))
+    rw (
+      c .settled .ensures,
+      c .before .or-else2 .ensures,
+      c .before .before .or-else .ensures,
+      c .before .before .before .end-check .ensures,
+      c .before .before .before .before .seen-check .ensures,
+      c .before .before .before .before .before .before .before .entries .ensures .0,
+      c .before .before .before .before .before .before .before .entries .ensures .1,
+      c .before .before .before .before .before .before .before .before .part .ensures,
+    )
+    (walk-told s (a .at) (a .v .from) (a .v .to) (endCheck s (a .v .to)))
 
 pub entries-in-spec : {M : Type 1} → statement M
 entries-in-spec =

@@ -1,5 +1,5 @@
 -- The three checks in their order.
-use Rattle.object.specs.Seen.{seenCheck}
+use Rattle.object.specs.Inner.Seen.{seenCheck}
 use borrow.Author.Needs.{needs}
 use Rattle.object.proofs.seen_check.Statement.{statement}
 use Rattle.object.proofs.seen_check.Tie as tie

@@ -1,5 +1,5 @@
 -- By what the verdict is.
-use Rattle.object.specs.Seen.{settled}
+use Rattle.object.specs.Inner.Seen.{settled}
 use borrow.Author.Needs.{needs}
 use Rattle.object.proofs.settled.Statement.{statement}
 use Rattle.object.proofs.settled.Tie as tie

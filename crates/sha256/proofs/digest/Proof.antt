@@ -37,7 +37,9 @@ returns-3 c =
     let e = le-leb _ _ (c .before .before .before .before .before .before .before .if1 .left) in
     let f = le-leb _ _ (c .before .before .before .before .before .before .if2 .left) in
     let d = c .before .before .before .before .before .digest-of in
-    let copied = front-copied (d .result) (now (c .before .before .before .before .before .before .before .before .before .before .args .out)) (search needs) (search needs) in
+    let copied = front-copied (d .result)
+    (now (c .before .before .before .before .before .before .before .before .before .before .args .out)) (search needs)
+    (search needs) in
     record { answer = rw (e, f); output = rw (e, f) (c .before .before .copy .ensures ∙ rw (copied, d .ensures)) }
 
 pub digest-spec : {M : Type 1} → statement M

@@ -12,7 +12,9 @@ refuse-requires : tie.Need-refuse-requires
 refuse-requires c κs = search needs
 
 returns : tie.Need-returns
-returns c = c .refuse .ensures ∙ none-past (now (c .before .before .before .args .s)) (c .before .before .before .args .at) (c .before .before .before .args .tag) (c .before .if1 .taken)
+returns c = c .refuse .ensures
+    ∙ none-past (now (c .before .before .before .args .s)) (c .before .before .before .args .at)
+    (c .before .before .before .args .tag) (c .before .if1 .taken)
 
 octet-requires : tie.Need-octet-requires
 octet-requires c κs = search needs

@@ -12,7 +12,10 @@ returns c = (rw (le-leb _ _ (c .if1 .taken)), (search needs, omega (arith, c .if
 
 returns-2 : tie.Need-returns-2
 unfolding sizeOf countIn
-returns-2 c = (simp (lt-leb _ _ (c .before .before .if1 .left), eq-eqb _ _ (c .before .if2 .taken), le-leb _ _ (c .if3 .taken)), (search needs, omega (arith, c .before .before .before .fits .b)))
+returns-2 c = (
+  simp (lt-leb _ _ (c .before .before .if1 .left), eq-eqb _ _ (c .before .if2 .taken), le-leb _ _ (c .if3 .taken)),
+  (search needs, omega (arith, c .before .before .before .fits .b)),
+)
 
 returns-3 : tie.Need-returns-3
 unfolding sizeOf countIn
@@ -26,7 +29,16 @@ add-t14 c = search needs
 
 returns-4 : tie.Need-returns-4
 unfolding sizeOf countIn
-returns-4 c = (simp (lt-leb _ _ (c .before .before .before .if1 .left), ne-eqb _ _ (c .before .before .if2 .left), eq-eqb _ _ (c .before .if4 .taken), le-leb _ _ (c .if5 .taken)), (search needs, omega (arith, c .before .before .before .before .fits .b, c .before .before .before .before .fits .c)))
+returns-4 c = (
+  simp (
+    lt-leb _ _ (c .before .before .before .if1 .left),
+    ne-eqb _ _ (c .before .before .if2 .left),
+    eq-eqb _ _
+        (c .before .if4 .taken),
+    le-leb _ _ (c .if5 .taken),
+  ),
+  (search needs, omega (arith, c .before .before .before .before .fits .b, c .before .before .before .before .fits .c)),
+)
 
 returns-5 : tie.Need-returns-5
 unfolding sizeOf countIn
@@ -34,7 +46,10 @@ returns-5 c = (simp (c .before .if4 .taken, lt-leb _ _ (c .if5 .left)), (search 
 
 returns-6 : tie.Need-returns-6
 unfolding sizeOf countIn
-returns-6 c = (simp (lt-leb _ _ (c .before .before .if1 .left), ne-eqb _ _ (c .before .if2 .left), ne-eqb _ _ (c .if4 .left)), (search needs, search needs))
+returns-6 c = (
+  simp (lt-leb _ _ (c .before .before .if1 .left), ne-eqb _ _ (c .before .if2 .left), ne-eqb _ _ (c .if4 .left)),
+  (search needs, search needs),
+)
 
 pub size-of-spec : {M : Type 1} → statement M
 size-of-spec =

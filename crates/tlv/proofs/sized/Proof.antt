@@ -28,11 +28,15 @@ enum-known-z c = search needs
 
 add-from : tie.Need-add-from
 unfolding countIn
-add-from c = let k = rw (c .before .before .z .given .1) at (c .before .before .before .before .size-of .ensures .1 .0) in omega (arith, k, c .before .before .before .before .before .before .before .before .before .pre)
+add-from c = let k = rw (c .before .before .z .given .1) at (c .before .before .before .before .size-of .ensures .1 .0) in omega
+    (arith, k, c .before .before .before .before .before .before .before .before .before .pre)
 
 add-ends-within : tie.Need-add-ends-within
 unfolding countIn
-add-ends-within c = let k = rw (c .before .before .before .z .given .1) at (c .before .before .before .before .before .size-of .ensures .1 .0) in let n = rw (c .before .before .before .z .given .1) at (c .before .before .before .before .before .size-of .ensures .1 .1) in omega (arith, k, n, c .before .before .before .before .before .before .before .before .before .before .pre)
+add-ends-within c = let k = rw (c .before .before .before .z .given .1) at
+    (c .before .before .before .before .before .size-of .ensures .1 .0) in let n = rw (c .before .before .before .z .given .1) at
+    (c .before .before .before .before .before .size-of .ensures .1 .1) in omega
+    (arith, k, n, c .before .before .before .before .before .before .before .before .before .before .pre)
 
 ends-within-requires : tie.Need-ends-within-requires
 ends-within-requires c κs = search needs

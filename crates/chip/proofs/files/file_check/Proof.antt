@@ -4,7 +4,7 @@ use borrow.Author.Tests.{le-ltb, lt-ltb}
 use mathlib.Core.Path.{ap, _∙_}
 use Rattle.refusal.specs.Outcome.{unless}
 use Rattle.chip.specs.Files.{fileOctets}
-use Rattle.chip.specs.Lent.{fileBy}
+use Rattle.chip.specs.Inner.ByTable.{fileBy}
 use Rattle.chip.proofs.files.file_check.Statement.{statement}
 use Rattle.chip.proofs.files.file_check.Tie as tie
 
@@ -26,8 +26,15 @@ judged-requires c κs = search needs
 returns : tie.Need-returns
 unfolding fileBy fileOctets
 returns c =
-    let same = rw (c .before .before .part .ensures, c .before .before .before .cut .ensures) at (c .before .is-digested .ensures) in
-    rw (← c .before .before .before .before .before .before .stands .ensures, c .before .before .before .before .before .if1 .taken, lt-ltb _ _ (c .before .before .before .before .if2 .taken)) (c .judged .ensures ∙ ap (λ b. unless b 15 (c .before .before .before .before .before .before .before .before .before .args .at)) same)
+    let same = rw (c .before .before .part .ensures, c .before .before .before .cut .ensures) at
+    (c .before .is-digested .ensures) in
+    rw (
+      ← c .before .before .before .before .before .before .stands .ensures,
+      c .before .before .before .before .before .if1 .taken,
+      lt-ltb _ _ (c .before .before .before .before .if2 .taken),
+    )
+    (c .judged .ensures ∙ ap (λ b. unless b 15
+    (c .before .before .before .before .before .before .before .before .before .args .at)) same)
 
 returns-2 : tie.Need-returns-2
 unfolding fileBy fileOctets

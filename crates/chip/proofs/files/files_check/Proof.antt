@@ -6,18 +6,19 @@ use borrow.Author.Needs.{needs}
 use denote.Ref.{now}
 use lib.ListN.{length, length-set}
 use Rattle.refusal.specs.Outcome.{outcomeOf, passed}
-use Rattle.tlv.specs.Read.{toldOf}
+use Rattle.tlv.specs.Read.{outcomeIn}
 use Rattle.tlv.specs.Element.{takenOf}
 use Rattle.tlv.specs.Tags.{groupOf}
 use Rattle.chip.specs.Outer.{files}
-use Rattle.chip.specs.Lent.{filesIn, filesBy}
-use Rattle.chip.proofs.Walks.{file-behind}
-use Rattle.chip.proofs.Lending.{in-next, lent-on, lent-refused, lent-never, lent-done}
+use Rattle.chip.specs.Inner.ByTable.{filesIn, filesBy}
+use Rattle.chip.proofs.FilesWalked.{file-behind}
+use Rattle.chip.proofs.FilesByTable.{in-next, lent-on, lent-refused, lent-never, lent-done}
 use Rattle.chip.proofs.files.files_check.Statement.{statement}
 use Rattle.chip.proofs.files.files_check.Tie as tie
 
 abbrev Inv-loop : tie.InvT-loop
-Inv-loop w tags start table₀ at₀ table at = (length table ≡ 17) × (toldOf (files w at) ≡ passed) × (filesBy w tags table (filesIn (files w at)) ≡ filesBy w tags table₀ (filesIn (files w start)))
+Inv-loop w tags start table₀ at₀ table at = (length table ≡ 17) × (outcomeIn (files w at) ≡ passed)
+    × (filesBy w tags table (filesIn (files w at)) ≡ filesBy w tags table₀ (filesIn (files w start)))
 
 abbrev μ-loop : tie.MeasureT-loop
 μ-loop w tags start table₀ at₀ table at = length w - at
@@ -66,7 +67,8 @@ loop-less c =
     let l = c .before .before .before .before .before .before .before .before .before .before .loop in
     let w = now (a .w) in
     let tags = now (a .tags) in
-    let e = sym (c .before .before .before .before .before .before .before .before .file-at .ensures) ∙ ap takenOf (c .before .before .before .before .before .before .held .given .1) in
+    let e = sym (c .before .before .before .before .before .before .before .before .file-at .ensures)
+    ∙ ap takenOf (c .before .before .before .before .before .before .held .given .1) in
     let v = c .before .before .before .before .before .before .held .given .0 .0 in
     let b = file-behind w (l .at) v e in
     omega (arith, b .0, b .1)
@@ -77,7 +79,8 @@ loop-again c =
     let l = c .before .before .before .before .before .before .before .before .before .before .loop in
     let w = now (a .w) in
     let tags = now (a .tags) in
-    let e = sym (c .before .before .before .before .before .before .before .before .file-at .ensures) ∙ ap takenOf (c .before .before .before .before .before .before .held .given .1) in
+    let e = sym (c .before .before .before .before .before .before .before .before .file-at .ensures)
+    ∙ ap takenOf (c .before .before .before .before .before .before .held .given .1) in
     let v = c .before .before .before .before .before .before .held .given .0 .0 in
     let o = c .before .before .before .before .octet .ensures in
     let g = c .before .before .before .group-of .ensures .0 ∙ ap groupOf o in
@@ -98,13 +101,15 @@ returns c =
     let l = c .before .before .before .before .before .before .before .before .before .before .before .loop in
     let w = now (a .w) in
     let tags = now (a .tags) in
-    let e = sym (c .before .before .before .before .before .before .before .before .before .file-at .ensures) ∙ ap takenOf (c .before .before .before .before .before .before .before .held .given .1) in
+    let e = sym (c .before .before .before .before .before .before .before .before .before .file-at .ensures)
+    ∙ ap takenOf (c .before .before .before .before .before .before .before .held .given .1) in
     let v = c .before .before .before .before .before .before .before .held .given .0 .0 in
     let o = c .before .before .before .before .before .octet .ensures in
     let g = c .before .before .before .before .group-of .ensures .0 ∙ ap groupOf o in
     let k = sym (c .before .before .before .file-check .ensures) in
     let p = rw (o, g) at (k ∙ ap outcomeOf (c .before .refusal .given .1)) in
-    lent-refused w tags (l .table) (l .at) (l .inv .1) v _ _ (c .before .before .before .before .before .before .before .before .before .before .loop-test .taken) e p ∙ l .inv .2
+    lent-refused w tags (l .table) (l .at) (l .inv .1) v _ _
+    (c .before .before .before .before .before .before .before .before .before .before .loop-test .taken) e p ∙ l .inv .2
 
 enum-told-2 : tie.Need-enum-told-2 Inv-loop μ-loop
 enum-told-2 c = search needs
@@ -115,7 +120,8 @@ returns-2 c =
     let l = c .before .before .before .before .loop in
     let w = now (a .w) in
     let tags = now (a .tags) in
-    absurd (lent-never w tags (l .table) (l .at) (l .inv .1) _ _ (c .before .before .before .loop-test .taken) (sym (c .before .before .file-at .ensures) ∙ ap takenOf (c .enum-told2 .given .1)))
+    absurd (lent-never w tags (l .table) (l .at) (l .inv .1) _ _ (c .before .before .before .loop-test .taken)
+    (sym (c .before .before .file-at .ensures) ∙ ap takenOf (c .enum-told2 .given .1)))
 
 returns-3 : tie.Need-returns-3 Inv-loop μ-loop
 returns-3 c =

@@ -5,7 +5,7 @@ use denote.Ref.{now}
 use lib.ListN.{length}
 use Rattle.tlv.specs.Read.{andThen}
 use Rattle.chip.specs.Presentation.{textAt, groupOne, answerBy}
-use Rattle.chip.specs.Found.{foundOf}
+use Rattle.chip.specs.Inner.Found.{foundOf}
 use Rattle.chip.proofs.group_one.group_one.Statement.{statement}
 use Rattle.chip.proofs.group_one.group_one.Tie as tie
 
@@ -31,8 +31,10 @@ returns : tie.Need-returns
 unfolding groupOne andThen
 returns c =
     let w = now (c .before .before .before .before .before .before .before .before .args .w) in
-    let e = sym (c .before .before .before .before .before .before .first-file .ensures) ∙ ap (foundOf (length w)) (c .before .before .before .before .place .given .1) in
-    rw e (c .text-at .ensures ∙ ap (λ s. answerBy (textAt s (c .before .before .before .before .place .given .0 .0 .held .from))) (c .before .part .ensures))
+    let e = sym (c .before .before .before .before .before .before .first-file .ensures)
+    ∙ ap (foundOf (length w)) (c .before .before .before .before .place .given .1) in
+    rw e (c .text-at .ensures ∙ ap (λ s. answerBy (textAt s (c .before .before .before .before .place .given .0 .0 .held .from)))
+    (c .before .part .ensures))
 
 returns-2 : tie.Need-returns-2
 unfolding groupOne andThen

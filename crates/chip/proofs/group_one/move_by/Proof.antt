@@ -15,7 +15,8 @@ enum-known-verdict : tie.Need-enum-known-verdict
 enum-known-verdict c = search needs
 
 add-t9 : tie.Need-add-t9
-add-t9 c = let k = c .before .before .before .before .pre _ _ (ap outcomeOf (c .before .before .verdict .given .1)) in search (needs, k)
+add-t9 c = let k = c .before .before .before .before .pre _ _ (ap outcomeOf (c .before .before .verdict .given .1)) in search
+    (needs, k)
 
 refuse-requires : tie.Need-refuse-requires
 refuse-requires c κs = search needs

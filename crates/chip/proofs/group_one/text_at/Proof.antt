@@ -40,10 +40,12 @@ unfolding answerOf
 move-by-requires c κs = λ n p r.
     let s = now (c .before .before .before .before .before .before .before .before .before .before .args .s) in
     let v = c .before .before .before .before .before .before .v .given .0 .0 in
-    let e = sym (c .before .before .before .before .before .before .before .before .element .ensures) ∙ ap takenOf (c .before .before .before .before .before .before .v .given .1) in
+    let e = sym (c .before .before .before .before .before .before .before .before .element .ensures)
+    ∙ ap takenOf (c .before .before .before .before .before .before .v .given .1) in
     let told = sym (ap (λ (a : Answer). a .outcome) (c .read .ensures ∙ ap readText (c .before .cut .ensures))) ∙ r in
     let small : length s < 2 ^ 63 = search needs in
-    let stood = value-within s (c .before .before .before .before .before .before .before .before .before .before .args .at) 24351 v e in
+    let stood = value-within s
+    (c .before .before .before .before .before .before .before .before .before .before .args .at) 0x5F1F v e in
     let near = moved-near s v n p (le-trans (stood .1) (stood .2)) told in
     omega (arith, near, small)
 
@@ -64,14 +66,18 @@ unfolding textAt andThen checked
 returns c =
     let s = now (c .before .before .before .before .before .before .before .before .before .before .before .args .s) in
     let v = c .before .before .before .before .before .before .before .v .given .0 .0 in
-    let e = sym (c .before .before .before .before .before .before .before .before .before .element .ensures) ∙ ap takenOf (c .before .before .before .before .before .before .before .v .given .1) in
-    let done = sym (c .before .before .before .before .before .end-check .ensures) ∙ ap outcomeOf (c .before .before .before .enum-told .given .1) in
-    rw (e, done) (c .move-by .ensures ∙ ap (λ a. answerBy (moved (v .from) a)) (c .before .read .ensures ∙ ap readText (c .before .before .cut .ensures)))
+    let e = sym (c .before .before .before .before .before .before .before .before .before .element .ensures)
+    ∙ ap takenOf (c .before .before .before .before .before .before .before .v .given .1) in
+    let done = sym (c .before .before .before .before .before .end-check .ensures)
+    ∙ ap outcomeOf (c .before .before .before .enum-told .given .1) in
+    rw (e, done) (c .move-by .ensures ∙ ap (λ a. answerBy (moved (v .from) a))
+    (c .before .read .ensures ∙ ap readText (c .before .before .cut .ensures)))
 
 returns-2 : tie.Need-returns-2
 unfolding textAt andThen checked
 returns-2 c =
-    let e = sym (c .before .before .before .before .before .before .before .before .element .ensures) ∙ ap takenOf (c .before .before .before .before .before .before .v .given .1) in
+    let e = sym (c .before .before .before .before .before .before .before .before .element .ensures)
+    ∙ ap takenOf (c .before .before .before .before .before .before .v .given .1) in
     let over = sym (c .before .before .before .before .end-check .ensures) ∙ ap outcomeOf (c .before .before .why .given .1) in
     rw (e, over) (c .refuse .ensures)
 

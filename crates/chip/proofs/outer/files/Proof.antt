@@ -5,15 +5,15 @@ use native.Mathlib.Omega.{arith}
 use borrow.Author.Needs.{needs}
 use denote.Ref.{now}
 use lib.ListN.{length}
-use Rattle.tlv.specs.Read.{toldOf}
+use Rattle.tlv.specs.Read.{outcomeIn}
 use Rattle.tlv.specs.Element.{takenOf}
 use Rattle.chip.specs.Outer.{files}
-use Rattle.chip.proofs.Walks.{file-behind, told-next, files-refused, files-done}
+use Rattle.chip.proofs.FilesWalked.{file-behind, told-next, files-refused, files-done}
 use Rattle.chip.proofs.outer.files.Statement.{statement}
 use Rattle.chip.proofs.outer.files.Tie as tie
 
 abbrev Inv-loop : tie.InvT-loop
-Inv-loop w start at₀ at = toldOf (files w at) ≡ toldOf (files w start)
+Inv-loop w start at₀ at = outcomeIn (files w at) ≡ outcomeIn (files w start)
 
 abbrev μ-loop : tie.MeasureT-loop
 μ-loop w start at₀ at = length w - at
@@ -38,25 +38,26 @@ loop-again : tie.Need-loop-again Inv-loop μ-loop
 loop-again c =
     let w = now (c .before .before .before .before .before .before .before .args .w) in
     let e = sym (c .before .before .before .file-at .ensures) ∙ ap takenOf (c .before .held .given .1) in
-    told-next w (c .before .before .before .before .before .loop .at) (c .before .held .given .0 .0) (c .before .before .before .before .loop-test .taken) e
+    told-next w (c .before .before .before .before .before .loop .at) (c .before .held .given .0 .0)
+    (c .before .before .before .before .loop-test .taken) e
     ∙ c .before .before .before .before .before .loop .inv
 
 enum-known-refusal : tie.Need-enum-known-refusal Inv-loop μ-loop
 enum-known-refusal c = search needs
 
 returns : tie.Need-returns Inv-loop μ-loop
-unfolding toldOf
+unfolding outcomeIn
 returns c =
     let w = now (c .before .before .before .before .before .before .before .args .w) in
     let e = sym (c .before .before .before .file-at .ensures) ∙ ap takenOf (c .before .refusal .given .1) in
     let l = c .before .before .before .before .before .loop in
-    sym (ap toldOf (files-refused w (l .at) _ _ (c .before .before .before .before .loop-test .taken) e)) ∙ l .inv
+    sym (ap outcomeIn (files-refused w (l .at) _ _ (c .before .before .before .before .loop-test .taken) e)) ∙ l .inv
 
 returns-2 : tie.Need-returns-2 Inv-loop μ-loop
-unfolding toldOf
+unfolding outcomeIn
 returns-2 c =
     let w = now (c .before .before .before .args .w) in
-    sym (ap toldOf (files-done w (c .before .loop .at) (c .loop-test .left))) ∙ c .before .loop .inv
+    sym (ap outcomeIn (files-done w (c .before .loop .at) (c .loop-test .left))) ∙ c .before .loop .inv
 
 pub files-spec : {M : Type 1} → statement M
 files-spec =

@@ -18,7 +18,8 @@ enum-known-refusal c = search needs
 
 returns : tie.Need-returns
 unfolding andThen
-returns c = rw (← c .before .before .before .before .element .ensures, c .before .before .object .given .1) (c .with-object .ensures)
+returns c = rw (← c .before .before .before .before .element .ensures, c .before .before .object .given .1)
+    (c .with-object .ensures)
 
 returns-2 : tie.Need-returns-2
 unfolding andThen

@@ -2,7 +2,7 @@
 use borrow.Author.Needs.{needs}
 use mathlib.Core.Path.{sym, ap, _∙_}
 use Rattle.refusal.specs.Outcome.{outcomeOf}
-use Rattle.tlv.proofs.Told.{passed-then, refused-then}
+use Rattle.tlv.proofs.Joined.{passed-then, refused-then}
 use Rattle.chip.proofs.outer.with_object.Statement.{statement}
 use Rattle.chip.proofs.outer.with_object.Tie as tie
 
@@ -19,7 +19,8 @@ returns : tie.Need-returns
 returns c = sym (passed-then _ _ (sym (c .before .before .files .ensures) ∙ ap outcomeOf (c .enum-told .given .1)))
 
 returns-2 : tie.Need-returns-2
-returns-2 c = sym (refused-then _ _ _ _ (sym (c .before .before .before .files .ensures) ∙ ap outcomeOf (c .before .refusal .given .1)))
+returns-2 c = sym (refused-then _ _ _ _
+    (sym (c .before .before .before .files .ensures) ∙ ap outcomeOf (c .before .refusal .given .1)))
 
 pub with-object-spec : {M : Type 1} → statement M
 with-object-spec =

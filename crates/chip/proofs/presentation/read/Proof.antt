@@ -5,7 +5,7 @@ use denote.Ref.{now}
 use Rattle.tlv.specs.Read.{andThen}
 use Rattle.chip.specs.Outer.{walkedOf}
 use Rattle.chip.specs.Presentation.{readStages, readPresentation}
-use Rattle.chip.proofs.Lending.{walked-files}
+use Rattle.chip.proofs.FilesByTable.{walked-files}
 use Rattle.chip.proofs.presentation.read.Statement.{statement}
 use Rattle.chip.proofs.presentation.read.Tie as tie
 
@@ -16,7 +16,8 @@ enum-known-parts : tie.Need-enum-known-parts
 enum-known-parts c = search needs
 
 decide-requires : tie.Need-decide-requires
-decide-requires c κs = walked-files (now (c .before .before .before .before .before .args .w)) (c .before .parts .given .0 .0) (sym (c .before .before .before .walk .ensures) ∙ ap walkedOf (c .before .parts .given .1))
+decide-requires c κs = walked-files (now (c .before .before .before .before .before .args .w)) (c .before .parts .given .0 .0)
+    (sym (c .before .before .before .walk .ensures) ∙ ap walkedOf (c .before .parts .given .1))
 
 enum-known-why : tie.Need-enum-known-why
 enum-known-why c = search needs

@@ -3,11 +3,11 @@ use borrow.Author.Needs.{needs}
 use mathlib.Core.Path.{ap, sym, _∙_}
 use denote.Ref.{now}
 use Rattle.refusal.specs.Outcome.{outcomeOf}
-use Rattle.tlv.proofs.Told.{refused-then}
+use Rattle.tlv.proofs.Joined.{refused-then}
 use Rattle.tlv.specs.Cut.{cut}
-use Rattle.object.specs.Object.{object}
+use Rattle.object.specs.Object.{readObject}
 use Rattle.chip.specs.Presentation.{answerBy}
-use Rattle.chip.proofs.Decision.{onward, by-entries}
+use Rattle.chip.proofs.StagesByTable.{onward, by-entries}
 use Rattle.chip.proofs.presentation.with_tags.Statement.{statement}
 use Rattle.chip.proofs.presentation.with_tags.Tie as tie
 
@@ -33,15 +33,19 @@ returns c =
     let w = now (a .w) in
     let found = c .before .before .before .before .object .ensures in
     let told = sym (found .0) ∙ ap outcomeOf (c .before .enum-told .given .1) in
-    c .with-digests .ensures ∙ ap answerBy (by-entries w (cut w (a .tags)) (a .object .to) (object w (a .object)) _ told (found .1) (c .before .before .before .before .before .before .pre))
+    c .with-digests .ensures ∙ ap answerBy
+    (by-entries w (cut w (a .tags)) (a .object .to) (readObject w (a .object)) _ told (found .1)
+    (c .before .before .before .before .before .before .pre))
 
 returns-2 : tie.Need-returns-2
 unfolding onward
 returns-2 c =
     let a = c .before .before .before .before .before .before .before .args in
     let w = now (a .w) in
-    let told = sym (c .before .before .before .before .before .object .ensures .0) ∙ ap outcomeOf (c .before .before .verdict .given .1) in
-    c .refuse .ensures ∙ ap answerBy (sym (refused-then (object w (a .object)) (onward w (cut w (a .tags)) (a .object .to)) _ _ told))
+    let told = sym (c .before .before .before .before .before .object .ensures .0)
+    ∙ ap outcomeOf (c .before .before .verdict .given .1) in
+    c .refuse .ensures ∙ ap answerBy
+    (sym (refused-then (readObject w (a .object)) (onward w (cut w (a .tags)) (a .object .to)) _ _ told))
 
 pub with-tags-spec : {M : Type 1} → statement M
 with-tags-spec =

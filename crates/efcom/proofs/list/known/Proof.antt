@@ -35,8 +35,11 @@ loop-again : tie.Need-loop-again Inv-loop μ-loop
 loop-again c =
     let l = c .before .before .before .before .loop in
     let from = c .before .before .before .before .before .before .args .from in
-    let s = now (c .before .before .before .before .before .before .args .tags) in
-    (search needs, known-more s from (l .i) (knownFrom from s) (l .inv .1) (search needs) (sym (c .before .is-group .ensures) ∙ c .if1 .taken))
+    let s = now (c .before .before .before .before .before .before .args .tags) in (
+      search needs,
+      known-more s from (l .i) (knownFrom from s) (l .inv .1) (search needs)
+          (sym (c .before .is-group .ensures) ∙ c .if1 .taken),
+    )
 
 add-t11 : tie.Need-add-t11 Inv-loop μ-loop
 add-t11 c = search needs

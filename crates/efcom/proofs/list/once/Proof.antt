@@ -14,14 +14,21 @@ use Rattle.efcom.proofs.list.once.Statement.{statement}
 use Rattle.efcom.proofs.list.once.Tie as tie
 
 abbrev Inv-loop : tie.InvT-loop
-Inv-loop tags from seen₀ i₀ seen i = (i ≤ length tags) × (length seen ≡ 256) × Marks 256 seen (backFrom i tags) × (onceFrom (from + i) (backFrom i tags) (drop i tags) ≡ onceFrom from [] tags)
+Inv-loop tags from seen₀ i₀ seen i = (i ≤ length tags) × (length seen ≡ 256) × Marks 256 seen (backFrom i tags)
+    × (onceFrom (from + i) (backFrom i tags) (drop i tags) ≡ onceFrom from [] tags)
 
 abbrev μ-loop : tie.MeasureT-loop
 μ-loop tags from seen₀ i₀ seen i = length tags - i
 
 loop-holds : tie.Need-loop-holds Inv-loop μ-loop
 unfolding backFrom
-loop-holds c = (search needs, search needs, none-marked 256, ap (λ p. onceFrom p [] (now (c .before .args .tags))) (add-zero (c .before .args .from)))
+loop-holds c = (
+  search needs,
+  search needs,
+  none-marked 256,
+  ap (λ p. onceFrom p [] (now (c .before .args .tags)))
+      (add-zero (c .before .args .from)),
+)
 
 octet-requires : tie.Need-octet-requires Inv-loop μ-loop
 octet-requires c κs = search needs
@@ -48,8 +55,13 @@ loop-again c =
     let s = now (c .before .before .before .before .before .args .tags) in
     let d = c .before .octet .result in
     let e = c .before .octet .ensures in
-    let free = unmarked 256 (l .seen) (backFrom (l .i) s) d (l .inv .2) (search needs) (c .if1 .taken) in
-    (search needs, simp length-set (l .inv .1), rw (back-more (l .i) s, ← e) (one-marked 256 (l .seen) (backFrom (l .i) s) d 1 (l .inv .2) (l .inv .1) (search needs) (search needs)), once-more s from (l .i) (onceFrom from [] s) (l .inv .3) (search needs) (rw e at free))
+    let free = unmarked 256 (l .seen) (backFrom (l .i) s) d (l .inv .2) (search needs) (c .if1 .taken) in (
+      search needs,
+      simp length-set (l .inv .1),
+      rw (back-more (l .i) s, ← e)
+          (one-marked 256 (l .seen) (backFrom (l .i) s) d 1 (l .inv .2) (l .inv .1) (search needs) (search needs)),
+      once-more s from (l .i) (onceFrom from [] s) (l .inv .3) (search needs) (rw e at free),
+    )
 
 add-t14 : tie.Need-add-t14 Inv-loop μ-loop
 add-t14 c = search needs
@@ -61,7 +73,8 @@ returns c =
     let s = now (c .before .before .before .before .before .args .tags) in
     let d = c .before .octet .result in
     let e = c .before .octet .ensures in
-    once-stop s from (l .i) (onceFrom from [] s) (l .inv .3) (search needs) (rw e at (marked 256 (l .seen) (backFrom (l .i) s) d (l .inv .2) (search needs) (c .if1 .left)))
+    once-stop s from (l .i) (onceFrom from [] s) (l .inv .3) (search needs)
+    (rw e at (marked 256 (l .seen) (backFrom (l .i) s) d (l .inv .2) (search needs) (c .if1 .left)))
 
 returns-2 : tie.Need-returns-2 Inv-loop μ-loop
 returns-2 c =

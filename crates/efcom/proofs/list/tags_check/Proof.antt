@@ -15,12 +15,14 @@ judged-requires c κs = search needs
 
 known-requires : tie.Need-known-requires
 known-requires c κs =
-    let k = cut-fits (now (c .before .before .before .args .s)) (c .before .before .before .args .v) (2 ^ 64) (search needs) (search needs) in
+    let k = cut-fits (now (c .before .before .before .args .s)) (c .before .before .before .args .v) (2 ^ 64) (search needs)
+    (search needs) in
     rw (← c .before .cut .ensures) at k
 
 once-requires : tie.Need-once-requires
 once-requires c κs =
-    let k = cut-fits (now (c .before .before .before .before .args .s)) (c .before .before .before .before .args .v) (2 ^ 64) (search needs) (search needs) in
+    let k = cut-fits (now (c .before .before .before .before .args .s)) (c .before .before .before .before .args .v) (2 ^ 64)
+    (search needs) (search needs) in
     rw (← c .before .before .cut .ensures) at k
 
 or-else-requires : tie.Need-or-else-requires

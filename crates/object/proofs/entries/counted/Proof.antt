@@ -1,6 +1,6 @@
 -- By whether the number is new, and whether one was repeated before.
 use borrow.Author.Tests.{ne-eqb, eq-eqb}
-use Rattle.object.specs.Seen.{isNew, counted}
+use Rattle.object.specs.Inner.Seen.{isNew, counted}
 use borrow.Author.Needs.{needs}
 use Rattle.object.proofs.entries.counted.Statement.{statement}
 use Rattle.object.proofs.entries.counted.Tie as tie

@@ -30,19 +30,27 @@ enum-known-refusal c = search needs
 returns : tie.Need-returns
 unfolding digestAt endCheck andThen checked
 returns c =
-    let told = sym (c .before .before .before .before .before .before .before .element .ensures) ∙ ap takenOf (c .before .before .before .before .before .v .given .1) in
+    let told = sym (c .before .before .before .before .before .before .before .element .ensures)
+    ∙ ap takenOf (c .before .before .before .before .before .v .given .1) in
     rw (told, (sym (c .before .before .before .has-octets .ensures) ∙ c .before .before .if1 .taken), eq-eqb _ _ (c .if2 .taken))
 
 returns-2 : tie.Need-returns-2
 unfolding digestAt endCheck andThen checked
 returns-2 c =
-    let told = sym (c .before .before .before .before .before .before .before .before .element .ensures) ∙ ap takenOf (c .before .before .before .before .before .before .v .given .1) in
-    rw (told, (sym (c .before .before .before .before .has-octets .ensures) ∙ c .before .before .before .if1 .taken), ne-eqb _ _ (c .before .if2 .left)) (c .refuse .ensures)
+    let told = sym (c .before .before .before .before .before .before .before .before .element .ensures)
+    ∙ ap takenOf (c .before .before .before .before .before .before .v .given .1) in
+    rw (
+      told,
+      (sym (c .before .before .before .before .has-octets .ensures) ∙ c .before .before .before .if1 .taken),
+      ne-eqb _ _
+          (c .before .if2 .left),
+    ) (c .refuse .ensures)
 
 returns-3 : tie.Need-returns-3
 unfolding digestAt endCheck andThen checked
 returns-3 c =
-    let told = sym (c .before .before .before .before .before .before .element .ensures) ∙ ap takenOf (c .before .before .before .before .v .given .1) in
+    let told = sym (c .before .before .before .before .before .before .element .ensures)
+    ∙ ap takenOf (c .before .before .before .before .v .given .1) in
     rw (told, (sym (c .before .before .has-octets .ensures) ∙ c .before .if1 .left)) (c .refuse2 .ensures)
 
 returns-4 : tie.Need-returns-4

@@ -1,10 +1,10 @@
 -- What was seen so far, with what is left from here, is what is seen of the whole.
-use Rattle.object.specs.Object.{Entry}
-use Rattle.object.specs.Seen.{entryOf, none, tallyFrom, seenIn}
+use Rattle.object.specs.Object.{GroupHash}
+use Rattle.object.specs.Inner.Seen.{entryOf, none, tallyFrom, seenIn}
 use Rattle.object.proofs.EntryPlaces.{entry-stands}
-use Rattle.object.proofs.Tally.{tally-step, tally-refused, tally-done}
-use Rattle.object.proofs.Sums.{counted-count}
-use Rattle.tlv.specs.Read.{toldOf}
+use Rattle.object.proofs.EntriesWalked.{tally-step, tally-refused, tally-done}
+use Rattle.object.proofs.EntriesByTable.{counted-count}
+use Rattle.tlv.specs.Read.{outcomeIn}
 use Rattle.refusal.specs.Numbers.{numberOf}
 use borrow.Author.Needs.{needs}
 use denote.Ref.{now}
@@ -39,7 +39,7 @@ counted-requires c κs =
     let l = c .before .before .before .before .before .loop in
     let here : l .at < length s = c .before .before .before .before .loop-test .taken in
     let x = c .before .e .given .0 .0 in
-    let e : Entry = record { group = x .group; place = x .place; digest = x .digest; end = x .end } in
+    let e : GroupHash = record { group = x .group; place = x .place; digest = x .digest; end = x .end } in
     let read = sym (c .before .before .before .entry-at .ensures) ∙ ap entryOf (c .before .e .given .1) in
     let k = entry-stands s (l .at) e read in
     (omega (arith, k .2 .numbered .1), omega (arith, l .inv .0, here))
@@ -50,7 +50,7 @@ loop-less c =
     let l = c .before .before .before .before .before .before .loop in
     let here : l .at < length s = c .before .before .before .before .before .loop-test .taken in
     let x = c .before .before .e .given .0 .0 in
-    let e : Entry = record { group = x .group; place = x .place; digest = x .digest; end = x .end } in
+    let e : GroupHash = record { group = x .group; place = x .place; digest = x .digest; end = x .end } in
     let read = sym (c .before .before .before .before .entry-at .ensures) ∙ ap entryOf (c .before .before .e .given .1) in
     let k = entry-stands s (l .at) e read in
     omega (arith, k .0, here)
@@ -61,7 +61,7 @@ loop-again c =
     let l = c .before .before .before .before .before .before .loop in
     let here : l .at < length s = c .before .before .before .before .before .loop-test .taken in
     let x = c .before .before .e .given .0 .0 in
-    let e : Entry = record { group = x .group; place = x .place; digest = x .digest; end = x .end } in
+    let e : GroupHash = record { group = x .group; place = x .place; digest = x .digest; end = x .end } in
     let read = sym (c .before .before .before .before .entry-at .ensures) ∙ ap entryOf (c .before .before .e .given .1) in
     let k = entry-stands s (l .at) e read in
     let n = counted-count (l .seen) e in
@@ -74,7 +74,7 @@ none-requires-2 : tie.Need-none-requires-2 Inv-loop μ-loop
 none-requires-2 c κs = search needs
 
 returns : tie.Need-returns Inv-loop μ-loop
-unfolding toldOf seenIn
+unfolding outcomeIn seenIn
 returns c =
     let s = now (c .before .before .before .before .before .before .before .before .before .args .s) in
     let l = c .before .before .before .before .before .before .loop in
@@ -85,7 +85,7 @@ returns c =
     (rw q, rw (q, c .none2 .ensures))
 
 returns-2 : tie.Need-returns-2 Inv-loop μ-loop
-unfolding toldOf seenIn
+unfolding outcomeIn seenIn
 returns-2 c =
     let s = now (c .before .before .before .before .args .s) in
     let l = c .before .loop in

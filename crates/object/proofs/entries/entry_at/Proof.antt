@@ -25,7 +25,8 @@ enum-known-refusal c = search needs
 returns : tie.Need-returns
 unfolding entryAt andThen
 returns c =
-    let told = sym (c .before .before .before .before .before .element .ensures) ∙ ap takenOf (c .before .before .before .v .given .1) in
+    let told = sym (c .before .before .before .before .before .element .ensures)
+    ∙ ap takenOf (c .before .before .before .v .given .1) in
     rw (told, ← c .before .part .ensures) (c .number-at .ensures)
 
 returns-2 : tie.Need-returns-2

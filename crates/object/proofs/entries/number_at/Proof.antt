@@ -34,13 +34,19 @@ enum-known-refusal c = search needs
 returns : tie.Need-returns
 unfolding numberAt andThen checked
 returns c =
-    let told = sym (c .before .before .before .before .before .before .before .element .ensures) ∙ ap takenOf (c .before .before .before .before .before .v .given .1) in
-    rw (told, (sym (c .before .before .before .is-group-number .ensures) ∙ c .before .before .if1 .taken), ← c .before .octet .ensures) (c .digest-at .ensures)
+    let told = sym (c .before .before .before .before .before .before .before .element .ensures)
+    ∙ ap takenOf (c .before .before .before .before .before .v .given .1) in
+    rw (
+      told,
+      (sym (c .before .before .before .is-group-number .ensures) ∙ c .before .before .if1 .taken),
+      ← c .before .octet .ensures,
+    ) (c .digest-at .ensures)
 
 returns-2 : tie.Need-returns-2
 unfolding numberAt andThen checked
 returns-2 c =
-    let told = sym (c .before .before .before .before .before .before .element .ensures) ∙ ap takenOf (c .before .before .before .before .v .given .1) in
+    let told = sym (c .before .before .before .before .before .before .element .ensures)
+    ∙ ap takenOf (c .before .before .before .before .v .given .1) in
     rw (told, (sym (c .before .before .is-group-number .ensures) ∙ c .before .if1 .left)) (c .refuse .ensures)
 
 returns-3 : tie.Need-returns-3

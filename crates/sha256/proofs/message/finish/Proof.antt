@@ -21,7 +21,8 @@ returns : tie.Need-returns
 returns c =
     let a = c .before .before .before .before .before .before .args in
     rw (c .compress .ensures, c .before .before .sized .ensures, c .before .before .before .before .marked .ensures)
-    (finish-one (a .hash) (now (a .rest)) (a .n) (c .before .before .before .before .before .before .pre) (c .before .before .before .if1 .taken))
+    (finish-one (a .hash) (now (a .rest)) (a .n) (c .before .before .before .before .before .before .pre)
+    (c .before .before .before .if1 .taken))
 
 slice-aggregate-compress-2 : tie.Need-slice-aggregate-compress-2
 slice-aggregate-compress-2 c = search needs
@@ -41,8 +42,14 @@ compress-requires-3 c κs = search needs
 returns-2 : tie.Need-returns-2
 returns-2 c =
     let a = c .before .before .before .before .before .before .before .before .args in
-    rw (c .compress3 .ensures, c .before .before .sized2 .ensures, c .before .before .before .compress2 .ensures, c .before .before .before .before .before .before .marked .ensures)
-    (finish-two (a .hash) (now (a .rest)) (a .n) (c .before .before .before .before .before .before .before .before .pre) (c .before .before .before .before .before .if1 .left))
+    rw (
+      c .compress3 .ensures,
+      c .before .before .sized2 .ensures,
+      c .before .before .before .compress2 .ensures,
+      c .before .before .before .before .before .before .marked .ensures,
+    )
+    (finish-two (a .hash) (now (a .rest)) (a .n) (c .before .before .before .before .before .before .before .before .pre)
+    (c .before .before .before .before .before .if1 .left))
 
 pub finish-spec : {M : Type 1} → statement M
 finish-spec =

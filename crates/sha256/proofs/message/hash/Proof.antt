@@ -12,12 +12,13 @@ use Rattle.sha256.specs.Padding.{padded}
 use Rattle.sha256.specs.Hash.{chained}
 use Rattle.sha256.proofs.PaddingLaws.{padded-after}
 use Rattle.sha256.proofs.ChainLaws.{chained-block}
-use Rattle.sha256.proofs.ListLaws.{rest-all}
+use Rattle.lent.proofs.Lists.{rest-all}
 use Rattle.sha256.proofs.message.hash.Statement.{statement}
 use Rattle.sha256.proofs.message.hash.Tie as tie
 
 abbrev Inv-loop : tie.InvT-loop
-Inv-loop message hash₀ at₀ hash at = (at ≤ length message) × (at % 64 ≡ 0) × (chained hash (drop at (padded message)) ≡ chained H0 (padded message))
+Inv-loop message hash₀ at₀ hash at = (at ≤ length message) × (at % 64 ≡ 0)
+    × (chained hash (drop at (padded message)) ≡ chained H0 (padded message))
 
 abbrev μ-loop : tie.MeasureT-loop
 μ-loop message hash₀ at₀ hash at = length message - at

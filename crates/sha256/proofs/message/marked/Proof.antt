@@ -15,7 +15,8 @@ array-write-block : tie.Need-array-write-block
 array-write-block c = search needs
 
 returns : tie.Need-returns
-returns c = rw (c .before .copy .ensures) (mark-after (now (c .before .before .before .before .args .rest)) (c .before .before .before .before .pre))
+returns c = rw (c .before .copy .ensures)
+    (mark-after (now (c .before .before .before .before .args .rest)) (c .before .before .before .before .pre))
 
 pub marked-spec : {M : Type 1} → statement M
 marked-spec = tie.close (tie.spec slice-aggregate-copy copy-requires array-write-block returns)

@@ -27,7 +27,13 @@ put-requires-2 c κs = search needs
 returns : tie.Need-returns
 returns c =
     let a = c .before .before .before .before .before .before .args in
-    rw (c .before .put2 .ensures, c .before .before .before .before .put .ensures, and-mask (a .n / 2 ^ 29) 32, and-mask (a .n * 2 ^ 3 % 2 ^ 64) 32)
+    rw (
+      c .before .put2 .ensures,
+      c .before .before .before .before .put .ensures,
+      and-mask (a .n / 2 ^ 29) 32,
+      and-mask
+          (a .n * 2 ^ 3 % 2 ^ 64) 32,
+    )
     (put-length (a .start) (a .n) (search needs))
 
 pub sized-spec : {M : Type 1} → statement M

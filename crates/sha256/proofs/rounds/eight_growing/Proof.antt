@@ -89,7 +89,8 @@ loop-again c =
       search needs,
       search needs,
       take-set-le n (l .w) (n + l .i) _ far ∙ l .inv .2,
-      rw (c .next-word .ensures, ← add-assoc n (l .i) 1) (extended-more (l .w) (n + l .i) (omega arith) below (l .inv .1)) ∙ l .inv .3,
+      rw (c .next-word .ensures, ← add-assoc n (l .i) 1) (extended-more (l .w) (n + l .i) (omega arith) below (l .inv .1))
+          ∙ l .inv .3,
       rw (c .before .before .round .ensures, kept) (rounds-more k P (l .i) (l .s) hk hP) ∙ l .inv .4,
     )
 

@@ -139,7 +139,8 @@ loop2-less c = search needs
 
 loop2-again : tie.Need-loop2-again Inv-loop μ-loop Inv-loop2 μ-loop2
 loop2-again c =
-    let B = now (c .before .before .before .before .before .before .before .before .before .before .before .before .args .block) in
+    let B = now
+    (c .before .before .before .before .before .before .before .before .before .before .before .before .args .block) in
     let l = c .before .before .before .before .before .before .loop2 in
     let w = c .before .before .before .before .before .before .before .before .loop in
     let k = c .before .before .before .before .before .before .before .before .before .before .round-constants in
@@ -155,7 +156,8 @@ loop2-again c =
 returns : tie.Need-returns Inv-loop μ-loop Inv-loop2 μ-loop2
 returns c =
     let l = c .before .loop2 in
-    sym (rounds-done K (schedule (now (c .before .before .before .before .before .before .before .args .block))) (l .t) (l .s) (omega (arith, length-K)))
+    sym (rounds-done K (schedule (now (c .before .before .before .before .before .before .before .args .block))) (l .t) (l .s)
+    (omega (arith, length-K)))
     ∙ l .inv .2 ∙ c .before .before .before .loop .inv .3
 
 pub rounds-spec : {M : Type 1} → statement M

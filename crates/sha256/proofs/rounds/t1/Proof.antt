@@ -24,7 +24,14 @@ add-requires-4 c κs = search needs
 
 returns : tie.Need-returns
 unfolding T1
-returns c = rw (c .add4 .ensures, c .before .add3 .ensures, c .before .before .add2 .ensures, c .before .before .before .ch .ensures, c .before .before .before .before .add .ensures, c .before .before .before .before .before .upper-sigma1 .ensures)
+returns c = rw (
+  c .add4 .ensures,
+  c .before .add3 .ensures,
+  c .before .before .add2 .ensures,
+  c .before .before .before .ch .ensures,
+  c .before .before .before .before .add .ensures,
+  c .before .before .before .before .before .upper-sigma1 .ensures,
+)
 
 pub t1-spec : {M : Type 1} → statement M
 t1-spec =

@@ -57,7 +57,13 @@ add-requires-3 c κs = search needs
 
 returns : tie.Need-returns
 unfolding nextWord
-returns c = rw (c .add3 .ensures, c .before .before .add2 .ensures, c .before .before .before .lower-sigma0 .ensures, c .before .before .before .before .before .add .ensures, c .before .before .before .before .before .before .before .lower-sigma1 .ensures)
+returns c = rw (
+  c .add3 .ensures,
+  c .before .before .add2 .ensures,
+  c .before .before .before .lower-sigma0 .ensures,
+  c .before .before .before .before .before .add .ensures,
+  c .before .before .before .before .before .before .before .lower-sigma1 .ensures,
+)
 
 pub next-word-spec : {M : Type 1} → statement M
 next-word-spec =

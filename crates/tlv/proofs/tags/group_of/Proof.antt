@@ -31,15 +31,52 @@ returns-5 c = (simp (c .match .keys5), search needs)
 
 returns-6 : tie.Need-returns-6
 unfolding groupOf
-returns-6 c = (simp (ne-eqb _ _ (c .before .before .match .rest .0 .0 .0 .0 .1), ne-eqb _ _ (c .before .before .match .rest .0 .0 .0 .1), ne-eqb _ _ (c .before .before .match .rest .0 .0 .1), ne-eqb _ _ (c .before .before .match .rest .0 .1), ne-eqb _ _ (c .before .before .match .rest .1), le-leb _ _ (c .before .if1 .left), le-leb (c .before .before .before .args .tag) 112 (omega (arith, c .if2 .taken))), omega (arith, c .if2 .taken))
+returns-6 c = (
+  simp (
+    ne-eqb _ _ (c .before .before .match .rest .0 .0 .0 .0 .1),
+    ne-eqb _ _
+        (c .before .before .match .rest .0 .0 .0 .1),
+    ne-eqb _ _ (c .before .before .match .rest .0 .0 .1),
+    ne-eqb _ _
+        (c .before .before .match .rest .0 .1),
+    ne-eqb _ _ (c .before .before .match .rest .1),
+    le-leb _ _ (c .before .if1 .left),
+    le-leb (c .before .before .before .args .tag) 0x70 (omega (arith, c .if2 .taken)),
+  ),
+  omega (arith, c .if2 .taken),
+)
 
 returns-7 : tie.Need-returns-7
 unfolding groupOf
-returns-7 c = (simp (ne-eqb _ _ (c .before .match .rest .0 .0 .0 .0 .1), ne-eqb _ _ (c .before .match .rest .0 .0 .0 .1), ne-eqb _ _ (c .before .match .rest .0 .0 .1), ne-eqb _ _ (c .before .match .rest .0 .1), ne-eqb _ _ (c .before .match .rest .1), lt-leb _ _ (c .if1 .taken)), search needs)
+returns-7 c = (
+  simp (
+    ne-eqb _ _ (c .before .match .rest .0 .0 .0 .0 .1),
+    ne-eqb _ _ (c .before .match .rest .0 .0 .0 .1),
+    ne-eqb _ _ (c .before .match .rest .0 .0 .1),
+    ne-eqb _ _ (c .before .match .rest .0 .1),
+    ne-eqb _ _
+        (c .before .match .rest .1),
+    lt-leb _ _ (c .if1 .taken),
+  ),
+  search needs,
+)
 
 returns-8 : tie.Need-returns-8
 unfolding groupOf
-returns-8 c = (simp (ne-eqb _ _ (c .before .before .match .rest .0 .0 .0 .0 .1), ne-eqb _ _ (c .before .before .match .rest .0 .0 .0 .1), ne-eqb _ _ (c .before .before .match .rest .0 .0 .1), ne-eqb _ _ (c .before .before .match .rest .0 .1), ne-eqb _ _ (c .before .before .match .rest .1), le-leb _ _ (c .before .if1 .left), lt-leb _ _ (c .if2 .left)), search needs)
+returns-8 c = (
+  simp (
+    ne-eqb _ _ (c .before .before .match .rest .0 .0 .0 .0 .1),
+    ne-eqb _ _
+        (c .before .before .match .rest .0 .0 .0 .1),
+    ne-eqb _ _ (c .before .before .match .rest .0 .0 .1),
+    ne-eqb _ _
+        (c .before .before .match .rest .0 .1),
+    ne-eqb _ _ (c .before .before .match .rest .1),
+    le-leb _ _ (c .before .if1 .left),
+    lt-leb _ _ (c .if2 .left),
+  ),
+  search needs,
+)
 
 pub group-of-spec : {M : Type 1} → statement M
 group-of-spec =

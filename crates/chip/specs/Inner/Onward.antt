@@ -1,0 +1,32 @@
+-- No words of the paper: what is left to do from one step of the code on.
+use Prim.Native.Nat.{ℕ}
+use mathlib.Core.List.{List, []}
+use Rattle.zone.specs.declared.record.Record.{Record}
+use Rattle.tlv.specs.declared.Stretch.{Stretch}
+use Rattle.tlv.specs.Read.{Read, value, andThen, checked}
+use Rattle.tlv.specs.Element.{element}
+use Rattle.tlv.specs.Tags as Tag
+use Rattle.tlv.specs.Cut.{cut}
+use Rattle.object.specs.Object.{readObject}
+use Rattle.chip.specs.declared.outer.Outer.{Outer}
+use Rattle.chip.specs.Outer.{files}
+use Rattle.chip.specs.Files.{filesCheck}
+use Rattle.chip.specs.Presentation.{groupOne}
+use Rattle.chip.specs.Inner.ByTable.{lentFrom, filesBy}
+
+-- the outer walk behind the security object, and behind EF.COM
+abbrev pub behindObject : List ℕ → (efcom object : Stretch) → Read Outer
+behindObject w efcom object = andThen (files w (object .to)) (λ all. value (record { efcom = efcom; object = object }))
+
+abbrev pub behindEfCom : List ℕ → Stretch → Read Outer
+behindEfCom w efcom = andThen (element w (efcom .to) Tag.sequence) (λ object. behindObject w efcom object)
+
+-- stages 5 and 6, by the table of digests
+abbrev pub withDigests : List ℕ → ℕ → Stretch → List ℕ → Read Record
+withDigests w start tags digests = checked (filesBy w (cut w tags) digests (lentFrom w start)) (groupOne w (lentFrom w start))
+
+-- stages 4 to 6
+abbrev pub withTags : List ℕ → (object tags : Stretch) → Read Record
+withTags w object tags =
+    andThen (readObject w object) (λ es.
+    andThen (files w (object .to)) (λ fs. checked (filesCheck w (cut w tags) [] es fs) (groupOne w fs)))

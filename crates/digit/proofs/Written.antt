@@ -1,0 +1,38 @@
+-- The digit as a character: what fillers have, and that it is a character and no filler.
+use Prim.Native.Nat.{ℕ, zero, suc, _-_, _≤_, _<_}
+use mathlib.Core.Path.{_≡_, refl}
+use mathlib.Core.Bool.{true, false}
+use mathlib.Core.List.{List}
+use native.Mathlib.Nat.{mod-lt}
+use native.Mathlib.Omega.{arith}
+use borrow.Author.Tests.{ne-eqb, le-leb}
+use lib.Dec.{lit<}
+use lib.ListN.{replicate}
+use Rattle.zone.specs.Alphabet.{isDigit, isLetter, isFiller, isCharacter}
+use Rattle.digit.specs.Check.{value, sumFrom, checkOf, digitOf}
+
+sum-fillers : (i n : ℕ) → sumFrom i (replicate n 60) ≡ 0
+unfolding sumFrom value isDigit isLetter
+sum-fillers i zero = refl
+sum-fillers i (suc n) = rw (sum-fillers (suc i) n) (omega arith)
+
+-- fillers have 0
+pub fillers-digit : (n : ℕ) → digitOf (replicate n 60) ≡ 48
+unfolding digitOf checkOf
+fillers-digit n = rw (sum-fillers 0 n)
+
+digit-below : (s : List ℕ) → digitOf s < 58
+unfolding digitOf checkOf
+digit-below s = omega (arith, mod-lt (sumFrom 0 s) (lit< {m = 0} {n = 10} tt))
+
+digit-from : (s : List ℕ) → 48 ≤ digitOf s
+unfolding digitOf
+digit-from s = omega arith
+
+pub digit-character : (s : List ℕ) → isCharacter (digitOf s) ≡ true
+unfolding isCharacter isDigit
+digit-character s = rw (le-leb 48 (digitOf s) (digit-from s), le-leb (digitOf s) 57 (omega (arith, digit-below s)))
+
+pub digit-solid : (s : List ℕ) → isFiller (digitOf s) ≡ false
+unfolding isFiller
+digit-solid s = ne-eqb (digitOf s) 60 (λ e. omega (arith, digit-below s))

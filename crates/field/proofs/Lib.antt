@@ -1,0 +1,1 @@
+pub mod Characters  -- what keeps a field rule holds only characters of the alphabet

@@ -1,0 +1,96 @@
+-- No words of the paper: what the code of stage 4 answers, beside the definitions. The entries are walked once, and what was seen
+-- of them
+-- is kept: how many, where the first repeated integer stands, and for each group where its digest begins.
+use Prim.Native.Nat.{ℕ, zero, suc, _+_}
+use mathlib.Core.Bool.{Bool, cond}
+use mathlib.Core.List.{List, [], _∷_}
+use lib.Dec.{eqb, leb}
+use lib.ListN.{take, getD, set, replicate}
+use Rattle.refusal.specs.Numbers.{numberOf}
+use Rattle.refusal.specs.Outcome.{Outcome, passed, refused, unless, orElse, outcomeOf}
+use Rattle.tlv.specs.declared.Stretch.{Stretch}
+use Rattle.tlv.specs.Read.{Read, value, refusal, andThen, checked, outcomeIn}
+use Rattle.tlv.specs.Cut.{endCheck}
+use Rattle.object.specs.declared.entries.Seen.{Seen}
+use Rattle.object.specs.declared.entries.HashRead.{HashRead}
+use Rattle.object.specs.declared.entries.HashRead.the-variants.{Value, Refused}
+use Rattle.object.specs.declared.ObjectRead.{ObjectRead}
+use Rattle.object.specs.Object as O
+use Rattle.object.specs.Object.{digestFor}
+
+-- ---- an entry
+
+abbrev pub entryOf : HashRead → Read O.GroupHash
+entryOf (Value e) = value (record { group = e .group; place = e .place; digest = e .digest; end = e .end })
+entryOf (Refused r) = refusal (numberOf (r .cause)) (r .place)
+
+-- ---- what was seen of the entries
+
+abbrev pub none : Seen
+none = record { count = 0; repeated = 0; digests = replicate 17 0 }
+
+-- whether a group's number was seen before
+unfoldable pub isNew : Seen → ℕ → Bool
+isNew t group = eqb (getD (t .digests) group 0) 0
+
+-- one entry more: the first digest of a group is kept, and the first integer that repeats another
+unfoldable pub counted : Seen → O.GroupHash → Seen
+counted t e =
+    cond (isNew t (e .group)) (record {
+      count = t .count + 1;
+      repeated = t .repeated;
+      digests = set (t .digests) (e .group)
+          (e .digest);
+    })
+    (record { count = t .count + 1; repeated = cond (eqb (t .repeated) 0) (e .place) (t .repeated); digests = t .digests })
+
+unfoldable pub tallied : Seen → List O.GroupHash → Seen
+tallied t [] = t
+tallied t (e ∷ es) = tallied (counted t e) es
+
+-- what was seen when the entries from a place on are walked too
+unfoldable pub tallyFrom : List ℕ → ℕ → Seen → Read Seen
+tallyFrom s at t = andThen (O.entries s at) (λ es. value (tallied t es))
+
+unfoldable pub seenIn : Read Seen → Seen
+seenIn (value t) = t
+seenIn (refusal n p) = none
+
+-- the tests after all entries
+unfoldable pub seenCheck : Seen → ℕ → Outcome
+seenCheck t at =
+    orElse (unless (eqb (t .repeated) 0) 12 (t .repeated))
+    (orElse (unless (leb 2 (t .count)) 12 at) (unless (leb (t .count) 16) 12 at))
+
+-- ---- the whole object
+
+-- where the digests of so many groups begin
+unfoldable pub digestsFrom : ℕ → ℕ → List O.GroupHash → List ℕ
+digestsFrom zero group es = []
+digestsFrom (suc more) group es = digestFor group es ∷ digestsFrom more (suc group) es
+
+-- for each group from 0 to 16 where its digest begins, 0 where it has no entry or the object is refused
+unfoldable pub tableOf : Read (List O.GroupHash) → List ℕ
+tableOf (value es) = digestsFrom 17 0 es
+tableOf (refusal n p) = replicate 17 0
+
+pub record Told : Type 0 where
+  pub outcome : Outcome
+  pub digests : List ℕ
+
+abbrev pub objectOf : ObjectRead → Told
+objectOf r = record { outcome = outcomeOf (r .verdict); digests = r .digests }
+
+unfoldable pub told : Read (List O.GroupHash) → Told
+told x = record { outcome = outcomeIn x; digests = tableOf x }
+
+-- the entries in a list's content, then the tests on all of them, and nothing follows
+abbrev pub fromEntries : List ℕ → ℕ → Stretch → Read (List O.GroupHash)
+fromEntries s at v =
+    andThen (O.entries (take (v .to) s) (v .from)) (λ es.
+    checked (O.entriesCheck es at) (checked (endCheck s (v .to)) (value es)))
+
+-- a refusal has no digests
+unfoldable pub settled : Outcome → List ℕ → Told
+settled passed digests = record { outcome = passed; digests = digests }
+settled (refused n p) digests = record { outcome = refused n p; digests = replicate 17 0 }

@@ -1,0 +1,66 @@
+-- The laws of a reading step by step: what it gives by what its steps give, and what they must have given.
+use Prim.Native.Nat.{ℕ}
+use mathlib.Core.Path.{_≡_, refl, ap, sym}
+use mathlib.Core.Bool.{Bool, true, false, cond}
+use native.Mathlib.Omega.{arith}
+use Rattle.refusal.specs.Outcome.{Outcome, passed, refused}
+use Rattle.refusal.proofs.Outcomes.{refused-not-passed}
+use Rattle.tlv.specs.Read.{Read, value, refusal, andThen, checked, outcomeIn}
+
+refusedAs : {A : Type 0} → Outcome → Read A
+refusedAs passed = refusal 0 0
+refusedAs (refused n p) = refusal n p
+
+pub passed-then : {A B : Type 0} (m : Read A) (b : B) → outcomeIn m ≡ passed → andThen m (λ a. value b) ≡ value b
+unfolding outcomeIn andThen
+passed-then (value a) b e = refl
+passed-then (refusal n p) b e = absurd (refused-not-passed e)
+
+pub refused-then : {A B : Type 0} (m : Read A) (go : A → Read B) (n p : ℕ) → outcomeIn m ≡ refused n p
+    → andThen m go ≡ refusal n p
+unfolding outcomeIn andThen refusedAs
+refused-then (value a) go n p e = absurd (refused-not-passed (sym e))
+refused-then {A} {B} (refusal k q) go n p e = ap (refusedAs {A = B}) e
+
+-- ---- what must have been, where a joined reading gave a value
+
+pub never-value : {A : Type 0} (n p : ℕ) (a : A) → _≡_ {A = Read A} (refusal n p) (value a) → ⊥
+never-value n p a e = let z : _≡_ {A = ℕ} 0 1 = cc in omega arith
+
+pub same-value : {A : Type 0} {a b : A} → _≡_ {A = Read A} (value a) (value b) → a ≡ b
+same-value e = cc
+
+pub first-value : {A B : Type 0} (m : Read A) (go : A → Read B) (b : B) → andThen m go ≡ value b
+    → (a : A) × (m ≡ value a) × (go a ≡ value b)
+unfolding andThen
+first-value (value a) go b e = (a, refl, e)
+first-value (refusal n p) go b e = absurd (never-value n p b e)
+
+pub checked-value : {A : Type 0} (o : Outcome) (m : Read A) (a : A) → checked o m ≡ value a → (o ≡ passed) × (m ≡ value a)
+unfolding checked
+checked-value passed m a e = (refl, e)
+checked-value (refused n p) m a e = absurd (never-value n p a e)
+
+pub kept-value : {A : Type 0} (b : Bool) (m : Read A) (n p : ℕ) (a : A) → cond b m (refusal n p) ≡ value a
+    → (b ≡ true) × (m ≡ value a)
+kept-value true m n p a e = (refl, e)
+kept-value false m n p a e = absurd (never-value n p a e)
+
+-- ---- what it gives, where its step is known
+
+pub value-then : {A B : Type 0} (m : Read A) (go : A → Read B) (a : A) (r : Read B) → m ≡ value a → go a ≡ r → andThen m go ≡ r
+unfolding andThen
+value-then m go a r e f = rw e f
+
+-- what goes on from a value that is known
+pub then-known : {A B : Type 0} (m : Read A) (go : A → Read B) (a : A) (r : Read B) → m ≡ value a → andThen m go ≡ r → go a ≡ r
+unfolding andThen
+then-known m go a r e f = rw e at f
+
+-- a reading gives one value
+pub one-value : {A : Type 0} (m : Read A) (a b : A) → m ≡ value a → m ≡ value b → a ≡ b
+one-value m a b e f = cc
+
+pub value-checked : {A : Type 0} (o : Outcome) (m r : Read A) → o ≡ passed → m ≡ r → checked o m ≡ r
+unfolding checked
+value-checked o m r e f = rw e f

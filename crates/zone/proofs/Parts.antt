@@ -1,0 +1,75 @@
+-- The parts of a text: each has its own rank, and no two overlap.
+use Prim.Native.Nat.{_+_, _-_, _≤_, ℕ}
+use mathlib.Core.Path.{_≡_, refl, sym, _∙_, ap}
+use mathlib.Core.Bool.{Bool, true, false, false≢true}
+use mathlib.Core.Logic.{_⊎_, inl, inr}
+use mathlib.Core.List.{List, [], _∷_}
+use native.Mathlib.Omega.{arith}
+use borrow.Author.Tests.{eqb-true, eq-eqb}
+use lib.ListN.{getD}
+use Rattle.zone.specs.declared.form.Form.{Form}
+use Rattle.zone.specs.Part.{Part, rank, same, code, state, number, numberCheck, optional, birth, birthCheck, sex, expiry}
+use Rattle.zone.specs.Part.{expiryCheck, nationality, optional2, composite, name, personal, personalCheck}
+use Rattle.zone.specs.Form.{Cell, _of_, layout, startIn, start, widthIn, width}
+
+-- one part before the other, whichever
+Apart : List Cell → Part → Part → Type 0
+Apart cells x y = (startIn cells x + widthIn cells x ≤ startIn cells y) ⊎ (startIn cells y + widthIn cells y ≤ startIn cells x)
+
+both-there : (x y z : Part) → same x y ≡ false → same x z ≡ true → same y z ≡ true → ⊥
+unfolding same
+both-there x y z n p q =
+    let a = eqb-true (rank x) (rank z) p in
+    let b = eqb-true (rank y) (rank z) q in
+    false≢true (sym n ∙ eq-eqb (rank x) (rank y) (a ∙ sym b))
+
+apart-cells : (cells : List Cell) (x y : Part) → same x y ≡ false → Apart cells x y
+unfolding Apart startIn widthIn
+apart-cells [] x y n = inl (omega arith)
+apart-cells (z of w ∷ cells) x y n = go (same x z) (same y z) refl refl (apart-cells cells x y n)
+  where
+    go : (a b : Bool) → same x z ≡ a → same y z ≡ b → Apart cells x y → Apart (z of w ∷ cells) x y
+    go true true p q h = absurd (both-there x y z n p q)
+    go true false p q h = rw (p, q) (inl (omega arith))
+    go false true p q h = rw (p, q) (inr (omega arith))
+    go false false p q (inl h) = rw (p, q) (inl (omega arith))
+    go false false p q (inr h) = rw (p, q) (inr (omega arith))
+
+pub apart : (f : Form) (x y : Part) → same x y ≡ false → (start f x + width f x ≤ start f y) ⊎ (start f y + width f y ≤ start f x)
+unfolding start width Apart
+apart f x y n = apart-cells (layout f) x y n
+
+-- two parts of one rank are one part
+ranked : ℕ → Part
+ranked n =
+    getD
+    (code ∷ state ∷ number ∷ numberCheck ∷ optional ∷ birth ∷ birthCheck ∷ sex ∷ expiry ∷ expiryCheck ∷ nationality ∷ optional2
+    ∷ composite
+    ∷ name ∷ personal ∷ personalCheck ∷ []) n code
+
+ranked-rank : (x : Part) → ranked (rank x) ≡ x
+unfolding ranked rank
+ranked-rank code = refl
+ranked-rank state = refl
+ranked-rank number = refl
+ranked-rank numberCheck = refl
+ranked-rank optional = refl
+ranked-rank birth = refl
+ranked-rank birthCheck = refl
+ranked-rank sex = refl
+ranked-rank expiry = refl
+ranked-rank expiryCheck = refl
+ranked-rank nationality = refl
+ranked-rank optional2 = refl
+ranked-rank composite = refl
+ranked-rank name = refl
+ranked-rank personal = refl
+ranked-rank personalCheck = refl
+
+pub same-one : (x y : Part) → same x y ≡ true → x ≡ y
+unfolding same
+same-one x y e = sym (ranked-rank x) ∙ (ap ranked (eqb-true (rank x) (rank y) e) ∙ ranked-rank y)
+
+pub same-self : (x : Part) → same x x ≡ true
+unfolding same
+same-self x = eq-eqb (rank x) (rank x) refl
