@@ -6,7 +6,7 @@ VERSION = 0.1.0
 # The seed of the compared cases; empty for the one that the gate takes.
 SEED ?=
 
-.PHONY: all archive desk demo test compare bench install format clean
+.PHONY: all archive desk demo test units compare bench install format clean
 
 all: archive
 
@@ -39,11 +39,17 @@ demo: | cc-found
 test: | rt-found
 	@.ci/run
 
-# The independent implementation is held to its own published vectors first, then the archive to it.
 CARGO := LAMPHUDET_ARCHIVE='$(ARCHIVE)' cargo
 CARGO_FLAGS := --quiet --release --locked --offline
-compare: archive | cargo-found
-	@$(CARGO) test $(CARGO_FLAGS) --manifest-path tests/compare/Cargo.toml --lib
+
+# The Rust crates' own tests, lowest first: the independent implementation is held to what the papers publish before anything
+# is held to it.
+units: archive | cargo-found
+	@for crate in tests/paper tests/shared tests/compare bench; do \
+	    $(CARGO) test $(CARGO_FLAGS) --manifest-path $$crate/Cargo.toml --tests || exit 1; \
+	done
+
+compare: units
 	@$(CARGO) run $(CARGO_FLAGS) --manifest-path tests/compare/Cargo.toml -- $(SEED)
 
 bench: archive | cargo-found

@@ -1,6 +1,9 @@
-//! What is measured.
+//! What is measured, and work on it.
 
-use compare::report::grouped;
+use shared::grouped::grouped;
+
+/// The work of a contender on a job, ready to be done again and again.
+pub type Work = Box<dyn FnMut()>;
 
 #[derive(Clone, Copy, PartialEq, Eq)]
 pub enum Job {

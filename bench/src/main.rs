@@ -4,8 +4,10 @@
 //!     bench worker CONTENDER              measures what is asked on standard input (the tables start one a contender)
 //!     bench once CONTENDER JOB SIZE TIMES the work alone, for counting instructions
 
+mod border;
 mod contender;
 mod counts;
+mod digests;
 mod job;
 mod libcrypto;
 mod presentations;

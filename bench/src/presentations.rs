@@ -1,14 +1,13 @@
 //! The work on presentations.
 
+use crate::border;
 use crate::contender::Contender;
-use crate::job::Job;
-use crate::work::Work;
-use compare::border;
-use compare::cases::presentations::group_1;
-use compare::paper::calls;
-use compare::paper::presentation::{write, write_file};
-use compare::paper::sha256::sha256;
-use compare::seeds::Seeds;
+use crate::job::{Job, Work};
+use paper::calls;
+use paper::presentation::{write, write_file};
+use paper::sha256::sha256;
+use shared::files::group_1;
+use shared::seeds::Seeds;
 
 pub fn of(contender: Contender, job: Job) -> Option<Work> {
     let files = files(job.size());
@@ -17,7 +16,7 @@ pub fn of(contender: Contender, job: Job) -> Option<Work> {
     match (contender, job) {
         (Contender::Library, Job::ReadPresentation(_)) => Some(Box::new(move || {
             // A refusal would be quicker than the work, so none may come.
-            assert_eq!(border::bare_read_presentation(1, &lent, &mut room).number, 0);
+            assert_eq!(border::read_presentation(1, &lent, &mut room).number, 0);
         })),
         (Contender::Rust, Job::ReadPresentation(_)) => Some(Box::new(move || {
             let outcome = calls::read_presentation(1, &lent, room.len());
@@ -25,7 +24,7 @@ pub fn of(contender: Contender, job: Job) -> Option<Work> {
             room[..outcome.written.len()].copy_from_slice(&outcome.written);
         })),
         (Contender::Library, Job::DigestFiles(_)) => Some(over(files, |file, digest| {
-            border::bare_digest(file, digest);
+            border::digest(file, digest);
         })),
         (Contender::Rust, Job::DigestFiles(_)) => Some(over(files, |file, digest| *digest = sha256(file))),
         _ => None,

@@ -1,20 +1,20 @@
 //! The work on texts and entries: sound records of all forms, taken in turn, as a server meets them.
 
+use crate::border;
 use crate::contender::Contender;
-use crate::job::Job;
-use crate::work::Work;
-use compare::cases::records;
-use compare::paper::{calls, entry, text};
-use compare::seeds::Seeds;
-use compare::{border, paper::Answer};
+use crate::job::{Job, Work};
+use paper::answer::Answer;
+use paper::{calls, entry, text};
+use shared::records;
+use shared::seeds::Seeds;
 
 const RECORDS: usize = 256;
 
 pub fn of(contender: Contender, job: Job) -> Option<Work> {
     match (contender, job) {
-        (Contender::Library, Job::ReadText) => Some(over(texts(), |text, room| border::bare_read_text(1, text, room))),
-        (Contender::Library, Job::WriteText) => Some(over(entries(), border::bare_write_text)),
-        (Contender::Library, Job::NextEntry) => Some(along(border::bare_next_entry)),
+        (Contender::Library, Job::ReadText) => Some(over(texts(), |text, room| border::read_text(1, text, room))),
+        (Contender::Library, Job::WriteText) => Some(over(entries(), border::write_text)),
+        (Contender::Library, Job::NextEntry) => Some(along(border::next_entry)),
         (Contender::Rust, Job::ReadText) => Some(over(texts(), |text, room| {
             let outcome = calls::read_text(1, text, room.len());
             room[..outcome.written.len()].copy_from_slice(&outcome.written);

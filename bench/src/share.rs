@@ -5,7 +5,7 @@ use crate::counts;
 use crate::job::Job;
 use crate::rounds::{enough, median, ROUNDS};
 use crate::worker::Worker;
-use compare::report::grouped;
+use shared::grouped::grouped;
 
 /// The share is the time of reading a presentation, less the time of digesting its group files through the digest's own
 /// call, over the time of reading. Instructions likewise.

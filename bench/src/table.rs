@@ -3,7 +3,7 @@
 use crate::contender::Contender;
 use crate::job::Job;
 use crate::rounds::Median;
-use compare::report::grouped;
+use shared::grouped::grouped;
 
 const WIDTH: usize = 15;
 

@@ -3,8 +3,8 @@
 //! with the time; while it is not asked, it waits.
 
 use crate::contender::Contender;
-use crate::job::Job;
-use crate::work::{self, Work};
+use crate::job::{Job, Work};
+use crate::work;
 use std::io::{BufRead, BufReader, Write};
 use std::path::PathBuf;
 use std::process::{Child, ChildStdin, ChildStdout, Command, Stdio};

@@ -1,7 +1,7 @@
 //! Ranges that are lent to a call, each between guard octets, and what has changed in and around them afterwards.
 
 use crate::fence::Pages;
-use crate::seeds::Seeds;
+use shared::seeds::Seeds;
 use std::ops::{Deref, DerefMut};
 
 /// Guard octets before and after each range: more than a block, so that a block written at a wrong place is seen.

@@ -1,8 +1,8 @@
 //! Holds what a call did to what the paper says that it does: the answer, and every octet of every lent range and guard.
 
 use crate::guard::Lent;
-use crate::paper::Outcome;
 use crate::report::hex;
+use paper::answer::Outcome;
 use std::fmt::Display;
 
 /// The lines that tell a difference; none where there is no difference.

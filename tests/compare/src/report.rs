@@ -1,5 +1,7 @@
 //! What is printed: one line a call with its count, and for a difference all that is needed to make it again.
 
+use shared::grouped::grouped;
+
 /// How many differences of one call are printed whole. The others are counted.
 const SHOWN: u64 = 5;
 /// How many octets of a long input are printed. The seed and the case's number make it again.
@@ -57,24 +59,9 @@ pub fn hex_shown(octets: &[u8]) -> String {
     }
 }
 
-/// A number with its digits in threes.
-pub fn grouped(number: u64) -> String {
-    let digits = number.to_string();
-    let threes = digits.as_bytes().rchunks(3).rev().map(String::from_utf8_lossy);
-    threes.collect::<Vec<_>>().join(",")
-}
-
 #[cfg(test)]
 mod tests {
     use super::*;
-
-    #[test]
-    fn digits_in_threes() {
-        assert_eq!(grouped(0), "0");
-        assert_eq!(grouped(999), "999");
-        assert_eq!(grouped(65_535), "65,535");
-        assert_eq!(grouped(1_000_000), "1,000,000");
-    }
 
     #[test]
     fn differences_are_counted() {

@@ -1,7 +1,7 @@
 //! Damage of any kind at any place of any presentation, drawn from a seed.
 
 use crate::cases::trees::{Held, Length, Tree};
-use crate::seeds::Seeds;
+use shared::seeds::Seeds;
 
 /// Spoils one place of the tree. All that any kind of damage may need is drawn first.
 pub fn spoil(seeds: &mut Seeds, tree: &mut Tree) {

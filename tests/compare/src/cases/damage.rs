@@ -1,10 +1,10 @@
 //! Every kind of damage at every place of one presentation, to be taken alone and in pairs.
 
 use crate::cases::presentations::{self, entry, seal};
-use crate::cases::specimens;
 use crate::cases::trees::{Held, Length, Tree};
-use crate::paper::presentation::write_text_element;
-use crate::seeds::Seeds;
+use paper::presentation::write_text_element;
+use paper::specimens;
+use shared::seeds::Seeds;
 
 /// One damage, at a place of the tree.
 #[derive(Clone)]
@@ -239,7 +239,7 @@ fn files() -> Vec<Damage> {
 #[cfg(test)]
 mod tests {
     use super::*;
-    use crate::paper::presentation;
+    use paper::presentation;
     use std::collections::BTreeSet;
 
     #[test]

@@ -2,11 +2,11 @@
 
 use crate::border;
 use crate::cases::trials::{self, Call, Trials};
-use crate::cases::vectors;
 use crate::guard::{Lent, Side};
-use crate::paper::{calls, Answer, Outcome};
 use crate::report::{hex, Tally};
-use crate::seeds::Seeds;
+use paper::answer::{Answer, Outcome};
+use paper::{calls, published};
+use shared::seeds::Seeds;
 
 /// Around the longest input: its last block's edges, and the first lengths that are refused.
 const LONG: [usize; 16] = [
@@ -65,7 +65,7 @@ impl Call for Digest {
 
 impl Trials<Digest> {
     fn published(&mut self) {
-        for (message, digest) in vectors::published() {
+        for (message, digest) in published::digests() {
             let answer = Answer { number: 0, value: 32 };
             let expected = Outcome { answer, written: digest.to_vec() };
             let output = Lent::new(&self.seeds.octets(32), 0);

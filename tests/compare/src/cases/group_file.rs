@@ -5,9 +5,10 @@ use crate::cases::trees::Tree;
 use crate::cases::trials::{Call, Trials};
 use crate::cases::{chance, damage, outside, presentations};
 use crate::guard::{Lent, Side};
-use crate::paper::presentation::{group_file, write, Stretch};
-use crate::paper::Outcome;
 use crate::report::{hex_shown, Tally};
+use paper::answer::{Outcome, Stretch};
+use paper::presentation::{group_file, write};
+use shared::files::files;
 
 /// Numbers that are no group's: tags of groups, and those that are a group's only in their lowest octets.
 const OTHERS: [u32; 9] = [0x61, 0x75, 255, 256, 257, 65_537, 0x8000_0001, 0xffff_ff01, u32::MAX];
@@ -71,7 +72,7 @@ impl Trials<GroupFile> {
 
     fn sound(&mut self) {
         for turn in 0..300 {
-            let files = presentations::files(&mut self.seeds, 1 + turn % 15);
+            let files = files(&mut self.seeds, 1 + turn % 15);
             let made = presentations::tree(&mut self.seeds, &files).encoded();
             self.all_groups(&made);
         }
@@ -80,7 +81,7 @@ impl Trials<GroupFile> {
     /// The first of several files of a group, each with another content and length.
     fn lent_twice(&mut self) {
         for turn in 0..300 {
-            let files = presentations::files(&mut self.seeds, 1 + turn % 15);
+            let files = files(&mut self.seeds, 1 + turn % 15);
             let mut tree = presentations::tree(&mut self.seeds, &files);
             for _ in 0..1 + turn % 4 {
                 let group = self.seeds.pick(&files.iter().map(|(group, _)| *group).collect::<Vec<_>>());
@@ -162,7 +163,7 @@ impl Trials<GroupFile> {
     fn drawn(&mut self) {
         for _ in 0..5_000 {
             let count = 1 + self.seeds.below(5);
-            let files = presentations::files(&mut self.seeds, count);
+            let files = files(&mut self.seeds, count);
             let mut tree = presentations::tree(&mut self.seeds, &files);
             for _ in 0..1 + self.seeds.below(2) {
                 chance::spoil(&mut self.seeds, &mut tree);

@@ -1,12 +1,12 @@
 //! The cases of a run of entries.
 
 use crate::border;
-use crate::cases::records;
-use crate::cases::specimens;
 use crate::cases::trials::{Call, Trials};
+use crate::cases::{entries, octets};
 use crate::guard::{Lent, Side};
-use crate::paper::{calls, Answer, Outcome};
 use crate::report::{hex, Tally};
+use paper::answer::{Answer, Outcome};
+use paper::calls;
 
 pub fn compare(seed: u64) -> Tally {
     let mut trials = Trials::<NextEntry>::new(seed);
@@ -59,7 +59,7 @@ impl Trials<NextEntry> {
     /// One run of all the specimens, read from entry to entry; with no house, every one of them is refused.
     fn specimens(&mut self) {
         for house in [0, 1, 32_767] {
-            let entries = specimens::entries(house);
+            let entries = entries::of_specimens(house);
             let run = entries.concat();
             let mut offset = 0;
             for entry in entries {
@@ -89,7 +89,7 @@ impl Trials<NextEntry> {
     /// An entry between two others, one of its fields against its rule.
     fn careless(&mut self) {
         for _ in 0..3_000 {
-            let (first, damaged) = (self.joined(1), records::careless_entry(&mut self.seeds));
+            let (first, damaged) = (self.joined(1), entries::careless(&mut self.seeds));
             let run = [&first[..], &damaged, &first].concat();
             let starts = [0, first.len(), first.len() + damaged.len()];
             self.together(|trials| starts.iter().for_each(|start| trials.at(&run, *start as u64)));
@@ -98,7 +98,7 @@ impl Trials<NextEntry> {
 
     /// Numbers and names of every length that fits the bits, in every form.
     fn lengths(&mut self) {
-        for entry in records::of_every_length(&mut self.seeds) {
+        for entry in entries::of_every_length(&mut self.seeds) {
             let run = [entry, self.joined(1)].concat();
             self.at(&run, 0);
         }
@@ -106,10 +106,10 @@ impl Trials<NextEntry> {
 
     /// Each bit of an entry that another one follows.
     fn flipped(&mut self) {
-        for sound in records::some_entries(&mut self.seeds) {
+        for sound in entries::some(&mut self.seeds) {
             let next = self.joined(1);
             self.together(|trials| {
-                let runs = (0..8 * sound.len()).map(|bit| [&records::flipped(&sound, bit)[..], &next].concat());
+                let runs = (0..8 * sound.len()).map(|bit| [&octets::flipped(&sound, bit)[..], &next].concat());
                 runs.for_each(|run| trials.at(&run, 0));
             });
         }
@@ -117,11 +117,11 @@ impl Trials<NextEntry> {
 
     /// Each octet of an entry, with each value.
     fn octets(&mut self) {
-        for sound in specimens::entries(1) {
+        for sound in entries::of_specimens(1) {
             let next = self.joined(1);
             (0..sound.len()).for_each(|at| {
                 self.together(|trials| {
-                    let runs = records::with_each_octet(&sound, at);
+                    let runs = octets::with_each(&sound, at);
                     runs.iter().for_each(|run| trials.at(&[&run[..], &next].concat(), 0));
                 });
             });
@@ -129,7 +129,7 @@ impl Trials<NextEntry> {
     }
 
     fn cut(&mut self) {
-        for last in records::some_entries(&mut self.seeds) {
+        for last in entries::some(&mut self.seeds) {
             let first = self.joined(1);
             self.together(|trials| {
                 let runs = (0..=last.len()).map(|length| [&first[..], &last[..length]].concat());
@@ -160,7 +160,7 @@ impl Trials<NextEntry> {
     }
 
     fn joined(&mut self, count: usize) -> Vec<u8> {
-        (0..count).flat_map(|_| records::sound_entry(&mut self.seeds)).collect()
+        (0..count).flat_map(|_| entries::sound(&mut self.seeds)).collect()
     }
 
     fn at(&mut self, run: &[u8], offset: u64) {

@@ -5,8 +5,8 @@
 //! EF.COM has 23 octets and lists groups 1, 2 and 16, so the object begins at 23. The offsets in the object are those that
 //! `openssl asn1parse` prints (`remake.sh list`).
 
-use crate::cases::specimens;
-use crate::paper::{entry, text, Outcome};
+use paper::answer::Outcome;
+use paper::{entry, specimens, text};
 
 /// Where the object begins.
 const OBJECT: u64 = 23;
@@ -105,9 +105,10 @@ fn octets(hex: &str) -> Vec<u8> {
 #[cfg(test)]
 mod tests {
     use super::*;
-    use crate::paper::presentation::{group_file, Stretch};
-    use crate::paper::tlv::Walk;
-    use crate::paper::{calls, object};
+    use paper::answer::Stretch;
+    use paper::presentation::group_file;
+    use paper::tlv::Walk;
+    use paper::{calls, object};
 
     #[test]
     fn the_reader_answers_as_argued() {

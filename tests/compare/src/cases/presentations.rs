@@ -1,30 +1,9 @@
-//! Presentations made from a seed: sound ones, as the encoder of `paper` gives them and as trees that can be spoilt.
+//! Sound presentations made from a seed, as trees that can be spoilt.
 
-use crate::cases::records;
 use crate::cases::trees::{Held, Length, Tree};
-use crate::paper::presentation::write_text_element;
-use crate::paper::sha256::sha256;
-use crate::paper::{group, text};
-use crate::seeds::Seeds;
-
-/// Groups in the order in which they are lent, group 1 among them, with small contents.
-pub fn files(seeds: &mut Seeds, groups: usize) -> Vec<(u8, Vec<u8>)> {
-    let mut others: Vec<u8> = group::ALL[1..].to_vec();
-    let mut files = vec![(1, group_1(seeds))];
-    for _ in 1..groups {
-        let group = others.swap_remove(seeds.below(others.len()));
-        let length = seeds.pick(&[0, 1, 2, 30, 100, 126, 127, 128, 129, 255, 256]);
-        files.push((group, seeds.octets(length)));
-    }
-    let place = seeds.below(files.len());
-    files.swap(0, place);
-    files
-}
-
-/// The content of a group 1 with the text of a sound record.
-pub fn group_1(seeds: &mut Seeds) -> Vec<u8> {
-    write_text_element(&text::write(&records::sound(seeds)))
-}
+use paper::group;
+use paper::sha256::sha256;
+use shared::seeds::Seeds;
 
 /// A sound presentation of these files as a tree. The list may name more, and the object may have more entries.
 pub fn tree(seeds: &mut Seeds, files: &[(u8, Vec<u8>)]) -> Tree {
@@ -118,7 +97,8 @@ fn digest(file: &Tree) -> Option<(u8, [u8; 32])> {
 #[cfg(test)]
 mod tests {
     use super::*;
-    use crate::paper::presentation;
+    use paper::presentation;
+    use shared::files::files;
 
     #[test]
     fn sound_ones_are_accepted() {

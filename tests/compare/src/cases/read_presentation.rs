@@ -1,19 +1,22 @@
 //! The cases of reading a presentation to an entry.
 
 use crate::border;
-use crate::cases::records::HOUSES;
+use crate::cases::houses::{house, HOUSES};
 use crate::cases::trials::{self, Call, Trials};
-use crate::cases::{chance, damage, outside, presentations, records, specimens};
+use crate::cases::{chance, damage, octets, outside, presentations};
 use crate::guard::{Lent, Side};
-use crate::paper::presentation::{write, write_file, write_text_element};
-use crate::paper::{calls, group, sha256::sha256, Answer, Outcome};
 use crate::report::{hex_shown, Tally};
-use crate::seeds::Seeds;
+use paper::answer::{Answer, Outcome};
+use paper::presentation::{write, write_file, write_text_element};
+use paper::refusal::LONGEST;
+use paper::sha256::sha256;
+use paper::{calls, group, specimens};
+use shared::files::{files, group_1};
+use shared::seeds::Seeds;
 use std::ops::Range;
 
 /// As long as the longest entry.
 const ROOM: usize = 64;
-const LONGEST: usize = calls::LONGEST;
 
 pub fn compare(seed: u64) -> Tally {
     let mut trials = Trials::<ReadPresentation>::new(seed);
@@ -80,7 +83,7 @@ impl Trials<ReadPresentation> {
 
     fn sound(&mut self) {
         for turn in 0..3_000 {
-            let files = presentations::files(&mut self.seeds, 1 + turn % 15);
+            let files = files(&mut self.seeds, 1 + turn % 15);
             let made = presentations::tree(&mut self.seeds, &files).encoded();
             self.together(|trials| {
                 trials.case(&made);
@@ -92,7 +95,7 @@ impl Trials<ReadPresentation> {
     /// Every output length to one past the need with every house, on a sound presentation and on one that is refused.
     fn rooms_and_houses(&mut self) {
         for groups in [1, 2, 5] {
-            let made = write(&presentations::files(&mut self.seeds, groups));
+            let made = write(&files(&mut self.seeds, groups));
             let need = calls::read_presentation(1, &made, ROOM).written.len();
             for lent in [&made[..], &made[..made.len() - 1]] {
                 self.together(|trials| {
@@ -134,7 +137,7 @@ impl Trials<ReadPresentation> {
 
     /// A sound presentation of just so many octets.
     fn filled(&mut self, groups: usize, size: usize) -> Vec<u8> {
-        let mut files = presentations::files(&mut self.seeds, groups);
+        let mut files = files(&mut self.seeds, groups);
         let longest = files.iter().position(|(group, _)| *group != 1).expect("more groups than one");
         files[longest].1 = self.seeds.octets(1_000);
         let length = size - (write(&files).len() - 1_000);
@@ -148,7 +151,7 @@ impl Trials<ReadPresentation> {
     fn length_edges(&mut self) {
         for length in presentations::EDGES {
             let content = self.seeds.octets(length);
-            let made = write(&[(1, presentations::group_1(&mut self.seeds)), (2, content.clone())]);
+            let made = write(&[(1, group_1(&mut self.seeds)), (2, content.clone())]);
             self.plain(&made);
             for file in presentations::coded(0x75, &content) {
                 self.plain(&with_file(&made, &write_file(2, &content), &file));
@@ -209,7 +212,7 @@ impl Trials<ReadPresentation> {
         for place in 0..made.len() {
             let file = files.iter().find(|(file, _)| file.contains(&place));
             self.together(|trials| {
-                for mut other in records::with_each_octet(&made, place) {
+                for mut other in octets::with_each(&made, place) {
                     trials.plain(&other);
                     if let Some((file, entry)) = file {
                         let digest = sha256(&other[file.clone()]);
@@ -223,9 +226,9 @@ impl Trials<ReadPresentation> {
 
     /// Every bit of every digest of a presentation of all groups, and every bit of a smaller one.
     fn bits(&mut self) {
-        let made = write(&presentations::files(&mut self.seeds, 15));
+        let made = write(&files(&mut self.seeds, 15));
         let digests: Vec<usize> = (2..made.len() - 32).filter(|at| made[at - 2..*at] == [0x04, 0x20]).collect();
-        let small = write(&presentations::files(&mut self.seeds, 3));
+        let small = write(&files(&mut self.seeds, 3));
         digests.into_iter().for_each(|digest| self.flipped(&made, digest..digest + 32));
         (0..small.len()).for_each(|octet| self.flipped(&small, octet..octet + 1));
     }
@@ -233,7 +236,7 @@ impl Trials<ReadPresentation> {
     /// Each bit of some octets.
     fn flipped(&mut self, made: &[u8], octets: Range<usize>) {
         self.together(|trials| {
-            (8 * octets.start..8 * octets.end).for_each(|bit| trials.plain(&records::flipped(made, bit)));
+            (8 * octets.start..8 * octets.end).for_each(|bit| trials.plain(&octets::flipped(made, bit)));
         });
     }
 
@@ -307,7 +310,7 @@ impl Trials<ReadPresentation> {
     fn drawn(&mut self) {
         for turn in 0..40_000 {
             let groups = self.seeds.pick(&[1, 2, 2, 3, 3, 4]);
-            let files = presentations::files(&mut self.seeds, groups);
+            let files = files(&mut self.seeds, groups);
             let mut tree = presentations::tree(&mut self.seeds, &files);
             for _ in 0..turn % 3 {
                 chance::spoil(&mut self.seeds, &mut tree);
@@ -333,7 +336,7 @@ impl Trials<ReadPresentation> {
 
     /// A house and a room of the seed's choice.
     fn case(&mut self, lent: &[u8]) {
-        let house = records::house(&mut self.seeds);
+        let house = house(&mut self.seeds);
         let room = self.seeds.pick(&[ROOM, ROOM, ROOM, 200, 43, 36, 35, 0]);
         self.with_room(house, lent, room);
     }
@@ -366,7 +369,7 @@ fn with_file(made: &[u8], last: &[u8], file: &[u8]) -> Vec<u8> {
 fn alone(seed: u64) -> Vec<Vec<String>> {
     let mut seeds = Seeds::new(seed);
     let case = |turn: usize| {
-        let files = presentations::files(&mut seeds, 1 + turn % 15);
+        let files = files(&mut seeds, 1 + turn % 15);
         let lent = Lent::new(&write(&files), seeds.below(64));
         let entry = Lent::new(&seeds.octets(ROOM), seeds.below(64));
         trials::held(ReadPresentation { house: 1, lent, entry })

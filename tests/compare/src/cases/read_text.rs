@@ -1,14 +1,15 @@
 //! The cases of reading a text to an entry.
 
 use crate::border;
-use crate::cases::records::{self, ALPHABET, HOUSES};
-use crate::cases::specimens;
+use crate::cases::houses::{house, HOUSES};
 use crate::cases::trials::{Call, Trials};
 use crate::guard::{Lent, Side};
-use crate::paper::field::{Check, FILLER};
-use crate::paper::form::Form;
-use crate::paper::{calls, text, Answer, Outcome};
 use crate::report::{hex, Tally};
+use paper::answer::{Answer, Outcome};
+use paper::field::{Check, FILLER};
+use paper::form::Form;
+use paper::{calls, specimens, text};
+use shared::records::{self, ALPHABET};
 use std::ops::Range;
 
 /// What damage puts into a place: of each kind of character, and the neighbours of each kind that are none.
@@ -296,7 +297,7 @@ impl Trials<ReadText> {
 
     /// House and room of the seed's choice.
     fn case(&mut self, text: &[u8]) {
-        let house = records::house(&mut self.seeds);
+        let house = house(&mut self.seeds);
         let room = self.seeds.pick(&[ROOM, ROOM, ROOM, 100, 50, 0]);
         self.with_room(house, text, room);
     }

@@ -1,6 +1,6 @@
 //! Elements as a tree in which any tag, any length and any content can be spoilt, and everything around it still fits.
 
-use crate::paper::tlv::write_length;
+use paper::tlv::write_length;
 
 #[derive(Clone)]
 pub struct Tree {

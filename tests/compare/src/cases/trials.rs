@@ -4,9 +4,9 @@
 use crate::fence;
 use crate::guard::Lent;
 use crate::judge::differences;
-use crate::paper::Outcome;
 use crate::report::Tally;
-use crate::seeds::Seeds;
+use paper::answer::Outcome;
+use shared::seeds::Seeds;
 use std::fmt::Display;
 use std::marker::PhantomData;
 

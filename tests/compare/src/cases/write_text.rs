@@ -1,13 +1,14 @@
 //! The cases of writing a text from an entry.
 
 use crate::border;
-use crate::cases::records;
-use crate::cases::specimens;
 use crate::cases::trials::{Call, Trials};
+use crate::cases::{entries, octets};
 use crate::guard::{Lent, Side};
-use crate::paper::form::Form;
-use crate::paper::{calls, entry, Answer, Outcome};
 use crate::report::{hex, Tally};
+use paper::answer::{Answer, Outcome};
+use paper::form::Form;
+use paper::{calls, entry};
+use shared::records;
 
 /// As long as the longest text.
 const ROOM: usize = 90;
@@ -64,7 +65,7 @@ impl Trials<WriteText> {
     /// The bits hold houses up to 32,767, and 0, which is none.
     fn specimens(&mut self) {
         for house in [0, 1, 32_767] {
-            specimens::entries(house).iter().for_each(|entry| self.with_room(entry, ROOM));
+            entries::of_specimens(house).iter().for_each(|entry| self.with_room(entry, ROOM));
         }
     }
 
@@ -79,51 +80,51 @@ impl Trials<WriteText> {
         }
         let (none, text) = (Lent::absent(), self.room(ROOM));
         self.watch(WriteText { entry: none, text });
-        let sound = records::sound_entry(&mut self.seeds);
+        let sound = entries::sound(&mut self.seeds);
         self.watch(WriteText { entry: Lent::new(&sound, 0), text: Lent::absent() });
     }
 
     fn sound(&mut self) {
         for _ in 0..2_000 {
-            let entry = records::sound_entry(&mut self.seeds);
+            let entry = entries::sound(&mut self.seeds);
             self.case(&entry);
         }
     }
 
     fn careless(&mut self) {
         for _ in 0..4_000 {
-            let entry = records::careless_entry(&mut self.seeds);
+            let entry = entries::careless(&mut self.seeds);
             self.case(&entry);
         }
     }
 
     /// Numbers and names of every length that fits the bits, in every form.
     fn lengths(&mut self) {
-        records::of_every_length(&mut self.seeds).iter().for_each(|entry| self.with_room(entry, ROOM));
+        entries::of_every_length(&mut self.seeds).iter().for_each(|entry| self.with_room(entry, ROOM));
     }
 
     /// Each bit of an entry.
     fn flipped(&mut self) {
-        for sound in records::some_entries(&mut self.seeds) {
+        for sound in entries::some(&mut self.seeds) {
             self.together(|trials| {
-                (0..8 * sound.len()).for_each(|bit| trials.with_room(&records::flipped(&sound, bit), ROOM));
+                (0..8 * sound.len()).for_each(|bit| trials.with_room(&octets::flipped(&sound, bit), ROOM));
             });
         }
     }
 
     /// Each octet of an entry, with each value.
     fn octets(&mut self) {
-        for sound in specimens::entries(1) {
+        for sound in entries::of_specimens(1) {
             (0..sound.len()).for_each(|at| {
                 self.together(|trials| {
-                    records::with_each_octet(&sound, at).iter().for_each(|entry| trials.with_room(entry, ROOM));
+                    octets::with_each(&sound, at).iter().for_each(|entry| trials.with_room(entry, ROOM));
                 });
             });
         }
     }
 
     fn cut(&mut self) {
-        for sound in records::some_entries(&mut self.seeds) {
+        for sound in entries::some(&mut self.seeds) {
             self.together(|trials| (0..sound.len()).for_each(|length| trials.case(&sound[..length])));
         }
     }
@@ -131,7 +132,7 @@ impl Trials<WriteText> {
     /// Anything behind the entry, be it an octet of zeros or an entry.
     fn more(&mut self) {
         for _ in 0..40 {
-            let (first, second) = (records::sound_entry(&mut self.seeds), records::sound_entry(&mut self.seeds));
+            let (first, second) = (entries::sound(&mut self.seeds), entries::sound(&mut self.seeds));
             self.case(&[&first[..], &second].concat());
             self.case(&[&first[..], &[0]].concat());
             self.case(&[&first[..], &[0xff]].concat());
@@ -142,7 +143,7 @@ impl Trials<WriteText> {
     /// Nothing is read past either end of an entry, be it whole or cut.
     fn fenced(&mut self) {
         for _ in 0..4 {
-            let sound = records::sound_entry(&mut self.seeds);
+            let sound = entries::sound(&mut self.seeds);
             for (length, side) in (0..=sound.len()).flat_map(|length| Side::BOTH.map(|side| (length, side))) {
                 let entry = Lent::fenced(&sound[..length], side);
                 let text = Lent::fenced(&self.seeds.octets(ROOM), side);

@@ -1,6 +1,6 @@
 //! The alphabet, the check digit and the rule of each field, from document 01, "The text".
 
-use super::form::Form;
+use crate::form::Form;
 
 pub const FILLER: u8 = b'<';
 

@@ -1,7 +1,5 @@
 //! Texts that are printed in the papers: the specimens of Doc 9303 parts 4 to 6, and T3 of document 01.
 
-use crate::paper::{entry, text};
-
 pub const T3: &str = "P<UTONORD<<ELIN<<<<<<<<<<<<<<<<<<<<<<<<<<<<<\
                       K7<<<<<<<1UTO9001158F3006302<<<<<<<<<<<<<<00";
 
@@ -28,9 +26,3 @@ pub const LONG_TD2: &str = "I<UTOSTEVENSON<<PETER<JOHN<<<<<<<<<<\
                             D23145890<UTO3407127M95071227349<<<8";
 
 pub const ALL: [&str; 6] = [T3, ERIKSSON_TD3, ERIKSSON_TD1, ERIKSSON_TD2, LONG_TD1, LONG_TD2];
-
-/// Their entries with a house that fits the bits.
-pub fn entries(house: u32) -> Vec<Vec<u8>> {
-    let record = |text: &&str| text::read(text.as_bytes()).expect("a text of the papers is accepted");
-    ALL.iter().map(|text| entry::write(house, &record(text))).collect()
-}

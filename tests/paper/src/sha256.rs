@@ -102,7 +102,7 @@ pub fn sha256(message: &[u8]) -> [u8; 32] {
 #[cfg(test)]
 mod tests {
     use super::*;
-    use crate::cases::vectors::{million_a, published, MILLION_A};
+    use crate::published::{digests, million_a, MILLION_A};
 
     fn primes() -> impl Iterator<Item = u128> {
         (2u128..).filter(|n| (2..*n).all(|d| n % d != 0))
@@ -134,7 +134,7 @@ mod tests {
 
     #[test]
     fn the_published_digests() {
-        for (message, digest) in published() {
+        for (message, digest) in digests() {
             assert_eq!(sha256(&message), digest);
         }
         assert_eq!(sha256(&million_a()), MILLION_A);

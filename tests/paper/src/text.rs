@@ -1,16 +1,10 @@
 //! Reading and writing a text, from document 01, "The text".
 
-use super::field::{self, trimmed, Check, FILLER};
-use super::form::{Form, Layout};
-use super::record::Record;
+use crate::field::{self, trimmed, Check, FILLER};
+use crate::form::{Form, Layout};
+use crate::record::Record;
+use crate::refusal::Refusal;
 use std::ops::Range;
-
-/// A refusal's number in document 01, and its place in what was lent.
-#[derive(Clone, Copy, Debug, PartialEq, Eq)]
-pub struct Refusal {
-    pub number: u32,
-    pub place: usize,
-}
 
 /// The record of a text, or its first refusal: the length, the alphabet, the fields, then the check digits.
 pub fn read(text: &[u8]) -> Result<Record, Refusal> {
@@ -140,8 +134,7 @@ pub fn repair(form: Form, text: &mut [u8], further: usize) {
 #[cfg(test)]
 mod tests {
     use super::*;
-    use crate::cases::{records, specimens};
-    use crate::seeds::Seeds;
+    use crate::specimens;
 
     fn refused(text: &str) -> (u32, usize) {
         let refusal = read(text.as_bytes()).unwrap_err();
@@ -210,15 +203,5 @@ mod tests {
         // In TD2 the long number's digit stands behind those of birth and expiry.
         assert_eq!(refused(&with(specimens::LONG_TD2, 67, "0")), (9, 67));
         assert_eq!(refused(&with(&with(specimens::LONG_TD2, 67, "0"), 63, "0")), (9, 63));
-    }
-
-    #[test]
-    fn sound_records_come_back() {
-        let mut seeds = Seeds::new(1);
-        for _ in 0..2_000 {
-            let record = records::sound(&mut seeds);
-            assert!(record.is_sound());
-            assert_eq!(read(&write(&record)), Ok(record));
-        }
     }
 }

@@ -1,8 +1,8 @@
 //! EF.COM, from document 01, "Stages of a presentation", stage 3; source document 000, 5.1.
 
-use super::group;
-use super::text::Refusal;
-use super::tlv::{tlv, Element, Walk};
+use crate::group;
+use crate::refusal::Refusal;
+use crate::tlv::{tlv, Element, Walk};
 
 const VERSION: &[u8] = b"0107";
 /// More tags than this are too many for a list. No list of known tags without a repeat has more.

@@ -1,32 +1,13 @@
 //! A presentation and the file of a group, from document 01, "What the server lends and gets" and "Stages of a
 //! presentation".
 
-use super::calls::LONGEST;
-use super::object::Entry;
-use super::record::Record;
-use super::sha256::sha256;
-use super::text::{self, Refusal};
-use super::tlv::{tlv, Element, Walk};
-use super::{com, group, object};
-use std::fmt;
-
-/// Where a group's file stands in what was lent. C has it as a start and a length.
-#[repr(C)]
-#[derive(Clone, Copy, Debug, PartialEq, Eq)]
-pub struct Stretch {
-    pub start: u64,
-    pub length: u64,
-}
-
-impl Stretch {
-    pub const EMPTY: Stretch = Stretch { start: 0, length: 0 };
-}
-
-impl fmt::Display for Stretch {
-    fn fmt(&self, to: &mut fmt::Formatter) -> fmt::Result {
-        write!(to, "start {}, length {}", self.start, self.length)
-    }
-}
+use crate::answer::Stretch;
+use crate::object::Entry;
+use crate::record::Record;
+use crate::refusal::{Refusal, LONGEST};
+use crate::sha256::sha256;
+use crate::tlv::{tlv, Element, Walk};
+use crate::{com, group, object, text};
 
 /// The parts that the outer walk finds.
 struct Parts {
@@ -136,7 +117,7 @@ pub fn write(files: &[(u8, Vec<u8>)]) -> Vec<u8> {
 #[cfg(test)]
 mod tests {
     use super::*;
-    use crate::cases::specimens;
+    use crate::specimens;
 
     fn first() -> (u8, Vec<u8>) {
         (1, write_text_element(specimens::T3.as_bytes()))

@@ -1,17 +1,4 @@
-//! What the papers say, in plain Rust and for reading rather than for proving.
-
-pub mod calls;
-pub mod com;
-pub mod entry;
-pub mod field;
-pub mod form;
-pub mod group;
-pub mod object;
-pub mod presentation;
-pub mod record;
-pub mod sha256;
-pub mod text;
-pub mod tlv;
+//! What a call answers and writes, as it passes to C.
 
 use std::fmt;
 
@@ -26,6 +13,24 @@ pub struct Answer {
 impl fmt::Display for Answer {
     fn fmt(&self, to: &mut fmt::Formatter) -> fmt::Result {
         write!(to, "number {}, value {}", self.number, self.value)
+    }
+}
+
+/// Where a group's file stands in what was lent. C has it as a start and a length.
+#[repr(C)]
+#[derive(Clone, Copy, Debug, PartialEq, Eq)]
+pub struct Stretch {
+    pub start: u64,
+    pub length: u64,
+}
+
+impl Stretch {
+    pub const EMPTY: Stretch = Stretch { start: 0, length: 0 };
+}
+
+impl fmt::Display for Stretch {
+    fn fmt(&self, to: &mut fmt::Formatter) -> fmt::Result {
+        write!(to, "start {}, length {}", self.start, self.length)
     }
 }
 

@@ -1,7 +1,7 @@
 //! The content of the security object, from document 01, "Stages of a presentation", stage 4; source document 000, 5.2.3.
 
-use super::text::Refusal;
-use super::tlv::{tlv, Element, Walk};
+use crate::refusal::Refusal;
+use crate::tlv::{tlv, Element, Walk};
 
 const SEQUENCE: [u8; 1] = [0x30];
 const INTEGER: [u8; 1] = [0x02];

@@ -2,7 +2,7 @@
 //! Intermediate Values" gives them) and NIST's additional messages for SHA-256.
 
 /// Each message with its digest.
-pub fn published() -> Vec<(Vec<u8>, [u8; 32])> {
+pub fn digests() -> Vec<(Vec<u8>, [u8; 32])> {
     let table: [(Vec<u8>, &str); 12] = [
         (b"abc".to_vec(), "ba7816bf8f01cfea414140de5dae2223b00361a396177a9cb410ff61f20015ad"),
         (

@@ -1,7 +1,7 @@
 //! Elements: a tag, a length and a content. From document 01, "Stages of a presentation": lengths are definite and
 //! shortest, and each element ends within the one that holds it.
 
-use super::text::Refusal;
+use crate::refusal::Refusal;
 use std::ops::Range;
 
 /// The longest content whose length can be written.

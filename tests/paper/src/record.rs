@@ -1,8 +1,8 @@
 //! The record, and what makes one sound, from document 01, "The text". Number and name are kept without the fillers at
 //! their ends, so that what the paper says of the places past a length holds by itself.
 
-use super::field::{self, FILLER};
-use super::form::Form;
+use crate::field::{self, FILLER};
+use crate::form::Form;
 
 #[derive(Clone, Debug, PartialEq, Eq)]
 pub struct Record {

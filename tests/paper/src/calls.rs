@@ -1,9 +1,9 @@
 //! What each C call answers and writes, from document 01, "What the server lends and gets" and "Refusal numbers".
 
-use super::{entry, presentation, sha256::sha256, text, Answer, Outcome};
-
-/// The longest input that is digested, and the longest presentation.
-pub const LONGEST: usize = 65_535;
+use crate::answer::{Answer, Outcome};
+use crate::refusal::LONGEST;
+use crate::sha256::sha256;
+use crate::{entry, presentation, text};
 
 /// Refusals 1, then 16; else 32 octets.
 pub fn digest(input: &[u8], room: usize) -> Outcome {

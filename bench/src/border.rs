@@ -1,0 +1,29 @@
+//! The calls of the archive over bare ranges, with nothing around them that would be measured too.
+
+use paper::answer::Answer;
+use shared::header;
+
+pub fn digest(input: &[u8], output: &mut [u8]) -> Answer {
+    // Each range is valid for its length, and what is borrowed exclusively does not overlap what is borrowed.
+    unsafe { header::lamphudet_digest(input.as_ptr(), input.len(), output.as_mut_ptr(), output.len()) }
+}
+
+pub fn read_text(house: u32, text: &[u8], entry: &mut [u8]) -> Answer {
+    // As for the digest.
+    unsafe { header::lamphudet_read_text(house, text.as_ptr(), text.len(), entry.as_mut_ptr(), entry.len()) }
+}
+
+pub fn write_text(entry: &[u8], text: &mut [u8]) -> Answer {
+    // As for the digest.
+    unsafe { header::lamphudet_write_text(entry.as_ptr(), entry.len(), text.as_mut_ptr(), text.len()) }
+}
+
+pub fn next_entry(run: &[u8], offset: u64) -> Answer {
+    // The range is valid for its length.
+    unsafe { header::lamphudet_next_entry(run.as_ptr(), run.len(), offset) }
+}
+
+pub fn read_presentation(house: u32, lent: &[u8], entry: &mut [u8]) -> Answer {
+    // As for the digest.
+    unsafe { header::lamphudet_read_presentation(house, lent.as_ptr(), lent.len(), entry.as_mut_ptr(), entry.len()) }
+}
