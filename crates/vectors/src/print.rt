@@ -11,11 +11,14 @@ use zone::record::Record;
 // The most that is shown of a text in one line. No line of a form is longer.
 const SHOWN: usize = 60;
 
-// Prints a text under its title, then its record, or its refusal with a caret under the place.
-pub(crate) fn show(title: &[u8], text: &[u8]) {
+pub(crate) fn title(title: &[u8]) {
     io::write_all(1, b"\n");
     io::write_all(1, title);
     io::write_all(1, b"\n");
+}
+
+// Prints a text, then its record, or its refusal with a caret under the place.
+pub(crate) fn sample(text: &[u8]) {
     let reading = read(text);
     let verdict = reading.verdict;
     match verdict {
@@ -159,15 +162,7 @@ fn words(cause: Cause) {
         Cause::Sex => say(b"sex"),
         Cause::Name => say(b"name"),
         Cause::Digit => say(b"check digit"),
-        Cause::Encoding => say(b"encoding"),
-        Cause::EfCom => say(b"EF.COM content"),
-        Cause::SecurityObject => say(b"security object content"),
-        Cause::Algorithm => say(b"digest algorithm"),
-        Cause::Group => say(b"group unlisted, lent before, or without entry; no group 1 lent"),
-        Cause::Digest => say(b"digest differs"),
-        Cause::Output => say(b"lent output too short"),
-        Cause::Unsound => say(b"house or record not sound"),
-        Cause::Entry => say(b"not an entry"),
+        _ => say(b"none of a text's causes"),
     }
 }
 
