@@ -1,15 +1,16 @@
 /*
  * Lamphudet: the calls for a C host.
  *
- * A call is given numbers and ranges of octets. Each range is a pointer and a length, and all of it must be readable, or
- * writable where the call writes. Ranges of one call do not overlap. The pointer of an empty range is not read and may be
- * NULL. Any length and any content is answered.
+ * A call is given numbers and ranges of octets. Each range is a pointer and a length, and all of it
+ * must be readable, or writable where the call writes. Ranges of one call do not overlap. The
+ * pointer of an empty range is not read and may be NULL. Any length and any content is answered.
  *
- * A call keeps nothing and shares no state with any other: calls may run on any number of threads at once, as long as no
- * other thread writes to what a call was lent, or reads what it writes, before it returns.
+ * A call keeps nothing and shares no state with any other: calls may run on any number of threads
+ * at once, as long as no other thread writes to what a call was lent, or reads what it writes,
+ * before it returns.
  *
- * A refused call writes nothing. A call that is not refused writes the octets that it reports, from the start of its
- * output, and no others. What a call only reads is never changed.
+ * A refused call writes nothing. A call that is not refused writes the octets that it reports, from
+ * the start of its output, and no others. What a call only reads is never changed.
  */
 #ifndef LAMPHUDET_H
 #define LAMPHUDET_H
@@ -33,8 +34,8 @@ typedef struct lamphudet_answer {
 } lamphudet_answer;
 
 /*
- * A stretch of a lent range: the octet at which it starts, counted from 0, and how many octets it has. Where there is none,
- * both are 0.
+ * A stretch of a lent range: the octet at which it starts, counted from 0, and how many octets it
+ * has. Where there is none, both are 0.
  */
 typedef struct lamphudet_stretch {
     uint64_t start, length;
@@ -53,11 +54,14 @@ typedef struct lamphudet_stretch {
  *    7   sex                                                              its place
  *    8   name                                                             field start
  *    9   check digit                                                      the digit
- *   10   encoding                                                         the element's tag, or the first octet left over
- *   11   EF.COM content                                                   the element's tag, or the octet in the tag list
+ *   10   encoding                                                         the element's tag, or
+ *                                                                         the first octet left over
+ *   11   EF.COM content                                                   the element's tag, or
+ *                                                                         the octet in the tag list
  *   12   security object content                                          the element's tag
  *   13   digest algorithm                                                 its tag
- *   14   group unlisted, lent before, or without entry; no group 1 lent   file start; the presentation's length
+ *   14   group unlisted, lent before, or without entry; no group 1 lent   file start;
+ *                                                                         the presentation's length
  *   15   digest differs                                                   file start
  *   16   lent output too short                                            0
  *   17   house or record not sound                                        0
@@ -112,27 +116,32 @@ static inline const char *lamphudet_words(uint32_t number)
 }
 
 /*
- * An entry is the octets under which a house keeps a record: to be stored, compared and joined to runs as they are. The same
- * house and record always give the same octets, and no others are an entry of them.
+ * An entry is the octets under which a house keeps a record: to be stored, compared and joined to
+ * runs as they are. The same house and record always give the same octets, and no others are an
+ * entry of them.
  *
- * The first LAMPHUDET_KEY octets of two entries agree exactly when house, form, issuing state, complete document number,
- * birth and expiry agree.
+ * The first LAMPHUDET_KEY octets of two entries agree exactly when house, form, issuing state,
+ * complete document number, birth and expiry agree.
  *
- * A host that shows an entry finds the record in its bits, the most significant first: house 15, form 3 (TD1 0, TD2 1,
- * TD3 2), state 18, number 132 (filled up with <), birth 36, expiry 36, which is the key; then code 12, nationality 18,
- * sex 2 (< 0, F 1, M 2), name length 6, name, and zero bits to the next octet. A character is 6 bits: < 0, digits 1 to 10,
- * letters 11 to 36.
+ * A host that shows an entry finds the record in its bits, the most significant first: house 15,
+ * form 3 (TD1 0, TD2 1, TD3 2), state 18, number 132 (filled up with <), birth 36, expiry 36, which
+ * is the key; then code 12, nationality 18, sex 2 (< 0, F 1, M 2), name length 6, name, and zero
+ * bits to the next octet. A character is 6 bits: < 0, digits 1 to 10, letters 11 to 36.
  */
 #define LAMPHUDET_ENTRY_MAX 64 /* octets of the longest entry; the shortest has 36 */
 #define LAMPHUDET_KEY 30       /* octets of an entry's key */
 #define LAMPHUDET_TEXT_MAX 90  /* characters of the longest text */
 
-/* A presentation is what was read from a chip: EF.COM, the content of the security object, then group files, joined. */
+/*
+ * A presentation is what was read from a chip: EF.COM, the content of the security object, then
+ * group files, joined.
+ */
 #define LAMPHUDET_PRESENTATION_MAX 65535 /* octets of the longest presentation */
 
 /*
- * Reads the text of a machine readable zone, its lines joined without line ends, and writes the entry of the house and the
- * text's record to the first octets of entry. Answers 0 and how many these are: 36 to LAMPHUDET_ENTRY_MAX.
+ * Reads the text of a machine readable zone, its lines joined without line ends, and writes the
+ * entry of the house and the text's record to the first octets of entry. Answers 0 and how many
+ * these are: 36 to LAMPHUDET_ENTRY_MAX.
  *
  * Refuses, in this order:
  *   1   at 0: the text has not 72, 88 or 90 characters
@@ -152,17 +161,20 @@ static inline const char *lamphudet_words(uint32_t number)
 lamphudet_answer lamphudet_read_text(uint32_t house, const uint8_t *text, size_t text_len, uint8_t *entry, size_t entry_len);
 
 /*
- * Reads a presentation, and writes the entry of the house and the record of group 1's text to the first octets of entry.
- * Answers 0 and how many these are: 36 to LAMPHUDET_ENTRY_MAX. A text and a presentation with one record give one entry.
+ * Reads a presentation, and writes the entry of the house and the record of group 1's text to the
+ * first octets of entry. Answers 0 and how many these are: 36 to LAMPHUDET_ENTRY_MAX. A text and a
+ * presentation with one record give one entry.
  *
- * What is accepted: every lent group is listed in EF.COM, is lent once, and has an entry in the security object with the
- * SHA-256 digest of its whole file; group 1 is lent, and holds exactly a text that lamphudet_read_text accepts. Signatures
- * over the security object and the inside of other groups are not looked at.
+ * What is accepted: every lent group is listed in EF.COM, is lent once, and has an entry in the
+ * security object with the SHA-256 digest of its whole file; group 1 is lent, and holds exactly a
+ * text that lamphudet_read_text accepts. Signatures over the security object and the inside of
+ * other groups are not looked at.
  *
- * Refuses, in the order of the stages, and in a stage from left to right: an element's encoding, then its content, then what
- * follows it. Encoding is the tag named, the length in its one shortest form (00 to 7F, 81 80 to FF, 82 01 00 to FF FF), and
- * an end within the element that holds it; 10 stands at the tag of the element that fails or should stand there, or at the
- * first octet left over.
+ * Refuses, in the order of the stages, and in a stage from left to right: an element's encoding,
+ * then its content, then what follows it. Encoding is the tag named, the length in its one shortest
+ * form (00 to 7F, 81 80 to FF, 82 01 00 to FF FF), and an end within the element that holds it; 10
+ * stands at the tag of the element that fails or should stand there, or at the first octet left
+ * over.
  *   Stage 1, size:
  *   1   at 0: the presentation is longer than LAMPHUDET_PRESENTATION_MAX
  *   Stage 2, the outer walk:
@@ -170,23 +182,25 @@ lamphudet_answer lamphudet_read_text(uint32_t house, const uint8_t *text, size_t
  *   Stage 3, EF.COM:
  *   10  the version (5F01), the Unicode version (5F36), the tag list (5C), and nothing more
  *   11  at the version unless it is 0107, at the Unicode version unless it is six digits
- *   11  in the list: at the first tag that is no group's; then at the first that repeats an earlier one; then at 5C where
- *       there are more than fifteen
+ *   11  in the list: at the first tag that is no group's; then at the first that repeats an earlier
+ *       one; then at 5C where there are more than fifteen
  *   Stage 4, the security object:
- *   10  the version (02), the AlgorithmIdentifier (30), the list of entries (30), each of them (30) a number (02) and a digest
- *       (04), and nothing more
+ *   10  the version (02), the AlgorithmIdentifier (30), the list of entries (30), each of them (30)
+ *       a number (02) and a digest (04), and nothing more
  *   12  at the version unless it is 0
  *   13  at the AlgorithmIdentifier unless it is one of SHA-256's two spellings
  *   12  at an entry's number unless it is one octet, 1 to 16; at its digest unless it is 32 octets
- *   12  when all entries were read: at the first number that repeats an earlier one; then at the list where there are fewer
- *       than two, or more than sixteen; what is left over behind the list comes after that
+ *   12  when all entries were read: at the first number that repeats an earlier one; then at the
+ *       list where there are fewer than two, or more than sixteen; what is left over behind the
+ *       list comes after that
  *   Stage 5, group files, one after another as they are lent:
  *   14  at the file's start: its group is not listed, was lent before, or has no entry
  *   15  at the file's start: its digest is not the one in its entry
  *   Stage 6, group 1:
  *   14  at presentation_len: there is none
  *   10  the text (5F1F), and nothing more
- *   1 to 9, as lamphudet_read_text does, each at its place in the text, counted from the presentation's start
+ *   1 to 9, as lamphudet_read_text does, each at its place in the text, counted from the
+ *   presentation's start
  *   Then:
  *   17  at 0: the house is not 1 to 32,767
  *   16  at 0: entry has fewer octets than this entry needs
@@ -195,32 +209,34 @@ lamphudet_answer lamphudet_read_presentation(uint32_t house, const uint8_t *pres
                                              uint8_t *entry, size_t entry_len);
 
 /*
- * Finds the file of a group, 1 to 16, in a presentation: the stretch of the lent octets that is the first file with that
- * group's tag, its tag and length included. Writes nothing.
+ * Finds the file of a group, 1 to 16, in a presentation: the stretch of the lent octets that is the
+ * first file with that group's tag, its tag and length included. Writes nothing.
  *
- * Of the stages only 1 and 2 count: what a later stage refuses still has its files, and it is for the host to lend the
- * presentation to lamphudet_read_presentation before it trusts one. There is no stretch, 0 and 0, where stage 1 or 2 refuses
- * the presentation, where no such file is lent, and where the number is no group's; 6 is none's. A stretch that is there has
- * at least two octets.
+ * Of the stages only 1 and 2 count: what a later stage refuses still has its files, and it is for
+ * the host to lend the presentation to lamphudet_read_presentation before it trusts one. There is
+ * no stretch, 0 and 0, where stage 1 or 2 refuses the presentation, where no such file is lent, and
+ * where the number is no group's; 6 is none's. A stretch that is there has at least two octets.
  */
 lamphudet_stretch lamphudet_group_file(const uint8_t *presentation, size_t presentation_len, uint32_t group);
 
 /*
- * Writes the text of an entry's record to the first octets of text, lines joined, and answers 0 and how many these are:
- * 90 for TD1, 72 for TD2, 88 for TD3. The house stands in no text. Optional places that a long number does not need are
- * fillers, and TD3's personal check is 0: a text that was read comes back as it was, but for optional data and the digits
- * over them.
+ * Writes the text of an entry's record to the first octets of text, lines joined, and answers 0 and
+ * how many these are: 90 for TD1, 72 for TD2, 88 for TD3. The house stands in no text. Optional
+ * places that a long number does not need are fillers, and TD3's personal check is 0: a text that
+ * was read comes back as it was, but for optional data and the digits over them.
  *
  * Refuses, in this order:
- *   18  at 0: entry is not exactly one entry; none at all, a part of one, or one with anything behind it
+ *   18  at 0: entry is not exactly one entry; none at all, a part of one, or one with anything
+ *       behind it
  *   16  at 0: text has fewer octets than this text needs
  */
 lamphudet_answer lamphudet_write_text(const uint8_t *entry, size_t entry_len, uint8_t *text, size_t text_len);
 
 /*
- * Goes along a run, which is entries joined with nothing between. Answers 0 and the offset behind the entry that begins at
- * offset: the entry is the octets from the one to the other, and the next one begins there. At the end of the run, where
- * offset is run_len, the answer is 0 and 0: none is left. Writes nothing.
+ * Goes along a run, which is entries joined with nothing between. Answers 0 and the offset behind
+ * the entry that begins at offset: the entry is the octets from the one to the other, and the next
+ * one begins there. At the end of the run, where offset is run_len, the answer is 0 and 0: none is
+ * left. Writes nothing.
  *
  * Refuses:
  *   18  at offset: no entry begins there, or it is cut off, or offset is past the end
@@ -228,7 +244,8 @@ lamphudet_answer lamphudet_write_text(const uint8_t *entry, size_t entry_len, ui
 lamphudet_answer lamphudet_next_entry(const uint8_t *run, size_t run_len, uint64_t offset);
 
 /*
- * Writes the SHA-256 digest (FIPS 180-4) of the input to the first 32 octets of digest, and answers 0 and 32.
+ * Writes the SHA-256 digest (FIPS 180-4) of the input to the first 32 octets of digest, and answers
+ * 0 and 32.
  *
  * Refuses, in this order:
  *   1   at 0: the input is longer than 65,535 octets

@@ -7,7 +7,10 @@
 /* The exit status. Of several inputs the worst one counts, which is the greatest. */
 enum status { ALL_ACCEPTED = 0, SOME_REFUSED = 1, NOT_DONE = 2 };
 
-/* The command line behind the command's name. Of a file, a file of hex and operands at most one is given. */
+/*
+ * The command line behind the command's name. Of a file, a file of hex and operands at most one is
+ * given.
+ */
 struct order {
     uint32_t house;
     uint32_t group;

@@ -4,7 +4,10 @@
 
 #include "octets.h"
 
-/* Adds octets in hex, whatever blanks and line ends part the digits. 0 where they are not that, which is told. */
+/*
+ * Adds octets in hex, whatever blanks and line ends part the digits. 0 where they are not that,
+ * which is told.
+ */
 int hex_read(struct octets *octets, const char *hex, size_t len);
 
 #endif

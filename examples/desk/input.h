@@ -6,8 +6,9 @@
 #include "octets.h"
 
 /*
- * Operands are hex, all of them joined; a file of hex may have remarks, which are shown where that is asked for; any other
- * file, and standard input where nothing is named, is taken as it is. 0 where that cannot be done, which is told.
+ * Operands are hex, all of them joined; a file of hex may have remarks, which are shown where that
+ * is asked for; any other file, and standard input where nothing is named, is taken as it is. 0
+ * where that cannot be done, which is told.
  */
 int input_octets(struct octets *octets, const struct order *order, int show_remarks);
 

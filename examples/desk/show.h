@@ -11,8 +11,8 @@
 #define NOWHERE UINT64_MAX
 
 /*
- * A text by the lines of its form, or by the lines in which it was given where its length is no form's; and a caret below a
- * place.
+ * A text by the lines of its form, or by the lines in which it was given where its length is no
+ * form's; and a caret below a place.
  */
 void show_zone(const struct zone *zone, uint64_t place);
 
@@ -27,7 +27,10 @@ void show_row(uint64_t offset, const struct record *record);
 
 void show_hex(const char *label, const uint8_t *octets, size_t len);
 
-/* The octets around a place, and a caret below it; behind the last octet where the place is their end. */
+/*
+ * The octets around a place, and a caret below it; behind the last octet where the place is their
+ * end.
+ */
 void show_octets(const uint8_t *octets, size_t len, uint64_t place);
 
 /* Where a group's file stands in its presentation. */

@@ -1,4 +1,7 @@
-/* A machine readable zone as people hand it over: in lines. The library is lent its text, which is the lines joined. */
+/*
+ * A machine readable zone as people hand it over: in lines. The library is lent its text, which is
+ * the lines joined.
+ */
 #ifndef DESK_ZONE_H
 #define DESK_ZONE_H
 
@@ -10,9 +13,9 @@ struct zone {
 };
 
 /*
- * Joins the lines of what was given, blanks at either end of a line left out. In a text that is given in one line, blanks
- * behind 30, 36 or 44 characters, the widths of the forms' lines, end a line too. Every other blank stays, and is for the
- * library to refuse. 0 where memory ran out.
+ * Joins the lines of what was given, blanks at either end of a line left out. In a text that is
+ * given in one line, blanks behind 30, 36 or 44 characters, the widths of the forms' lines, end a
+ * line too. Every other blank stays, and is for the library to refuse. 0 where memory ran out.
  */
 int zone_join(struct zone *zone, const char *given, size_t len);
 
