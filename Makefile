@@ -10,7 +10,8 @@ SEED ?=
 
 all: archive
 
-# The archive that desk, install, compare and bench take. Where LAMPHUDET_ARCHIVE names one, that is taken as it is and nothing is built.
+# The archive that desk, install, compare and bench take. Where LAMPHUDET_ARCHIVE names one, that is taken as it is and
+# nothing is built.
 ifdef LAMPHUDET_ARCHIVE
 ARCHIVE := $(abspath $(LAMPHUDET_ARCHIVE))
 archive:
@@ -52,8 +53,9 @@ units: archive | cargo-found
 compare: units
 	@$(CARGO) run $(CARGO_FLAGS) --manifest-path tests/compare/Cargo.toml -- $(SEED)
 
+# Writes docs/FIGURES.md.
 bench: archive | cargo-found
-	@$(CARGO) run $(CARGO_FLAGS) --manifest-path bench/Cargo.toml
+	@$(CARGO) run $(CARGO_FLAGS) --manifest-path bench/Cargo.toml -- docs/FIGURES.md
 
 PLACE = $(DESTDIR)$(abspath $(PREFIX))
 install: archive
@@ -63,18 +65,22 @@ install: archive
 	sed 's|@PREFIX@|$(abspath $(PREFIX))|; s|@VERSION@|$(VERSION)|' lamphudet.pc.in > '$(PLACE)/lib/pkgconfig/lamphudet.pc'
 	chmod 644 '$(PLACE)/lib/pkgconfig/lamphudet.pc'
 
-format: | rt-found
+format: | rt-found cargo-found
 	rt fmt
+	@for manifest in tests/*/Cargo.toml bench/Cargo.toml; do cargo fmt --manifest-path $$manifest || exit 1; done
 
 clean:
 	rm -rf target
 
+# Says of a command that is missing what it is for.
+found = @command -v $(1) > /dev/null || { echo '$(1) is not on the PATH: $(2)'; exit 1; }
+
 .PHONY: rt-found cargo-found cc-found
 rt-found:
-	@command -v rt > /dev/null || { echo 'the Rattle toolchain is not on the PATH: the command rt is what builds and proves this repository'; exit 1; }
+	$(call found,rt,the command of the Rattle toolchain builds and proves this repository)
 
 cargo-found:
-	@command -v cargo > /dev/null || { echo 'cargo is not on the PATH: it builds the independent Rust implementation (on Debian: apt install cargo)'; exit 1; }
+	$(call found,cargo,it builds the independent Rust implementation (on Debian: apt install cargo))
 
 cc-found:
-	@command -v $(firstword $(CC)) > /dev/null || { echo '$(firstword $(CC)) is not on the PATH: a C compiler builds the desk (on Debian: apt install gcc)'; exit 1; }
+	$(call found,$(firstword $(CC)),a C compiler builds the desk (on Debian: apt install gcc))

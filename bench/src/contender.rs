@@ -15,7 +15,7 @@ impl Contender {
         match self {
             Contender::Library => "lamphudet",
             Contender::Rust => "Rust",
-            Contender::OpensslPlain => "OpenSSL-plain",
+            Contender::OpensslPlain => "OpenSSL, plain",
             Contender::Openssl => "OpenSSL",
         }
     }

@@ -3,19 +3,10 @@
 use crate::contender::Contender;
 use crate::job::Job;
 use crate::worker;
-use std::process::{Command, Stdio};
+use std::process::Command;
 
-/// A row for each job, of a count for each contender that has one. None where valgrind is not installed.
-pub fn counts(contenders: &[Contender], jobs: &[Job]) -> Option<Vec<Vec<Option<u64>>>> {
-    Command::new("valgrind").arg("--version").stdout(Stdio::null()).status().ok()?;
-    let row = |job: &Job| contenders.iter().map(|contender| of_one(*contender, *job)).collect();
-    Some(jobs.iter().map(row).collect())
-}
-
-fn of_one(contender: Contender, job: Job) -> Option<u64> {
-    if !contender.countable() {
-        return None;
-    }
+/// None where valgrind is not installed.
+pub fn count(contender: Contender, job: Job) -> Option<u64> {
     // The difference of two runs, so that starting up is not counted. All the records are taken once.
     let more = if job.size() > 0 { 16 } else { 256 };
     Some((collected(contender, job, 2 + more)? - collected(contender, job, 2)?) / more)

@@ -4,23 +4,21 @@ use crate::contender::Contender;
 use crate::counts;
 use crate::job::Job;
 use crate::rounds::{enough, median, ROUNDS};
+use crate::table::{Table, NONE};
 use crate::worker::Worker;
-use shared::grouped::grouped;
 
 /// The share is the time of reading a presentation, less the time of digesting its group files through the digest's own
 /// call, over the time of reading. Instructions likewise.
-pub fn table() {
-    println!("Presentations, by octets: what the library does outside the digest, of all that it does to read one.\n");
-    println!("{:>10}{:>15}{:>15}", "", "time", "instructions");
+pub fn table() -> Table {
     let mut library = Worker::start(Contender::Library);
-    for read in Job::PRESENTATIONS {
+    let row = |read: Job| {
         let digested = Job::DigestFiles(read.size());
         let time = percent(timed(&mut library, read, digested));
-        let instructions = counted(read, digested).map_or("-".into(), percent);
-        println!("{:>10}{time:>15}{instructions:>15}", grouped(read.size() as u64));
-    }
+        vec![read.title(), time, counted(read, digested).map_or(NONE.into(), percent)]
+    };
+    let rows = Job::PRESENTATIONS.map(row).to_vec();
     library.end();
-    println!();
+    Table { titles: ["octets", "time", "instructions"].map(String::from).to_vec(), rows }
 }
 
 /// Both halves of a round come from one worker, one directly after the other: what disturbs the machine disturbs both.
@@ -35,8 +33,8 @@ fn timed(worker: &mut Worker, read: Job, digested: Job) -> f64 {
 }
 
 fn counted(read: Job, digested: Job) -> Option<f64> {
-    let rows = counts::counts(&[Contender::Library], &[read, digested])?;
-    let (read, digested) = (rows[0][0]? as f64, rows[1][0]? as f64);
+    let read = counts::count(Contender::Library, read)? as f64;
+    let digested = counts::count(Contender::Library, digested)? as f64;
     Some((read - digested) / read)
 }
 

@@ -1,72 +1,65 @@
-//! The tables. A column a contender, the library's first: its own figure, and of each other the ratio to it.
+//! A table of the page. A column is as wide as its title needs, or as any figure does, so that two runs differ in figures
+//! alone.
 
-use crate::contender::Contender;
-use crate::job::Job;
-use crate::rounds::Median;
-use shared::grouped::grouped;
+use std::fmt;
 
-const WIDTH: usize = 15;
+/// Room for the longest figure.
+const WIDTH: usize = 12;
 
-/// How a table gives the library's time.
-#[derive(Clone, Copy)]
-pub enum Unit {
-    Nanoseconds,
-    ASecond,
+/// What stands for a figure that could not be had.
+pub const NONE: &str = "-";
+
+/// The first cell of a row names what was done. The others are figures.
+pub struct Table {
+    pub titles: Vec<String>,
+    pub rows: Vec<Vec<String>>,
 }
 
-impl Unit {
-    fn words(self) -> &'static str {
-        match self {
-            Unit::Nanoseconds => "nanoseconds of the library",
-            Unit::ASecond => "how many the library does a second",
-        }
-    }
-
-    fn of(self, nanoseconds: f64) -> u64 {
-        match self {
-            Unit::Nanoseconds => nanoseconds.round() as u64,
-            Unit::ASecond => (1e9 / nanoseconds).round() as u64,
-        }
+impl Table {
+    fn widths(&self) -> Vec<usize> {
+        let names = self.rows.iter().map(|row| row[0].len()).max().unwrap_or(0);
+        let width = |(at, title): (usize, &String)| title.len().max(if at == 0 { names } else { WIDTH });
+        self.titles.iter().enumerate().map(width).collect()
     }
 }
 
-pub fn times(title: &str, unit: Unit, contenders: &[Contender], jobs: &[Job], rows: &[Vec<Median>]) {
-    println!("{title}: {}, and the time of each other over the library's.", unit.words());
-    println!("Over 1.00 the library is ahead. Medians of rounds that take each in turn.\n");
-    heading(contenders, jobs);
-    for (job, medians) in jobs.iter().zip(rows) {
-        let others = medians.iter().skip(1).map(|median| format!("{:.2}", median.ratio));
-        row(*job, jobs, std::iter::once(grouped(unit.of(medians[0].time))).chain(others));
-    }
-    println!();
-}
-
-pub fn instructions(title: &str, contenders: &[Contender], jobs: &[Job], rows: &[Vec<Option<u64>>]) {
-    println!("{title}: instructions of the library (callgrind), and those of each other over the library's.\n");
-    heading(contenders, jobs);
-    for (job, counts) in jobs.iter().zip(rows) {
-        let own = counts[0];
-        let ratio = |count: &Option<u64>| match (count, own) {
-            (Some(count), Some(own)) => format!("{:.2}", *count as f64 / own as f64),
-            _ => "-".into(),
+impl fmt::Display for Table {
+    fn fmt(&self, to: &mut fmt::Formatter) -> fmt::Result {
+        let widths = self.widths();
+        let line = |cells: &[String]| {
+            let padded = cells.iter().zip(&widths).enumerate();
+            let cell = |(at, (cell, width)): (usize, (&String, &usize))| match at {
+                0 => format!("| {cell:<width$} |"),
+                _ => format!(" {cell:>width$} |"),
+            };
+            padded.map(cell).collect::<String>()
         };
-        let first = own.map_or("-".into(), grouped);
-        row(*job, jobs, std::iter::once(first).chain(counts.iter().skip(1).map(ratio)));
+        let rule = |(at, width): (usize, &usize)| match at {
+            0 => format!("|-{}-|", "-".repeat(*width)),
+            _ => format!("-{}:|", "-".repeat(*width)),
+        };
+        writeln!(to, "{}", line(&self.titles))?;
+        write!(to, "{}", widths.iter().enumerate().map(rule).collect::<String>())?;
+        self.rows.iter().try_for_each(|row| write!(to, "\n{}", line(row)))
     }
-    println!();
 }
 
-fn heading(contenders: &[Contender], jobs: &[Job]) {
-    let titles: String = contenders.iter().map(|contender| format!("{:>WIDTH$}", contender.title())).collect();
-    println!("{:>1$}{titles}", "", margin(jobs));
-}
+#[cfg(test)]
+mod tests {
+    use super::*;
 
-fn row(job: Job, jobs: &[Job], cells: impl Iterator<Item = String>) {
-    let cells: String = cells.map(|cell| format!("{cell:>WIDTH$}")).collect();
-    println!("{:>1$}{cells}", job.title(), margin(jobs));
-}
-
-/// Room for the widest title, with a little before it.
-fn margin(jobs: &[Job]) -> usize {
-    jobs.iter().map(|job| job.title().len()).max().unwrap_or(0) + 4
+    #[test]
+    fn figures_do_not_move_the_columns() {
+        let of = |figure: &str| {
+            let rows = vec![vec!["64".into(), figure.into()], vec!["65,535".into(), NONE.into()]];
+            Table { titles: vec!["octets".into(), "nanoseconds".into()], rows }.to_string()
+        };
+        let wide = "\
+| octets |  nanoseconds |
+|--------|-------------:|
+| 64     |      123,000 |
+| 65,535 |            - |";
+        assert_eq!(of("123,000"), wide);
+        assert_eq!(of("7").len(), wide.len());
+    }
 }

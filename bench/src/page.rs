@@ -1,0 +1,48 @@
+//! The page of figures: its words are kept in `page.md`, with a name in braces where each table goes.
+
+use crate::contender::Contender;
+use crate::figures::{Kind, Unit};
+use crate::job::Job;
+use crate::share;
+use crate::table::Table;
+
+const WORDS: &str = include_str!("page.md");
+const BOTH: [Contender; 2] = [Contender::Library, Contender::Rust];
+const KINDS: [(&str, Kind); 3] = [
+    ("digest", Kind { title: "octets", unit: Unit::Nanoseconds, contenders: &Contender::ALL, jobs: &Job::DIGESTS }),
+    ("record", Kind { title: "call", unit: Unit::ASecond, contenders: &BOTH, jobs: &Job::RECORDS }),
+    ("presentation", Kind { title: "octets", unit: Unit::ASecond, contenders: &BOTH, jobs: &Job::PRESENTATIONS }),
+];
+
+/// Measures everything, which takes a while, so each table is told of when it is begun.
+pub fn page() -> String {
+    let mut page = WORDS.to_string();
+    for (name, kind) in &KINDS {
+        page = with(page, &format!("{name} times"), || kind.times());
+        page = with(page, &format!("{name} instructions"), || kind.instructions());
+    }
+    with(page, "presentation share", share::table)
+}
+
+fn with(page: String, name: &str, table: impl Fn() -> Table) -> String {
+    eprintln!("{name} ..");
+    page.replace(&format!("{{{name}}}"), &table().to_string())
+}
+
+#[cfg(test)]
+mod tests {
+    use super::*;
+
+    #[test]
+    fn every_table_has_its_place() {
+        let table = || Table { titles: vec!["call".into()], rows: Vec::new() };
+        let mut page = WORDS.to_string();
+        for (name, _) in &KINDS {
+            page = with(page, &format!("{name} times"), table);
+            page = with(page, &format!("{name} instructions"), table);
+        }
+        page = with(page, "presentation share", table);
+        assert!(!page.contains('{'));
+        assert_eq!(page.matches("| call |").count(), 7);
+    }
+}
