@@ -1,4 +1,4 @@
-//! Links the archive that is compared. It is the repository's own unless `LAMPHUDET_ARCHIVE` names another.
+//! Links the archive that is compared and measured. It is the repository's own unless `LAMPHUDET_ARCHIVE` names another.
 
 use std::path::{Path, PathBuf};
 
