@@ -194,7 +194,7 @@ pub table-decides : (w tags table : List ℕ) (es : List GroupHash) (at : ℕ) (
     → ((g : ℕ) → g ≤ 16 → getD table g 0 ≡ digestFor g es)
     → filesBy w tags table fs ≡ filesCheck w tags [] es fs
 unfolding files Says stands
-table-decides w tags table es at fs n e has = by-table w tags [] table es fs n (all-groups (length w) w at fs e)
+table-decides w tags table es at fs n e has = by-table w tags [] table es fs n (all-groups (suc (length w)) w at fs e)
     (λ tag p. has (groupOf tag) (groups-few tag))
 
 -- ---- what the loop over files goes by

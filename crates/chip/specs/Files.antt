@@ -10,7 +10,7 @@ use Rattle.tlv.specs.Cut.{cut}
 use Rattle.lent.specs.Octets.{alike, stands}
 use Rattle.tlv.specs.Tags.{groupOf}
 use Rattle.chip.specs.Outer.{File}
-use Rattle.object.specs.Object.{GroupHash}
+use Rattle.object.specs.Object.{GroupHash, digestFor}
 
 -- the octets of a file
 unfoldable pub fileOctets : List ℕ → File → List ℕ

@@ -38,23 +38,18 @@ fn file_check<'a>(
 ) -> Verdict
     ensures { λ r. ⌜ outcomeOf r ≡ fileBy (now (w .entry)) (now (tags .entry)) (record { start = at; held = held }) tag place ⌝ }
 {
-    if stands(tag, tags) {
-        if 0 < place {
-            let file = cut(
-                w,
-                Stretch {
-                    from: at,
-                    to: held.to,
-                },
-            );
-            let same = is_digested(file, lent::part(w, place, 32));
-            return Verdict::judged(same, Cause::Digest, at);
-        }
+    if stands(tag, tags) & (0 < place) {
+        let file = cut(
+            w,
+            Stretch {
+                from: at,
+                to: held.to,
+            },
+        );
+        let same = is_digested(file, lent::part(w, place, 32));
+        return Verdict::judged(same, Cause::Digest, at);
     }
-    Verdict::Refused(Refusal {
-        cause: Cause::Group,
-        place: at,
-    })
+    Verdict::Refused(Refusal::at(Cause::Group, at))
 }
 
 // Per file, in lent order. A group's place is taken from the table with its first file.

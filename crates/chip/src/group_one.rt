@@ -47,10 +47,7 @@ fn move_by(at: usize, reading: Reading) -> Reading
         }
         Verdict::Refused(own) => {
             let cause = own.cause;
-            refuse(Refusal {
-                cause,
-                place: at + own.place,
-            })
+            refuse(Refusal::at(cause, at + own.place))
         }
     }
 }
@@ -78,9 +75,6 @@ pub(crate) fn group_one(w: &[u8], start: usize) -> Reading
             let held = place.held;
             text_at(lent::part(w, 0, held.to), held.from)
         }
-        Found::Missing => refuse(Refusal {
-            cause: Cause::Group,
-            place: w.len(),
-        }),
+        Found::Missing => refuse(Refusal::at(Cause::Group, w.len())),
     }
 }

@@ -78,10 +78,7 @@ pub fn walk(w: &[u8]) -> Walked
     ensures { λ r. ⌜ O.walkedOf r ≡ O.walked (now (w .entry)) ⌝ }
 {
     if 65535 < w.len() {
-        return Walked::Refused(Refusal {
-            cause: Cause::Length,
-            place: 0,
-        });
+        return Walked::Refused(Refusal::at(Cause::Length, 0));
     }
     match tlv::element(w, 0, tags::EF_COM) {
         Taken::Value(efcom) => with_efcom(w, efcom),

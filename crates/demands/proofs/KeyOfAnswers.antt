@@ -1,7 +1,6 @@
 -- DEMAND 3 for presentations and texts alike: an accepted answer has the record of an accepted text, which is sound; so keys of
--- two accepted answers
--- agree exactly when house, form, state, whole number, birth and expiry agree. And no second answer meets the promise of reading
--- a presentation.
+-- two accepted answers agree exactly when house, form, state, whole number, birth and expiry agree. And no second answer meets
+-- the promise of reading a presentation.
 use Prim.Native.Nat.{ℕ}
 use mathlib.Core.Path.{_≡_, ap, sym, _∙_, subst}
 use mathlib.Core.Logic.{_↔_}

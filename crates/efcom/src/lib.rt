@@ -26,10 +26,7 @@ use zone::alphabet::is_digit;
 fn refuse(at: usize) -> Taken
     ensures { λ r. ⌜ takenOf r ≡ refusal 11 at ⌝ }
 {
-    Taken::Refused(Refusal {
-        cause: Cause::EfCom,
-        place: at,
-    })
+    Taken::Refused(Refusal::at(Cause::EfCom, at))
 }
 
 fn listed(s: &[u8], v: Stretch) -> Taken
@@ -72,11 +69,7 @@ fn all_digits(s: &[u8]) -> bool
 fn is_unicode(s: &[u8], v: Stretch) -> bool
     ensures { λ r. ⌜ r ≡ C.isUnicode (now (s .entry)) v ⌝ }
 {
-    if has_octets(6, v) {
-        all_digits(cut(s, v))
-    } else {
-        false
-    }
+    has_octets(6, v) & all_digits(cut(s, v))
 }
 
 fn from_unicode(s: &[u8], at: usize) -> Taken
@@ -99,11 +92,7 @@ fn is_version(s: &[u8], v: Stretch) -> bool
     ensures { λ r. ⌜ r ≡ C.isVersion (now (s .entry)) v ⌝ }
 {
     let named = *b"0107";
-    if has_octets(4, v) {
-        alike(cut(s, v), &named)
-    } else {
-        false
-    }
+    has_octets(4, v) & alike(cut(s, v), &named)
 }
 
 fn from_version(s: &[u8], at: usize) -> Taken

@@ -23,10 +23,7 @@ fn known(tags: &[u8], from: usize) -> Verdict
         if is_group(c) {
             i += 1;
         } else {
-            return Verdict::Refused(Refusal {
-                cause: Cause::EfCom,
-                place: from + i,
-            });
+            return Verdict::Refused(Refusal::at(Cause::EfCom, from + i));
         }
     }
     Verdict::Passed
@@ -45,10 +42,7 @@ fn once(tags: &[u8], from: usize) -> Verdict
             seen[c] = 1;
             i += 1;
         } else {
-            return Verdict::Refused(Refusal {
-                cause: Cause::EfCom,
-                place: from + i,
-            });
+            return Verdict::Refused(Refusal::at(Cause::EfCom, from + i));
         }
     }
     Verdict::Passed

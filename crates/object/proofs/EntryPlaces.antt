@@ -1,6 +1,5 @@
 -- Where an entry and its parts stand: it ends behind its place and within what holds it, its integer and its digest stand behind
--- its place,
--- and its number is 1 to 16.
+-- its place, and its number is 1 to 16.
 use Prim.Native.Nat.{ℕ, _≤_, _<_}
 use mathlib.Core.Path.{_≡_, ap, sym}
 use mathlib.Core.Bool.{_&&_}

@@ -1,6 +1,5 @@
 -- Stage 4, the security object (source document 000, 5.2; DER): version integer 0; AlgorithmIdentifier of SHA-256, else 13; a
--- sequence of
--- entries, else 12 at the bad element.
+-- sequence of entries, else 12 at the bad element.
 use Prim.Native.Nat.{ℕ, zero, suc}
 use mathlib.Core.Bool.{Bool, cond, _&&_, _||_}
 use mathlib.Core.List.{List, [], _∷_, _++_}

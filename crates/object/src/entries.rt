@@ -45,7 +45,7 @@ pub struct Walk {
 fn refuse(cause: Cause, at: usize) -> HashRead
     ensures { λ r. ⌜ T.entryOf r ≡ refusal (numberOf cause) at ⌝ }
 {
-    HashRead::Refused(Refusal { cause, place: at })
+    HashRead::Refused(Refusal::at(cause, at))
 }
 
 // An octet string of 32, and nothing behind it.
@@ -78,11 +78,7 @@ fn is_group_number(s: &[u8], v: Stretch) -> bool
     ensures { λ r. ⌜ r ≡ O.isGroupNumber (now (s .entry)) v ⌝ }
 {
     let number = lent::octet(s, v.from);
-    if has_octets(1, v) {
-        if 1 <= number { number <= 16 } else { false }
-    } else {
-        false
-    }
+    has_octets(1, v) & ((1 <= number) & (number <= 16))
 }
 
 fn number_at(s: &[u8], at: usize) -> HashRead

@@ -114,11 +114,7 @@ fn is_sha256(s: &[u8]) -> bool
         0x05,
         0x00,
     ];
-    if alike(s, &alone) {
-        true
-    } else {
-        alike(s, &followed)
-    }
+    alike(s, &alone) | alike(s, &followed)
 }
 
 fn from_algorithm(s: &[u8], at: usize) -> ObjectRead
@@ -129,10 +125,7 @@ fn from_algorithm(s: &[u8], at: usize) -> ObjectRead
             if is_sha256(cut(s, v)) {
                 from_entry_list(s, v.to)
             } else {
-                refused(Refusal {
-                    cause: Cause::Algorithm,
-                    place: at,
-                })
+                refused(Refusal::at(Cause::Algorithm, at))
             }
         }
         Taken::Refused(refusal) => refused(refusal),
@@ -144,7 +137,7 @@ fn is_zero(s: &[u8], v: Stretch) -> bool
     ensures { λ r. ⌜ r ≡ O.isZero (now (s .entry)) v ⌝ }
 {
     let number = lent::octet(s, v.from);
-    if has_octets(1, v) { number == 0 } else { false }
+    has_octets(1, v) & (number == 0)
 }
 
 fn from_version(s: &[u8], at: usize) -> ObjectRead
@@ -155,10 +148,7 @@ fn from_version(s: &[u8], at: usize) -> ObjectRead
             if is_zero(s, v) {
                 from_algorithm(s, v.to)
             } else {
-                refused(Refusal {
-                    cause: Cause::SecurityObject,
-                    place: at,
-                })
+                refused(Refusal::at(Cause::SecurityObject, at))
             }
         }
         Taken::Refused(refusal) => refused(refusal),

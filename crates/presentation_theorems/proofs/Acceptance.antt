@@ -1,6 +1,5 @@
 -- DEMAND 2 for presentations: bytes are accepted exactly when they are the joined encodings of an EF.COM, a security object and
--- group files that
--- belong together, and the record is that of the text in group 1.
+-- group files that belong together, and the record is that of the text in group 1.
 use Prim.Native.Nat.{ℕ, _≤_}
 use mathlib.Core.Path.{_≡_, refl, ap, sym, _∙_, subst}
 use mathlib.Core.Logic.{_↔_}

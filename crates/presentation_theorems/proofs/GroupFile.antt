@@ -1,6 +1,5 @@
 -- DEMAND 2, the file of a group: the stretch that is handed back is the first file of that group, where it stands among the lent
--- bytes, whole; and
--- it is empty where stage 1 or 2 fails or no such file is lent.
+-- bytes, whole; and it is empty where stage 1 or 2 fails or no such file is lent.
 use Prim.Native.Nat.{ℕ, zero, suc, _+_, _-_, _≤_}
 use mathlib.Core.Path.{_≡_, refl, ap, sym, _∙_, subst}
 use mathlib.Core.Logic.{_↔_, inl, inr}

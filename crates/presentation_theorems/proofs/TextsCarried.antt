@@ -1,6 +1,5 @@
 -- DEMAND 2 is not empty for presentations: every accepted text is carried by bytes that are accepted, with the text's own record.
--- So no reader that
--- refuses everything, or always hands out the same record, meets it.
+-- So no reader that refuses everything, or always hands out the same record, meets it.
 use Prim.Native.Nat.{ℕ, zero, suc, _+_, _*_, _/_, _≤_}
 use mathlib.Core.Path.{_≡_, refl, ap, sym, _∙_, subst}
 use mathlib.Core.Logic.{inl, inr}

@@ -1,6 +1,6 @@
 -- DEMAND 3, any bytes: they are read as a list of kept houses and records, and either they are the bytes of that list, or they
--- are refused by 18
--- at the place where its bytes end, and there no entry stands. So bytes are accepted exactly when some list gives them.
+-- are refused by 18 at the place where its bytes end, and there no entry stands. So bytes are accepted exactly when some list
+-- gives them.
 use Prim.Native.Nat.{ℕ, zero, suc, _+_, _≤_, _<_}
 use mathlib.Core.Path.{_≡_, refl, ap, sym, _∙_}
 use mathlib.Core.Logic.{_↔_, _⊎_, inl, inr}

@@ -1,6 +1,5 @@
 -- DEMAND 3, lengths: the entry of a sound record with a name of n characters has 278 + 6n bits rounded up to bytes, 36 at n = 1
--- and 64 at n = 39, and no
--- entry has fewer or more.
+-- and 64 at n = 39, and no entry has fewer or more.
 use Prim.Native.Nat.{ℕ, _≤_}
 use mathlib.Core.Path.{_≡_, refl}
 use mathlib.Core.Bool.{true}

@@ -1,6 +1,5 @@
 -- DEMAND 3, the key: the first thirty bytes of the entries of two houses and sound records agree exactly when house, form, state,
--- whole number,
--- birth and expiry agree; so it is for the records of two accepted texts.
+-- whole number, birth and expiry agree; so it is for the records of two accepted texts.
 use Prim.Native.Nat.{ℕ}
 use mathlib.Core.Path.{_≡_, refl, ap, sym, _∙_}
 use mathlib.Core.Logic.{_↔_}

@@ -1,6 +1,6 @@
 -- DEMAND 3, the run read back: the bytes of a list of kept houses and records are read as that list, to their end; so joined
--- entries of two different
--- lists never give the same bytes. And of any bytes, no list with whose bytes they begin goes further than the list that is read.
+-- entries of two different lists never give the same bytes. And of any bytes, no list with whose bytes they begin goes further
+-- than the list that is read.
 use Prim.Native.Nat.{ℕ, zero, suc, _+_, _≤_}
 use mathlib.Core.Path.{_≡_, refl, ap, sym, _∙_}
 use mathlib.Core.Bool.{true}

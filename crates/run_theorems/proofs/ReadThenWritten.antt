@@ -1,6 +1,5 @@
 -- DEMAND 3, read and written again: where reading a run goes on, the octets that it passed over are the entry of the house and
--- the record that it
--- answered, which are kept ones; so a reader takes exactly what a writer gives.
+-- the record that it answered, which are kept ones; so a reader takes exactly what a writer gives.
 use Prim.Native.Nat.{ℕ, _+_, _-_, _*_, _≤_, _<_}
 use mathlib.Core.Path.{_≡_, refl, ap, sym, _∙_}
 use mathlib.Core.Bool.{Bool, true, false, cond, _&&_}

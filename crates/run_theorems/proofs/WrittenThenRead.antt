@@ -1,6 +1,5 @@
 -- DEMAND 3, written and read back: where the entry of a house and a sound record stands in a run, reading there answers that
--- house, that record
--- and the offset behind the entry, whatever stands before it and behind it.
+-- house, that record and the offset behind the entry, whatever stands before it and behind it.
 use Prim.Native.Nat.{ℕ, _+_, _*_, _≤_}
 use mathlib.Core.Path.{_≡_, refl, ap, sym, _∙_}
 use mathlib.Core.Bool.{true}

@@ -1,6 +1,5 @@
 -- Demand 3 for the key: what two houses and records have in common whose entries begin with the same thirty bytes. Document 01,
--- "The entry":
--- "House 15 bits; form 3; state 18; number 132, filled up with `<`; birth 36; expiry 36: thirty bytes, the key".
+-- "The entry": "House 15 bits; form 3; state 18; number 132, filled up with `<`; birth 36; expiry 36: thirty bytes, the key".
 use Prim.Native.Nat.{ℕ}
 use mathlib.Core.Path.{_≡_}
 use mathlib.Core.List.{List}

@@ -1,8 +1,16 @@
+-- lists: parts, runs of one element, several stores
 pub mod ListLaws
+-- bitwise formulas that agree on single bits; Ch and Maj
 pub mod BitLaws
+-- rotations of words of any width
 pub mod RotationLaws
+-- numbers and words as octets
 pub mod OctetLaws
+-- the schedule as it grows in an array
 pub mod ScheduleLaws
+-- rounds along lists of constants and words
 pub mod RoundLaws
+-- the padded end of a message
 pub mod PaddingLaws
+-- the blocks of a padded message
 pub mod ChainLaws

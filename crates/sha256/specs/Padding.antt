@@ -13,9 +13,8 @@ unfoldable pub zeros : ℕ → ℕ
 zeros n = (119 - n % 64) % 64
 
 -- what follows a message of n octets: the bit "1" (with seven of the zero bits it is the octet 80), the zero bits, and the
--- message's
--- length in bits as 64 bits. (The paper has messages of fewer than 2 ^ 64 bits: of a longer one these are its length's lowest
--- 64.)
+-- message's length in bits as 64 bits. (The paper has messages of fewer than 2 ^ 64 bits: of a longer one these are its length's
+-- lowest 64.)
 unfoldable pub padding : ℕ → List ℕ
 padding n = 0x80 ∷ (replicate (zeros n) 0 ++ octets 8 (8 * n))
 

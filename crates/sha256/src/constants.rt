@@ -1,4 +1,5 @@
-// The constants of SHA-256: FIPS 180-4, 4.2.2 and 5.3.3. A table is handed out by value, so that who uses it reads it from one place.
+// The constants of SHA-256: FIPS 180-4, 4.2.2 and 5.3.3. A table is handed out by value, so that who uses it reads it from
+// one place.
 ghost use mathlib.Core.Path.{_≡_};
 ghost use Rattle.sha256.specs.Constants as C;
 

@@ -13,14 +13,9 @@ mod rounds;
 mod schedule;
 mod words;
 
-// What is refused, 1 and 16: an input that is too long, and an output that is too short.
+// 1: an input that is too long.
 const TOO_LONG: Refusal = Refusal {
     cause: Cause::Length,
-    place: 0,
-};
-
-const TOO_SHORT: Refusal = Refusal {
-    cause: Cause::Output,
     place: 0,
 };
 
@@ -40,7 +35,7 @@ pub fn digest(input: &[u8], out: &mut [u8]) -> Written
         return Written::Refused(TOO_LONG);
     }
     if out.len() < 32 {
-        return Written::Refused(TOO_SHORT);
+        return Written::Refused(Refusal::TOO_SHORT);
     }
     let octets = digest_of(input);
     lent::copy(out, &octets);

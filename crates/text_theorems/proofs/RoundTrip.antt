@@ -1,7 +1,6 @@
--- DEMAND 2, round trip: every sound record is written as a text that is accepted and read as that record.
---   text-read-back : isSound r ≡ true → readText (textOf r) ≡ record { outcome = passed; kept = r }
---   text-length : isSound r ≡ true → length (textOf r) ≡ total (r .form)
---   text-tells : isSound r ≡ true → isSound q ≡ true → textOf r ≡ textOf q → r ≡ q
+-- DEMAND 2, round trip: every sound record is written as a text that is accepted and read as that record.   text-read-back :
+-- isSound r ≡ true → readText (textOf r) ≡ record { outcome = passed; kept = r }   text-length : isSound r ≡ true → length
+-- (textOf r) ≡ total (r .form)   text-tells : isSound r ≡ true → isSound q ≡ true → textOf r ≡ textOf q → r ≡ q
 use Prim.Native.Nat.{ℕ, suc, _+_, _-_, _≤_, _<_}
 use mathlib.Core.Path.{_≡_, refl, ap, sym, _∙_}
 use mathlib.Core.Bool.{Bool, true, false, cond, _&&_, false≢true}

@@ -35,8 +35,7 @@ abbrev pub groupOne : ℕ
 groupOne = 0x61
 
 -- "Tags, groups 1 to 16: 61 75 63 76 65 none 67 68 69 6A 6B 6C 6D 6E 6F 70": the group of a tag, 0 where it is no group's. Group
--- 6 is
--- reserved and has none.
+-- 6 is reserved and has none.
 unfoldable pub groupOf : ℕ → ℕ
 groupOf tag =
     cond (eqb tag 0x61) 1 (cond (eqb tag 0x75) 2 (cond (eqb tag 0x63) 3 (cond (eqb tag 0x76) 4 (cond (eqb tag 0x65) 5

@@ -70,10 +70,7 @@ pub fn size_of(a: u8, b: u8, c: u8) -> Size
 pub fn refuse(at: usize) -> Taken
     ensures { λ r. ⌜ takenOf r ≡ refusal 10 at ⌝ }
 {
-    Taken::Refused(Refusal {
-        cause: Cause::Encoding,
-        place: at,
-    })
+    Taken::Refused(Refusal::at(Cause::Encoding, at))
 }
 
 fn ends_within(s: &[u8], at: usize, from: usize, to: usize) -> Taken

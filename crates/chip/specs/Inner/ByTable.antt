@@ -1,6 +1,6 @@
 -- No words of the paper: stage 5 as the code goes about it, with a table of where the digest of each group begins. A group's
--- place is 0
--- where it has no entry, and from its first file on, so that one test tells both a group without entry and one lent before.
+-- place is 0 where it has no entry, and from its first file on, so that one test tells both a group without entry and one lent
+-- before.
 use Prim.Native.Nat.{ℕ}
 use mathlib.Core.Bool.{_&&_}
 use mathlib.Core.List.{List, [], _∷_}

@@ -1,7 +1,6 @@
--- The two tests.
+-- Both tests.
 use Rattle.efcom.specs.EfCom.{isVersion}
 use borrow.Author.Needs.{needs}
-use mathlib.Core.Path.{sym, _∙_}
 use Rattle.efcom.proofs.is_version.Statement.{statement}
 use Rattle.efcom.proofs.is_version.Tie as tie
 
@@ -19,24 +18,9 @@ alike-requires c κs = search needs
 
 returns : tie.Need-returns
 unfolding isVersion
-returns c =
-    rw (
-      c .alike .ensures,
-      c .before .before .cut .ensures,
-      (sym (c .before .before .before .before .has-octets .ensures) ∙ c .before .before .before .if1 .taken),
-    )
-
-returns-2 : tie.Need-returns-2
-unfolding isVersion
-returns-2 c = rw (sym (c .before .has-octets .ensures) ∙ c .if1 .left)
+returns c = rw (c .alike .ensures, c .before .before .cut .ensures, c .before .before .before .has-octets .ensures)
 
 pub is-version-spec : {M : Type 1} → statement M
 is-version-spec =
     tie.close
-    (tie.spec
-    has-octets-requires
-    cut-requires
-    slice-aggregate-alike
-    alike-requires
-    returns
-    returns-2)
+    (tie.spec has-octets-requires cut-requires slice-aggregate-alike alike-requires returns)

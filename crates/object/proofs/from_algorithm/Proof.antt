@@ -22,6 +22,9 @@ is-sha256-requires c κs = search needs
 from-entry-list-requires : tie.Need-from-entry-list-requires
 from-entry-list-requires c κs = search needs
 
+at-requires : tie.Need-at-requires
+at-requires c κs = search needs
+
 refused-requires : tie.Need-refused-requires
 refused-requires c κs = search needs
 
@@ -42,10 +45,10 @@ returns c =
 returns-2 : tie.Need-returns-2
 unfolding fromAlgorithm andThen checked
 returns-2 c =
-    let told = sym (c .before .before .before .before .before .before .before .element .ensures)
-    ∙ ap takenOf (c .before .before .before .before .before .v .given .1) in
-    rw (told, ← c .before .before .before .cut .ensures, sym (c .before .before .is-sha256 .ensures) ∙ c .before .if1 .left)
-    (c .refused .ensures)
+    let told = sym (c .before .before .before .before .before .before .before .before .element .ensures)
+    ∙ ap takenOf (c .before .before .before .before .before .before .v .given .1) in
+    rw (told, ← c .before .before .before .before .cut .ensures, sym (c .before .before .before .is-sha256 .ensures) ∙ c .before .before .if1 .left)
+    (rw (c .before .at .ensures) at (c .refused .ensures))
 
 returns-3 : tie.Need-returns-3
 unfolding fromAlgorithm andThen
@@ -62,6 +65,7 @@ from-algorithm-spec =
     cut-requires
     is-sha256-requires
     from-entry-list-requires
+    at-requires
     refused-requires
     enum-known-refusal
     refused-requires-2

@@ -19,6 +19,9 @@ is-zero-requires c κs = search needs
 from-algorithm-requires : tie.Need-from-algorithm-requires
 from-algorithm-requires c κs = search needs
 
+at-requires : tie.Need-at-requires
+at-requires c κs = search needs
+
 refused-requires : tie.Need-refused-requires
 refused-requires c κs = search needs
 
@@ -38,9 +41,9 @@ returns c =
 returns-2 : tie.Need-returns-2
 unfolding fromVersion andThen checked
 returns-2 c =
-    let told = sym (c .before .before .before .before .before .before .element .ensures)
-    ∙ ap takenOf (c .before .before .before .before .v .given .1) in
-    rw (told, sym (c .before .before .is-zero .ensures) ∙ c .before .if1 .left) (c .refused .ensures)
+    let told = sym (c .before .before .before .before .before .before .before .element .ensures)
+    ∙ ap takenOf (c .before .before .before .before .before .v .given .1) in
+    rw (told, sym (c .before .before .before .is-zero .ensures) ∙ c .before .before .if1 .left) (rw (c .before .at .ensures) at (c .refused .ensures))
 
 returns-3 : tie.Need-returns-3
 unfolding fromVersion andThen
@@ -56,6 +59,7 @@ from-version-spec =
     enum-known-v
     is-zero-requires
     from-algorithm-requires
+    at-requires
     refused-requires
     enum-known-refusal
     refused-requires-2

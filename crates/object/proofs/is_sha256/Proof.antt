@@ -1,7 +1,6 @@
 -- Either of the two names.
 use Rattle.object.specs.Object.{isSha256, sha256Name}
 use borrow.Author.Needs.{needs}
-use mathlib.Core.Path.{sym, _∙_}
 use Rattle.object.proofs.is_sha256.Statement.{statement}
 use Rattle.object.proofs.is_sha256.Tie as tie
 
@@ -19,11 +18,7 @@ alike-requires-2 c κs = search needs
 
 returns : tie.Need-returns
 unfolding isSha256 sha256Name
-returns c = rw (sym (c .before .alike .ensures) ∙ c .if1 .taken)
-
-returns-2 : tie.Need-returns-2
-unfolding isSha256 sha256Name
-returns-2 c = rw (c .alike2 .ensures, (sym (c .before .before .before .alike .ensures) ∙ c .before .before .if1 .left))
+returns c = rw (c .alike2 .ensures, c .before .before .alike .ensures)
 
 pub is-sha256-spec : {M : Type 1} → statement M
 is-sha256-spec =
@@ -33,5 +28,4 @@ is-sha256-spec =
     alike-requires
     slice-aggregate-alike-2
     alike-requires-2
-    returns
-    returns-2)
+    returns)

@@ -1,6 +1,5 @@
 -- No words of the paper: what the code of stage 4 answers, beside the definitions. The entries are walked once, and what was seen
--- of them
--- is kept: how many, where the first repeated integer stands, and for each group where its digest begins.
+-- of them is kept: how many, where the first repeated integer stands, and for each group where its digest begins.
 use Prim.Native.Nat.{ℕ, zero, suc, _+_}
 use mathlib.Core.Bool.{Bool, cond}
 use mathlib.Core.List.{List, [], _∷_}

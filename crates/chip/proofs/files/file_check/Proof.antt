@@ -1,6 +1,5 @@
 -- The tests of the definition, in its order.
 use borrow.Author.Needs.{needs}
-use borrow.Author.Tests.{le-ltb, lt-ltb}
 use mathlib.Core.Path.{ap, _∙_}
 use Rattle.refusal.specs.Outcome.{unless}
 use Rattle.chip.specs.Files.{fileOctets}
@@ -23,26 +22,20 @@ is-digested-requires c κs = search needs
 judged-requires : tie.Need-judged-requires
 judged-requires c κs = search needs
 
+at-requires : tie.Need-at-requires
+at-requires c κs = search needs
+
 returns : tie.Need-returns
 unfolding fileBy fileOctets
 returns c =
     let same = rw (c .before .before .part .ensures, c .before .before .before .cut .ensures) at
     (c .before .is-digested .ensures) in
-    rw (
-      ← c .before .before .before .before .before .before .stands .ensures,
-      c .before .before .before .before .before .if1 .taken,
-      lt-ltb _ _ (c .before .before .before .before .if2 .taken),
-    )
-    (c .judged .ensures ∙ ap (λ b. unless b 15
-    (c .before .before .before .before .before .before .before .before .before .args .at)) same)
+    rw (← c .before .before .before .before .before .stands .ensures, c .before .before .before .before .if1 .taken)
+    (c .judged .ensures ∙ ap (λ b. unless b 15 (c .before .before .before .before .before .before .before .before .args .at)) same)
 
 returns-2 : tie.Need-returns-2
 unfolding fileBy fileOctets
-returns-2 c = rw (← c .before .before .stands .ensures, c .before .if1 .taken, le-ltb _ _ (c .if2 .left))
-
-returns-3 : tie.Need-returns-3
-unfolding fileBy fileOctets
-returns-3 c = rw (← c .before .stands .ensures, c .if1 .left)
+returns-2 c = rw (← c .before .before .stands .ensures, c .before .if1 .left, c .at .ensures)
 
 pub file-check-spec : {M : Type 1} → statement M
 file-check-spec =
@@ -54,5 +47,5 @@ file-check-spec =
     is-digested-requires
     judged-requires
     returns
-    returns-2
-    returns-3)
+    at-requires
+    returns-2)

@@ -24,6 +24,9 @@ text-at-requires c κs = search needs
 enum-told : tie.Need-enum-told
 enum-told c = search needs
 
+at-requires : tie.Need-at-requires
+at-requires c κs = search needs
+
 refuse-requires : tie.Need-refuse-requires
 refuse-requires c κs = search needs
 
@@ -39,9 +42,10 @@ returns c =
 returns-2 : tie.Need-returns-2
 unfolding groupOne andThen
 returns-2 c =
-    let w = now (c .before .before .before .before .before .args .w) in
-    let e = sym (c .before .before .before .first-file .ensures) ∙ ap (foundOf (length w)) (c .before .enum-told .given .1) in
-    rw e (c .refuse .ensures)
+    let w = now (c .before .before .before .before .before .before .args .w) in
+    let e = sym (c .before .before .before .before .first-file .ensures)
+    ∙ ap (foundOf (length w)) (c .before .before .enum-told .given .1) in
+    rw e (rw (c .before .at .ensures) at (c .refuse .ensures))
 
 pub group-one-spec : {M : Type 1} → statement M
 group-one-spec =
@@ -52,6 +56,7 @@ group-one-spec =
     part-requires
     text-at-requires
     enum-told
+    at-requires
     refuse-requires
     returns
     returns-2)

@@ -14,9 +14,12 @@ enum-told c = search needs
 enum-known-verdict : tie.Need-enum-known-verdict
 enum-known-verdict c = search needs
 
-add-t9 : tie.Need-add-t9
-add-t9 c = let k = c .before .before .before .before .pre _ _ (ap outcomeOf (c .before .before .verdict .given .1)) in search
+add-at : tie.Need-add-at
+add-at c = let k = c .before .before .before .before .pre _ _ (ap outcomeOf (c .before .before .verdict .given .1)) in search
     (needs, k)
+
+at-requires : tie.Need-at-requires
+at-requires c κs = search needs
 
 refuse-requires : tie.Need-refuse-requires
 refuse-requires c κs = search needs
@@ -27,8 +30,9 @@ returns c = rw (c .before .enum-told .given .1)
 
 returns-2 : tie.Need-returns-2
 unfolding answerOf answerBy moved checked
-returns-2 c = rw (c .before .before .before .verdict .given .1) (c .refuse .ensures)
+returns-2 c =
+    rw (c .before .before .before .before .verdict .given .1) (rw (c .before .at .ensures) at (c .refuse .ensures))
 
 pub move-by-spec : {M : Type 1} → statement M
 move-by-spec =
-    tie.close (tie.spec enum-told enum-known-verdict add-t9 refuse-requires returns returns-2)
+    tie.close (tie.spec enum-told enum-known-verdict add-at at-requires refuse-requires returns returns-2)

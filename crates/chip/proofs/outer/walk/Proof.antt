@@ -7,9 +7,12 @@ use Rattle.tlv.specs.Read.{checked}
 use Rattle.chip.proofs.outer.walk.Statement.{statement}
 use Rattle.chip.proofs.outer.walk.Tie as tie
 
+at-requires : tie.Need-at-requires
+at-requires c κs = search needs
+
 returns : tie.Need-returns
 unfolding walked sizeCheck outer checked andThen
-returns c = rw (lt-leb _ _ (c .if1 .taken))
+returns c = rw (lt-leb _ _ (c .before .if1 .taken), c .at .ensures)
 
 element-requires : tie.Need-element-requires
 element-requires c κs = search needs
@@ -46,6 +49,7 @@ pub walk-spec : {M : Type 1} → statement M
 walk-spec =
     tie.close
     (tie.spec
+    at-requires
     returns
     element-requires
     enum-known-efcom

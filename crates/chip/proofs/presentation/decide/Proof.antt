@@ -7,8 +7,8 @@ use Rattle.chip.specs.Presentation.{decided}
 use Rattle.chip.proofs.presentation.decide.Statement.{statement}
 use Rattle.chip.proofs.presentation.decide.Tie as tie
 
-common-requires : tie.Need-common-requires
-common-requires c κs = search needs
+read-requires : tie.Need-read-requires
+read-requires c κs = search needs
 
 enum-known-tags : tie.Need-enum-known-tags
 enum-known-tags c = search needs
@@ -25,20 +25,20 @@ refuse-requires c κs = search needs
 returns : tie.Need-returns
 unfolding decided andThen
 returns c =
-    rw (sym (c .before .before .before .before .common .ensures) ∙ ap takenOf (c .before .before .tags .given .1))
+    rw (sym (c .before .before .before .before .read .ensures) ∙ ap takenOf (c .before .before .tags .given .1))
     (c .with-tags .ensures)
 
 returns-2 : tie.Need-returns-2
 unfolding decided andThen
 returns-2 c =
-    rw (sym (c .before .before .before .before .common .ensures) ∙ ap takenOf (c .before .before .why .given .1))
+    rw (sym (c .before .before .before .before .read .ensures) ∙ ap takenOf (c .before .before .why .given .1))
     (c .refuse .ensures)
 
 pub decide-spec : {M : Type 1} → statement M
 decide-spec =
     tie.close
     (tie.spec
-    common-requires
+    read-requires
     enum-known-tags
     with-tags-requires
     enum-known-why

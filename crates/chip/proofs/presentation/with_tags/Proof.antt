@@ -11,8 +11,8 @@ use Rattle.chip.proofs.StagesByTable.{onward, by-entries}
 use Rattle.chip.proofs.presentation.with_tags.Statement.{statement}
 use Rattle.chip.proofs.presentation.with_tags.Tie as tie
 
-object-requires : tie.Need-object-requires
-object-requires c κs = search needs
+read-requires : tie.Need-read-requires
+read-requires c κs = search needs
 
 enum-told : tie.Need-enum-told
 enum-told c = search needs
@@ -31,7 +31,7 @@ unfolding onward
 returns c =
     let a = c .before .before .before .before .before .before .args in
     let w = now (a .w) in
-    let found = c .before .before .before .before .object .ensures in
+    let found = c .before .before .before .before .read .ensures in
     let told = sym (found .0) ∙ ap outcomeOf (c .before .enum-told .given .1) in
     c .with-digests .ensures ∙ ap answerBy
     (by-entries w (cut w (a .tags)) (a .object .to) (readObject w (a .object)) _ told (found .1)
@@ -42,7 +42,7 @@ unfolding onward
 returns-2 c =
     let a = c .before .before .before .before .before .before .before .args in
     let w = now (a .w) in
-    let told = sym (c .before .before .before .before .before .object .ensures .0)
+    let told = sym (c .before .before .before .before .before .read .ensures .0)
     ∙ ap outcomeOf (c .before .before .verdict .given .1) in
     c .refuse .ensures ∙ ap answerBy
     (sym (refused-then (readObject w (a .object)) (onward w (cut w (a .tags)) (a .object .to)) _ _ told))
@@ -51,7 +51,7 @@ pub with-tags-spec : {M : Type 1} → statement M
 with-tags-spec =
     tie.close
     (tie.spec
-    object-requires
+    read-requires
     enum-told
     with-digests-requires
     enum-known-verdict

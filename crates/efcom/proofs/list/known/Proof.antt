@@ -41,15 +41,18 @@ loop-again c =
           (sym (c .before .is-group .ensures) ∙ c .if1 .taken),
     )
 
-add-t11 : tie.Need-add-t11 Inv-loop μ-loop
-add-t11 c = search needs
+add-at : tie.Need-add-at Inv-loop μ-loop
+add-at c = search needs
+
+at-requires : tie.Need-at-requires Inv-loop μ-loop
+at-requires c κs = search needs
 
 returns : tie.Need-returns Inv-loop μ-loop
 returns c =
-    let l = c .before .before .before .before .loop in
-    let from = c .before .before .before .before .before .before .args .from in
-    let s = now (c .before .before .before .before .before .before .args .tags) in
-    known-stop s from (l .i) (knownFrom from s) (l .inv .1) (search needs) (sym (c .before .is-group .ensures) ∙ c .if1 .left)
+    let l = c .before .before .before .before .before .loop in
+    let from = c .before .before .before .before .before .before .before .args .from in
+    let s = now (c .before .before .before .before .before .before .before .args .tags) in
+    rw (c .at .ensures) (known-stop s from (l .i) (knownFrom from s) (l .inv .1) (search needs) (sym (c .before .before .is-group .ensures) ∙ c .before .if1 .left))
 
 returns-2 : tie.Need-returns-2 Inv-loop μ-loop
 returns-2 c =
@@ -70,6 +73,7 @@ known-spec =
     add-i
     loop-less
     loop-again
-    add-t11
+    add-at
+    at-requires
     returns
     returns-2)

@@ -63,18 +63,21 @@ loop-again c =
       once-more s from (l .i) (onceFrom from [] s) (l .inv .3) (search needs) (rw e at free),
     )
 
-add-t14 : tie.Need-add-t14 Inv-loop μ-loop
-add-t14 c = search needs
+add-at : tie.Need-add-at Inv-loop μ-loop
+add-at c = search needs
+
+at-requires : tie.Need-at-requires Inv-loop μ-loop
+at-requires c κs = search needs
 
 returns : tie.Need-returns Inv-loop μ-loop
 returns c =
-    let l = c .before .before .before .loop in
-    let from = c .before .before .before .before .before .args .from in
-    let s = now (c .before .before .before .before .before .args .tags) in
-    let d = c .before .octet .result in
-    let e = c .before .octet .ensures in
-    once-stop s from (l .i) (onceFrom from [] s) (l .inv .3) (search needs)
-    (rw e at (marked 256 (l .seen) (backFrom (l .i) s) d (l .inv .2) (search needs) (c .if1 .left)))
+    let l = c .before .before .before .before .loop in
+    let from = c .before .before .before .before .before .before .args .from in
+    let s = now (c .before .before .before .before .before .before .args .tags) in
+    let d = c .before .before .octet .result in
+    let e = c .before .before .octet .ensures in
+    rw (c .at .ensures) (once-stop s from (l .i) (onceFrom from [] s) (l .inv .3) (search needs)
+    (rw e at (marked 256 (l .seen) (backFrom (l .i) s) d (l .inv .2) (search needs) (c .before .if1 .left))))
 
 returns-2 : tie.Need-returns-2 Inv-loop μ-loop
 returns-2 c =
@@ -97,6 +100,7 @@ once-spec =
     add-i
     loop-less
     loop-again
-    add-t14
+    add-at
+    at-requires
     returns
     returns-2)
