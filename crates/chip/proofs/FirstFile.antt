@@ -32,6 +32,6 @@ module _ (w : List ℕ) (group at : ℕ) (t : outcomeIn (files w at) ≡ passed)
   unfolding firstFile
   first-on v h e g = rw (in-next w at v h e t .0, ne-eqb (groupOf (getD w at 0)) group g)
 
-  pub first-none : length w ≤ at → refusal 14 (length w) ≡ firstFile w group (filesIn (files w at))
+  pub first-missing : length w ≤ at → refusal 14 (length w) ≡ firstFile w group (filesIn (files w at))
   unfolding firstFile filesIn
-  first-none h = rw (files-done w at h)
+  first-missing h = rw (files-done w at h)

@@ -13,8 +13,8 @@ use Rattle.refusal.specs.declared.Verdict.the-variants.{Passed, Refused}
 use Rattle.refusal.specs.Numbers.{numberOf}
 use Rattle.refusal.specs.Outcome.{Outcome, passed, refused, outcomeOf}
 use Rattle.refusal.specs.declared.Written.{Written}
-use Rattle.refusal.specs.declared.Written.the-variants.{Octets}
-use Rattle.refusal.specs.Length.{written, lengthOf}
+use Rattle.refusal.specs.declared.Written.the-variants.{Octets, Refused as Denied}
+use Rattle.refusal.specs.Length.{Length as Answered, written, refused as denied, lengthOf}
 use Rattle.sha256.specs.Answer.{Digests}
 use Rattle.zone.specs.declared.record.Record.{Record}
 use Rattle.text.specs.declared.read.Reading.{Reading}
@@ -23,7 +23,7 @@ use Rattle.writing.specs.Answer as text
 use Rattle.entry.specs.Entry.{Writes}
 use Rattle.entry.specs.Run as run
 use Rattle.entry.specs.declared.run.Step.{Step}
-use Rattle.entry.specs.declared.run.Step.the-variants.{Next, End}
+use Rattle.entry.specs.declared.run.Step.the-variants.{Next, End, Refused as Stopped}
 use Rattle.entry.specs.declared.run.Standing.{Standing}
 
 -- the cause of a number

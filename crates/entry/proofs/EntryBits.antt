@@ -95,8 +95,8 @@ module _ (r : Record) (s : Sound r) where
       (spare-few (r .«name_len»)) whole)
 
   -- DEMAND 3 (d): an entry has the octets that the bit formula says
-  pub length-entry : (h : ℕ) → length (entryOf h r) ≡ size (r .«name_len»)
-  length-entry h =
+  pub length-sound-entry : (h : ℕ) → length (entryOf h r) ≡ size (r .«name_len»)
+  length-sound-entry h =
       gather.length-entry h r (s .state-places) (s .number-places) (s .birth-places) (s .expiry-places) (s .code-places)
       (s .nationality-places)
       (s .name-places) (s .name-most)

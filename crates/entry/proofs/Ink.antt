@@ -15,17 +15,13 @@ use Rattle.entry.specs.Entry.{puts}
 use Rattle.entry.specs.declared.pen.Pen.{Pen}
 use Rattle.entry.specs.Inner.Ink.{Ready, Reached, within, past, Wrote}
 use Rattle.entry.proofs.Gather.{gathered-within, gathered-over, puts-more}
+use Rattle.lent.proofs.Lists.{sets-append}
 
 -- ---- stores
 
 sets-out : (l : List ℕ) (i : ℕ) (v : List ℕ) → length l ≤ i → sets l i v ≡ l
 sets-out l i [] h = refl
 sets-out l i (x ∷ v) h = rw (set-out l i x h) (sets-out l (suc i) v (omega arith))
-
-sets-append : (l : List ℕ) (i : ℕ) (u v : List ℕ) → sets (sets l i u) (i + length u) v ≡ sets l i (u ++ v)
-sets-append l i [] v = let e : i + 0 ≡ i = omega arith in rw e
-sets-append l i (x ∷ u) v = let e : i + suc (length u) ≡ suc i + length u = omega arith in
-    rw e (sets-append (set l i x) (suc i) u v)
 
 -- octets stored behind others, from the place that was reached
 pub sets-joined : (l : List ℕ) (i j : ℕ) (u v : List ℕ) → Reached (length l) (i + length u) j

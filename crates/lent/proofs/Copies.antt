@@ -19,8 +19,8 @@ module _ (t : List ℕ) (b : ℕ) (s : List ℕ) (fits : b + length s ≤ length
   length-copied = rw (copied-there, length-append, length-append, length-take, length-drop) (omega arith)
 
   -- what stands before it
-  pub cut-before : (a w : ℕ) → a + w ≤ b → take w (drop a (copiedAt t b s)) ≡ take w (drop a t)
-  cut-before a w h = rw copied-there
+  pub before-copied : (a w : ℕ) → a + w ≤ b → take w (drop a (copiedAt t b s)) ≡ take w (drop a t)
+  before-copied a w h = rw copied-there
       (front (s ++ drop (b + length s) t) ∙ sym (ap (λ u. take w (drop a u)) (sym (take-append-drop b t)) ∙ front (drop b t)))
     where
       front : (z : List ℕ) → take w (drop a (take b t ++ z)) ≡ take w (drop a (take b t))
@@ -30,8 +30,8 @@ module _ (t : List ℕ) (b : ℕ) (s : List ℕ) (fits : b + length s ≤ length
           rw (drop-append-le a (take b t) z (rw n (omega arith))) (take-append-le w (drop a (take b t)) z k)
 
   -- what stands behind it
-  pub cut-behind : (a w : ℕ) → b + length s ≤ a → take w (drop a (copiedAt t b s)) ≡ take w (drop a t)
-  cut-behind a w h =
+  pub behind-copied : (a w : ℕ) → b + length s ≤ a → take w (drop a (copiedAt t b s)) ≡ take w (drop a t)
+  behind-copied a w h =
       let p = take b t ++ s in
       let n : length p ≡ b + length s = rw (length-append, length-take-le b t (omega arith)) in
       let k = a - (b + length s) in
@@ -47,8 +47,8 @@ module _ (t : List ℕ) (b : ℕ) (s : List ℕ) (fits : b + length s ≤ length
       )
 
   -- the place itself, wider perhaps than what is copied there
-  pub cut-there : (w : ℕ) → length s ≤ w → take w (drop b (copiedAt t b s)) ≡ s ++ take (w - length s) (drop (b + length s) t)
-  cut-there w h =
+  pub at-copied : (w : ℕ) → length s ≤ w → take w (drop b (copiedAt t b s)) ≡ s ++ take (w - length s) (drop (b + length s) t)
+  at-copied w h =
       let n : length (take b t) ≡ b = length-take-le b t (omega arith) in
       let e : length s + (w - length s) ≡ w = omega arith in
       rw (copied-there, drop-at (take b t) (s ++ drop (b + length s) t) b n)

@@ -4,5 +4,5 @@ pub mod Lists  -- parts of a list, and a range that is copied to or filled
 pub mod Copies  -- what a range holds after a copy to a place
 pub mod Tests  -- the set `tests`, that closes a function of tests on numbers
 pub mod Comparing  -- octets that are compared
-pub mod Standing  -- an octet among others
+pub mod Among  -- an octet among others
 pub mod Marks  -- a table with a mark for each number of a list

@@ -1,13 +1,13 @@
 -- Laws on lists that the proofs of this crate and of those above it share.
 use mathlib.Core.Path.{_≡_, refl, sym, _∙_}
-use mathlib.Core.List.{List, [], _++_, append-nil}
+use mathlib.Core.List.{List, [], _++_, append-nil, _∷_}
 use mathlib.Core.Logic.{_⊎_, inl, inr}
 use Prim.Native.Nat.{ℕ, zero, suc, _+_, _-_, _≤_, _<_}
-use native.Mathlib.Nat.{zero-add, le-of-eq, sub-zero, suc-sub-suc}
+use native.Mathlib.Nat.{zero-add, le-of-eq, sub-zero, suc-sub-suc, add-zero, add-suc, suc-add}
 use native.Mathlib.Numerals.{add-one}
 use native.Mathlib.Omega.{arith}
 use lib.ListN.{length, take, drop, getD, set, length-drop, drop-of-length-le, replicate}
-use lib.Seq.{drop-nil, take-all, paste-suc, take-length, drop-length}
+use lib.Seq.{drop-nil, take-all, paste-suc, take-length, drop-length, sets}
 use Rattle.lent.specs.Copied.{copied, copiedAt}
 
 -- one more octet copied to the front of a range
@@ -64,3 +64,11 @@ pub drop-replicate : (k n c : ℕ) → drop k (replicate n c) ≡ replicate (n -
 drop-replicate zero n c = rw (sub-zero n)
 drop-replicate (suc k) zero c = let e : 0 - suc k ≡ 0 = omega arith in rw e
 drop-replicate (suc k) (suc n) c = rw (suc-sub-suc n k) (drop-replicate k n c)
+
+-- stores of two lists, one behind the other
+pub sets-append : (l : List ℕ) (i : ℕ) (u v : List ℕ) → sets (sets l i u) (i + length u) v ≡ sets l i (u ++ v)
+sets-append l i [] v = rw add-zero
+sets-append l i (x ∷ u) v = rw (add-suc, ← suc-add) (sets-append (set l i x) (suc i) u v)
+
+pub head-same : {A : Type 0} (c d : A) (a b : List A) → c ∷ a ≡ d ∷ b → c ≡ d
+head-same c d a b e = cc

@@ -17,17 +17,17 @@ use Rattle.object.specs.declared.entries.Seen.{Seen}
 use Rattle.lent.specs.Octets.{stands}
 use Rattle.object.specs.Object.{GroupHash, entryAt, entriesFrom, entries, numbersOnce, count, entriesCheck}
 use Rattle.object.specs.Object.{digestFor}
-use Rattle.object.specs.Inner.Seen.{none, isNew, counted, tallied, tallyFrom, seenIn, seenCheck, digestsFrom, tableOf, Told}
-use Rattle.object.specs.Inner.Seen.{told, settled}
+use Rattle.object.specs.Inner.Seen.{none, isNew, counted, tallied, tallyFrom, seenIn, seenCheck, digestsFrom, tableOf, ObjectAnswer}
+use Rattle.object.specs.Inner.Seen.{objectAnswer, settled}
 use Rattle.lent.proofs.Marks.{Marks, none-marked, one-marked}
 use Rattle.tlv.proofs.Joined.{never-value, same-value, first-value}
-use Rattle.object.proofs.EntryPlaces.{Sound, entry-stands}
+use Rattle.object.proofs.EntryPlaces.{EntrySound, entry-stands}
 
 -- ---- entries that were read
 
 unfoldable pub AllSound : List GroupHash → Type 0
 AllSound [] = Unit {0}
-AllSound (e ∷ es) = Sound e × AllSound es
+AllSound (e ∷ es) = EntrySound e × AllSound es
 
 all-sound : (k : ℕ) (s : List ℕ) (at : ℕ) (es : List GroupHash) → entriesFrom k s at ≡ value es → AllSound es
 unfolding entriesFrom AllSound
@@ -115,7 +115,7 @@ unfolding repeatedAt
 repeated-some p h = rw (ne-eqb p 0 (λ z. omega arith))
 
 -- an entry whose number stands before, or not
-module _ (t : Seen) (e : GroupHash) (es : List GroupHash) (before : List ℕ) (sound : Sound e)
+module _ (t : Seen) (e : GroupHash) (es : List GroupHash) (before : List ℕ) (sound : EntrySound e)
     (marks : Marks 17 (t .digests) before) where
   stands-old : stands (e .group) before ≡ not (isNew t (e .group))
   unfolding Marks isNew
@@ -199,7 +199,7 @@ module _ (ds : List ℕ) (eg ed g d : ℕ) where
           rw (← q, old)
       go false e = refl
 
-digest-step : (t : Seen) (e : GroupHash) (es : List GroupHash) (g : ℕ) → Sound e → length (t .digests) ≡ 17
+digest-step : (t : Seen) (e : GroupHash) (es : List GroupHash) (g : ℕ) → EntrySound e → length (t .digests) ≡ 17
     → cond (isNew (counted t e) g) (digestFor g es) (getD (counted t e .digests) g 0)
     ≡ cond (isNew t g) (digestFor g (e ∷ es)) (getD (t .digests) g 0)
 unfolding isNew digestFor
@@ -276,8 +276,8 @@ seen-check es at sound =
     rw (r, k)
 
 told-checked : (a b : Outcome) (es : List GroupHash)
-    → told (checked a (checked b (value es))) ≡ settled (orElse a b) (digestsFrom 17 0 es)
-unfolding told checked settled tableOf outcomeIn
+    → objectAnswer (checked a (checked b (value es))) ≡ settled (orElse a b) (digestsFrom 17 0 es)
+unfolding objectAnswer checked settled tableOf outcomeIn
 told-checked passed passed es = refl
 told-checked passed (refused n p) es = refl
 told-checked (refused n p) b es = refl
@@ -286,8 +286,8 @@ pub list-told : (x : Read (List GroupHash)) (at : ℕ) (rest : Outcome) (y : Rea
     → ((es : List GroupHash) → x ≡ value es → AllSound es)
     → andThen x (λ es. value (tallied none es)) ≡ y
     → settled (orElse (outcomeIn y) (orElse (seenCheck (seenIn y) at) rest)) (seenIn y .digests)
-    ≡ told (andThen x (λ es. checked (entriesCheck es at) (checked rest (value es))))
-unfolding andThen outcomeIn seenIn settled told tableOf
+    ≡ objectAnswer (andThen x (λ es. checked (entriesCheck es at) (checked rest (value es))))
+unfolding andThen outcomeIn seenIn settled objectAnswer tableOf
 list-told (value es) at rest y sound e =
     let all = sound es refl in
     rw (← e, seen-check es at all, seen-table es all) (sym (told-checked (entriesCheck es at) rest es))
@@ -298,13 +298,13 @@ pub walk-told : (s : List ℕ) (at from to : ℕ) (rest : Outcome)
     → settled (orElse (outcomeIn (tallyFrom (take to s) from none))
     (orElse (seenCheck (seenIn (tallyFrom (take to s) from none)) at) rest))
     (seenIn (tallyFrom (take to s) from none) .digests)
-    ≡ told (andThen (entries (take to s) from) (λ es. checked (entriesCheck es at) (checked rest (value es))))
+    ≡ objectAnswer (andThen (entries (take to s) from) (λ es. checked (entriesCheck es at) (checked rest (value es))))
 unfolding tallyFrom entries
 walk-told s at from to rest =
     let t = take to s in
     list-told (entries t from) at rest (tallyFrom t from none) (all-sound (suc (length t)) t from) refl
 
--- the two things that are told
-pub told-both : (r : Told) (x : Read (List GroupHash)) → r ≡ told x → (r .outcome ≡ outcomeIn x) × (r .digests ≡ tableOf x)
-unfolding told
-told-both r x e = (ap (λ (y : Told). y .outcome) e, ap (λ (y : Told). y .digests) e)
+-- the two things that are objectAnswer
+pub told-both : (r : ObjectAnswer) (x : Read (List GroupHash)) → r ≡ objectAnswer x → (r .outcome ≡ outcomeIn x) × (r .digests ≡ tableOf x)
+unfolding objectAnswer
+told-both r x e = (ap (λ (y : ObjectAnswer). y .outcome) e, ap (λ (y : ObjectAnswer). y .digests) e)

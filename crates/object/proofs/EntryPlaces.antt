@@ -20,7 +20,7 @@ use Rattle.tlv.specs.Cut.{endCheck, hasOctets}
 use Rattle.object.specs.Object.{GroupHash, isGroupNumber, digestAt, numberAt, entryAt}
 
 -- what is known of an entry that was read
-pub record Sound (e : GroupHash) : Type 0 where
+pub record EntrySound (e : GroupHash) : Type 0 where
   pub numbered : (1 ≤ e .group) × (e .group ≤ 16)
   pub placed : 0 < e .place
   pub digested : 0 < e .digest
@@ -60,7 +60,7 @@ number-stands s at e h =
     let later : v .to < e .digest = d .2 in
     ((omega arith, omega arith), d .1, omega arith, d .3)
 
-pub entry-stands : (s : List ℕ) (at : ℕ) (e : GroupHash) → entryAt s at ≡ value e → (at < e .end) × (e .end ≤ length s) × Sound e
+pub entry-stands : (s : List ℕ) (at : ℕ) (e : GroupHash) → entryAt s at ≡ value e → (at < e .end) × (e .end ≤ length s) × EntrySound e
 unfolding entryAt
 entry-stands s at e h =
     let read = first-value (element s at 0x30) _ e h in

@@ -43,14 +43,14 @@ pub struct Walk {
 }
 
 fn refuse(cause: Cause, at: usize) -> HashRead
-    ensures { λ r. ⌜ T.entryOf r ≡ refusal (numberOf cause) at ⌝ }
+    ensures { λ r. ⌜ T.groupHashOf r ≡ refusal (numberOf cause) at ⌝ }
 {
     HashRead::Refused(Refusal::at(cause, at))
 }
 
 // An octet string of 32, and nothing behind it.
 fn digest_at(s: &[u8], group: usize, place: usize, at: usize) -> HashRead
-    ensures { λ r. ⌜ T.entryOf r ≡ O.digestAt (now (s .entry)) group place at ⌝ }
+    ensures { λ r. ⌜ T.groupHashOf r ≡ O.digestAt (now (s .entry)) group place at ⌝ }
 {
     match tlv::element(s, at, tags::OCTET_STRING) {
         Taken::Value(v) => {
@@ -82,7 +82,7 @@ fn is_group_number(s: &[u8], v: Stretch) -> bool
 }
 
 fn number_at(s: &[u8], at: usize) -> HashRead
-    ensures { λ r. ⌜ T.entryOf r ≡ O.numberAt (now (s .entry)) at ⌝ }
+    ensures { λ r. ⌜ T.groupHashOf r ≡ O.numberAt (now (s .entry)) at ⌝ }
 {
     match tlv::element(s, at, tags::INTEGER) {
         Taken::Value(v) => {
@@ -98,7 +98,7 @@ fn number_at(s: &[u8], at: usize) -> HashRead
 
 // An entry is itself a sequence of the two.
 fn entry_at(s: &[u8], at: usize) -> HashRead
-    ensures { λ r. ⌜ T.entryOf r ≡ O.entryAt (now (s .entry)) at ⌝ }
+    ensures { λ r. ⌜ T.groupHashOf r ≡ O.entryAt (now (s .entry)) at ⌝ }
 {
     match tlv::element(s, at, tags::SEQUENCE) {
         Taken::Value(v) => number_at(lent::part(s, 0, v.to), v.from),

@@ -28,7 +28,7 @@ pub struct ObjectRead {
 }
 
 fn refused(why: Refusal) -> ObjectRead
-    ensures { λ r. ⌜ T.objectOf r ≡ T.told (refusal (numberOf (why .cause)) (why .place)) ⌝ }
+    ensures { λ r. ⌜ T.objectAnswerOf r ≡ T.objectAnswer (refusal (numberOf (why .cause)) (why .place)) ⌝ }
 {
     ObjectRead {
         verdict: Verdict::Refused(why),
@@ -47,7 +47,7 @@ fn seen_check(seen: Seen, at: usize) -> Verdict
 }
 
 fn settled(verdict: Verdict, digests: [usize; 17]) -> ObjectRead
-    ensures { λ r. ⌜ T.objectOf r ≡ T.settled (outcomeOf verdict) digests ⌝ }
+    ensures { λ r. ⌜ T.objectAnswerOf r ≡ T.settled (outcomeOf verdict) digests ⌝ }
 {
     match verdict {
         Verdict::Passed => ObjectRead {
@@ -63,7 +63,7 @@ fn settled(verdict: Verdict, digests: [usize; 17]) -> ObjectRead
 
 // The entries, then the tests on all of them, and nothing follows.
 fn entries_in(s: &[u8], at: usize, v: Stretch) -> ObjectRead
-    ensures { λ r. ⌜ T.objectOf r ≡ T.told (T.fromEntries (now (s .entry)) at v) ⌝ }
+    ensures { λ r. ⌜ T.objectAnswerOf r ≡ T.objectAnswer (T.fromEntries (now (s .entry)) at v) ⌝ }
 {
     let walk = entries(lent::part(s, 0, v.to), v.from);
     let verdict = walk.verdict;
@@ -74,7 +74,7 @@ fn entries_in(s: &[u8], at: usize, v: Stretch) -> ObjectRead
 }
 
 fn from_entry_list(s: &[u8], at: usize) -> ObjectRead
-    ensures { λ r. ⌜ T.objectOf r ≡ T.told (O.fromEntryList (now (s .entry)) at) ⌝ }
+    ensures { λ r. ⌜ T.objectAnswerOf r ≡ T.objectAnswer (O.fromEntryList (now (s .entry)) at) ⌝ }
 {
     match tlv::element(s, at, tags::SEQUENCE) {
         Taken::Value(v) => entries_in(s, at, v),
@@ -118,7 +118,7 @@ fn is_sha256(s: &[u8]) -> bool
 }
 
 fn from_algorithm(s: &[u8], at: usize) -> ObjectRead
-    ensures { λ r. ⌜ T.objectOf r ≡ T.told (O.fromAlgorithm (now (s .entry)) at) ⌝ }
+    ensures { λ r. ⌜ T.objectAnswerOf r ≡ T.objectAnswer (O.fromAlgorithm (now (s .entry)) at) ⌝ }
 {
     match tlv::element(s, at, tags::SEQUENCE) {
         Taken::Value(v) => {
@@ -141,7 +141,7 @@ fn is_zero(s: &[u8], v: Stretch) -> bool
 }
 
 fn from_version(s: &[u8], at: usize) -> ObjectRead
-    ensures { λ r. ⌜ T.objectOf r ≡ T.told (O.fromVersion (now (s .entry)) at) ⌝ }
+    ensures { λ r. ⌜ T.objectAnswerOf r ≡ T.objectAnswer (O.fromVersion (now (s .entry)) at) ⌝ }
 {
     match tlv::element(s, at, tags::INTEGER) {
         Taken::Value(v) => {

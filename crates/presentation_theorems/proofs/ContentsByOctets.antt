@@ -19,6 +19,7 @@ use Rattle.presentation_theorems.specs.Presented.{algorithmOf, objectIns
 use Rattle.presentation_theorems.specs.Presented.{isOnce, tagsOf, Presented}
 use Rattle.presentation_theorems.proofs.GroupFiles.{group-below}
 use Rattle.presentation_theorems.proofs.GroupOne.{in-tags}
+use Rattle.lent.proofs.Lists.{head-same}
 
 -- ---- elements, taken apart
 
@@ -67,9 +68,6 @@ algorithm-tells false false e = refl
 algorithm-tells true false e = absurd (let n : _≡_ {A = ℕ} 13 11 = ap length e in omega arith)
 algorithm-tells false true e = absurd (let n : _≡_ {A = ℕ} 11 13 = ap length e in omega arith)
 
-same-head : {A : Type 0} (c d : A) (a b : List A) → c ∷ a ≡ d ∷ b → c ≡ d
-same-head c d a b e = cc
-
 signed-tells : (xs ys : List Signed) → length (allSigned xs) ≤ 65535 → allSigned xs ≡ allSigned ys → xs ≡ ys
 unfolding allSigned signedOf
 signed-tells [] [] most e = refl
@@ -81,7 +79,7 @@ signed-tells (x ∷ xs) (y ∷ ys) most e =
     (allSigned xs) (allSigned ys) most e in
     let b = split 2 (x .number ∷ []) (y .number ∷ []) (tlv 0x04 (x .digest)) (tlv 0x04 (y .digest)) (a .content-fits)
     (a .same-content) in
-    let number : x .number ≡ y .number = same-head (x .number) (y .number) [] [] (b .same-content) in
+    let number : x .number ≡ y .number = head-same (x .number) (y .number) [] [] (b .same-content) in
     let digest : x .digest ≡ y .digest = split-last 4 (x .digest) (y .digest) (b .rest-fits) (b .same-rest) in
     let rest : xs ≡ ys = signed-tells xs ys (a .rest-fits) (a .same-rest) in
     λ i. record { number = number i; digest = digest i } ∷ rest i

@@ -26,7 +26,7 @@ use Rattle.zone.specs.Octets.{areOctets}
 use Rattle.presentation_theorems.specs.Presented.{isOnce, commonInside}
 use Rattle.refusal.proofs.Outcomes.{refused-not-passed, both-passed, unless-kept, kept-unless}
 use Rattle.presentation_theorems.proofs.NoneTwice.{onceAfter, once-none, none-once}
-use Rattle.presentation_theorems.proofs.Elements.{take-octets, take-most, read-element, element-read, last-read, cut-there}
+use Rattle.presentation_theorems.proofs.Elements.{octets-before, take-most, read-element, element-read, last-read, cut-there}
 use Rattle.presentation_theorems.proofs.Elements.{has-octets, octets-had, place-behind, followed-by, nothing-left}
 use Rattle.presentation_theorems.proofs.Elements.{left-nothing, alike-same, same-alike, cut-before}
 
@@ -242,7 +242,7 @@ module _ (w : List ℕ) (at tag : ℕ) (c rest : List ℕ) (o : Stretch) (h : St
   unfolding readEfCom cut
   common-read small v e =
       let s = take (o .to) w in
-      let r = version-read s (o .from) (take-octets (o .to) w small) v e in
+      let r = version-read s (o .from) (octets-before (o .to) w small) v e in
       let long : length s ≡ o .to = length-take-le (o .to) w (h .ends-within) in
       let fits : v .to ≤ o .to = omega (arith, r .within) in
       let same : cut s v ≡ cut w v = cut-before w (o .to) (v .from) (v .to) fits (r .ordered) in (

@@ -31,8 +31,8 @@ octet-below [] small i = omega arith
 octet-below (c ∷ s) small zero = ltb-true c 256 (and-both (isOctet c) (every isOctet s) small .0)
 octet-below (c ∷ s) small (suc i) = octet-below s (and-both (isOctet c) (every isOctet s) small .1) i
 
-pub take-octets : (n : ℕ) (s : List ℕ) → areOctets s → areOctets (take n s)
-take-octets n s small = every-take isOctet n s small
+pub octets-before : (n : ℕ) (s : List ℕ) → areOctets s → areOctets (take n s)
+octets-before n s small = every-take isOctet n s small
 
 pub take-most : (n m : ℕ) (s : List ℕ) → length s ≤ m → length (take n s) ≤ m
 take-most n m s h = rw (length-take n s) (omega arith)

@@ -26,7 +26,7 @@ use Rattle.chip.specs.Presentation.{firstFile, moved, textAt, groupOne}
 use Rattle.zone.specs.Octets.{areOctets}
 use Rattle.presentation_theorems.specs.Presented.{Lent, isIn, isOnce, tagsOf}
 use Rattle.presentation_theorems.proofs.NoneTwice.{stands-later}
-use Rattle.presentation_theorems.proofs.Elements.{take-octets, take-most, read-element, last-read, cut-there, place-behind}
+use Rattle.presentation_theorems.proofs.Elements.{octets-before, take-most, read-element, last-read, cut-there, place-behind}
 use Rattle.presentation_theorems.proofs.Elements.{nothing-left, left-nothing}
 use Rattle.presentation_theorems.proofs.GroupFiles.{lentAt, lentIn, FileStands, EachStands}
 
@@ -158,7 +158,7 @@ module _ (w : List ℕ) (fs : List File) (each : EachStands w fs) where
       let found = first-found w 1 fs f (a .1) in
       let h = each f (found .0) in
       let n = getD w (f .start) 0 in
-      let b = text-read (take (f .held .to) w) (f .held .from) (take-octets (f .held .to) w small) r (a .2) in
+      let b = text-read (take (f .held .to) w) (f .held .from) (octets-before (f .held .to) w small) r (a .2) in
       let content : cut w (f .held) ≡ tlv 0x5F1F (b .0) = sym
       (inside w (f .start) n (cut w (f .held)) (drop (f .held .to) w) (f .held) h) ∙ b .1 in
       (b .0, subst (λ (l : Lent). isIn l (lentIn w fs)) (same f (b .0) (one-tag n (found .2)) content) (found .1), b .2, b .3)

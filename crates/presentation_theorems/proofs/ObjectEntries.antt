@@ -24,7 +24,7 @@ use Rattle.zone.specs.Octets.{areOctets}
 use Rattle.presentation_theorems.specs.Presented.{Signed, signedOf, allSigned, isIn, isOnce, numbers, EntryKept}
 use Rattle.refusal.proofs.Outcomes.{refused-not-passed, both-passed, unless-kept}
 use Rattle.presentation_theorems.proofs.NoneTwice.{onceAfter, once-none, none-once}
-use Rattle.presentation_theorems.proofs.Elements.{take-octets, take-most, read-element, last-read, place-behind}
+use Rattle.presentation_theorems.proofs.Elements.{octets-before, take-most, read-element, last-read, place-behind}
 use Rattle.presentation_theorems.proofs.Elements.{nothing-left, left-nothing}
 use Rattle.presentation_theorems.proofs.ObjectEntry.{signedAt, signedIn, heldIn, signed-before, held-more, EntryRead}
 use Rattle.presentation_theorems.proofs.ObjectEntry.{entry-read, read-entry}
@@ -207,7 +207,7 @@ module _ (s : List ℕ) (at : ℕ) where
       let h = read-element s at 0x30 small v (a .1) in
       let places = place-behind s at 0x30 (cut s v) (drop (v .to) s) v h in
       let long : length t ≡ v .to = length-take-le (v .to) s (h .ends-within) in
-      let r = entries-read (suc (length t)) t (v .from) x (take-octets (v .to) s small) (omega (arith, places .1)) (b .1) in
+      let r = entries-read (suc (length t)) t (v .from) x (octets-before (v .to) s small) (omega (arith, places .1)) (b .1) in
       let held : heldIn (v .to) x ≡ true = ap (λ (n : ℕ). heldIn n x) (sym long) ∙ r .entries-held in
       let same : signedIn t x ≡ signedIn s x = signed-before s (v .to) x held in
       let content : cut s v ≡ allSigned (signedIn s x) = sym (inside s at 0x30 (cut s v) (drop (v .to) s) v h) ∙ r .entries-there

@@ -20,9 +20,10 @@ use Rattle.object.specs.Object.{GroupHash, isGroupNumber, digestAt, numberAt, e
 use Rattle.zone.specs.Octets.{areOctets}
 use Rattle.presentation_theorems.specs.Presented.{Signed, signedOf, EntryKept}
 use Rattle.refusal.proofs.Outcomes.{unless-kept, kept-unless}
-use Rattle.presentation_theorems.proofs.Elements.{take-octets, take-most, read-element, element-read, last-read}
+use Rattle.presentation_theorems.proofs.Elements.{octets-before, take-most, read-element, element-read, last-read}
 use Rattle.presentation_theorems.proofs.Elements.{has-octets, octets-had, place-behind, one-octet, followed-by}
 use Rattle.presentation_theorems.proofs.Elements.{nothing-left, left-nothing, end-there, cut-before}
+use Rattle.lent.proofs.Lists.{head-same}
 
 -- ---- the entry that was read
 
@@ -204,9 +205,6 @@ module _ (s : List ℕ) (at : ℕ) where
         omega (arith, d .5, places .0, places .1),
         d .6,
       )
-    where
-      head-same : (c d : ℕ) (a b : List ℕ) → c ∷ a ≡ d ∷ b → c ≡ d
-      head-same c d a b e = cc
 
 -- ---- one entry
 
@@ -231,7 +229,7 @@ module _ (s : List ℕ) (at : ℕ) where
       let h = read-element s at 0x30 small v (a .1) in
       let t = take (v .to) s in
       let long : length t ≡ v .to = length-take-le (v .to) s (h .ends-within) in
-      let d = number-read t (v .from) (take-octets (v .to) s small) e (a .2) in
+      let d = number-read t (v .from) (octets-before (v .to) s small) e (a .2) in
       let places = place-behind s at 0x30 (cut s v) (drop (v .to) s) v h in
       let last : e .end ≡ v .to = d .number-last ∙ long in
       let fits : e .digest + 32 ≤ v .to = omega (arith, d .number-within) in

@@ -1,6 +1,6 @@
 -- DEMAND 2, stages 1 and 2: bytes are walked exactly when they are at most 65,535 and an element 60, an element 30 and files with
 -- group tags, joined.
-use Prim.Native.Nat.{ℕ, _≤_}
+use Prim.Native.Nat.{ℕ, suc, _≤_}
 use mathlib.Core.Path.{_≡_, refl, sym, subst}
 use mathlib.Core.List.{List, _++_}
 use native.Mathlib.Omega.{arith}

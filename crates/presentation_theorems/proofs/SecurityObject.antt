@@ -22,10 +22,11 @@ use Rattle.zone.specs.Octets.{areOctets}
 use Rattle.presentation_theorems.specs.Presented.{Signed, allSigned, algorithmOf, objectInside}
 use Rattle.refusal.proofs.Outcomes.{unless-kept, kept-unless}
 use Rattle.tlv.proofs.Joined.{first-value, value-then, checked-value, value-checked}
-use Rattle.presentation_theorems.proofs.Elements.{take-octets, take-most, read-element, element-read, cut-there}
+use Rattle.presentation_theorems.proofs.Elements.{octets-before, take-most, read-element, element-read, cut-there}
 use Rattle.presentation_theorems.proofs.Elements.{has-octets, octets-had, one-octet, followed-by, alike-same, same-alike}
 use Rattle.presentation_theorems.proofs.ObjectEntry.{signedIn, heldIn, signed-before, held-more}
 use Rattle.presentation_theorems.proofs.ObjectEntries.{SignedKept, list-of-entries, entries-listed}
+use Rattle.lent.proofs.Lists.{head-same}
 
 -- ---- the algorithm
 
@@ -138,9 +139,6 @@ module _ (s : List ℕ) (at : ℕ) where
         b .2,
         b .3,
       )
-    where
-      head-same : (c d : ℕ) (a b : List ℕ) → c ∷ a ≡ d ∷ b → c ≡ d
-      head-same c d a b e = cc
 
 -- ---- the object, where its inside stands in a presentation
 
@@ -151,7 +149,7 @@ module _ (w : List ℕ) (at tag : ℕ) (c rest : List ℕ) (o : Stretch) (h : St
   unfolding readObject
   object-read small es e =
       let s = take (o .to) w in
-      let r = version-read s (o .from) (take-octets (o .to) w small) es e in
+      let r = version-read s (o .from) (octets-before (o .to) w small) es e in
       let long : length s ≡ o .to = length-take-le (o .to) w (h .ends-within) in
       let held : heldIn (o .to) es ≡ true = ap (λ (n : ℕ). heldIn n es) (sym long) ∙ r .object-held in
       let same : signedIn s es ≡ signedIn w es = signed-before w (o .to) es held in (

@@ -143,7 +143,7 @@ pub record Presented (p : Contents) : Type 0 where
   pub file-kept : (f : Lent) → isIn f (p .lent) → FileKept (p .tags) (p .entries) f
   pub lent-once : isOnce (tagsOf (p .lent)) ≡ true
   -- "Inside group 1: 5F1F and the text, exactly filling 61", and the text keeps every rule
-  pub group-one : isIn (record { tag = Tag.groupOne; content = tlv Tag.text (p .text) }) (p .lent)
+  pub group-one : isIn (record { tag = Tag.group1; content = tlv Tag.text (p .text) }) (p .lent)
   pub text-kept : (f : Form) × Keeps f (p .text)
 
 -- ---- the file of a group
@@ -173,9 +173,9 @@ placeOf c d before = length (tlv Tag.efCom c ++ (tlv Tag.sequence d ++ allLent b
 -- the least that carries a text: group 1 alone, listed and signed, and a second entry, since "fewer than 2" are refused
 unfoldable pub around : List ℕ → Contents
 around t =
-    let one : Lent = record { tag = Tag.groupOne; content = tlv Tag.text t } in
+    let one : Lent = record { tag = Tag.group1; content = tlv Tag.text t } in
     record {
-      tags = Tag.groupOne ∷ [];
+      tags = Tag.group1 ∷ [];
       digits = 0x30 ∷ 0x34 ∷ 0x30 ∷ 0x30 ∷ 0x30 ∷ 0x30 ∷ [];
       followed = false;
       entries = record { number = 1; digest = sha256 (fileOf one) } ∷ (record { number = 2; digest = replicate 32 0 } ∷ []);

@@ -91,9 +91,9 @@ ends-all (ended p) e = p
 ends-all (broken p a b c d) e = absurd (none-not-refused 18 p (sym e))
 
 -- bytes are accepted exactly when some list gives them
-pub accepted-exactly : (w : List ℕ) → areOctets w
+pub run-accepted-exactly : (w : List ℕ) → areOctets w
     → (readRun w .stop ≡ none) ↔ ((ls : List Line) × (allKept ls ≡ true) × (w ≡ joined ls))
-accepted-exactly w small = (
+run-accepted-exactly w small = (
   λ e. (readRun w .lines, read-any w small .0, ends-all (read-any w small .1) e),
   λ h. ap (λ (v : List ℕ). readRun v .stop) (h .2) ∙ ap (λ (x : Reading). x .stop) (read-joined (h .0) (h .1)),
 )

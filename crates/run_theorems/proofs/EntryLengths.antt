@@ -9,19 +9,19 @@ use Rattle.zone.specs.declared.record.Record.{Record}
 use Rattle.sound.specs.Sound.{isSound}
 use Rattle.entry.specs.Entry.{entryOf, size}
 use Rattle.sound.proofs.SoundRecord.{taken-apart}
-use Rattle.entry.proofs.EntryBits.{length-entry}
+use Rattle.entry.proofs.EntryBits.{length-sound-entry}
 
-pub shortest : size 1 ≡ 36
+pub shortest-entry : size 1 ≡ 36
 unfolding size
-shortest = refl
+shortest-entry = refl
 
-pub longest : size 39 ≡ 64
+pub longest-entry : size 39 ≡ 64
 unfolding size
-longest = refl
+longest-entry = refl
 
 module _ (house : ℕ) (r : Record) (sound : isSound r ≡ true) where
   pub entry-length : length (entryOf house r) ≡ size (r .«name_len»)
-  entry-length = length-entry r (taken-apart r sound) house
+  entry-length = length-sound-entry r (taken-apart r sound) house
 
   pub entry-bounds : (36 ≤ length (entryOf house r)) × (length (entryOf house r) ≤ 64)
   unfolding size

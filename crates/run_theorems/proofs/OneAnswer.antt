@@ -17,7 +17,7 @@ use Rattle.entry.specs.Run.{Standing, Onward, next, none, refused, houseIn, for
 use Rattle.entry.specs.Run.{noEntry, readEntry}
 use Rattle.zone.specs.Octets.{areOctets}
 use Rattle.run_theorems.specs.Runs.{Line, isKept, lineAt, NoEntry}
-use Rattle.run_theorems.proofs.WrittenThenRead.{entry-there}
+use Rattle.run_theorems.proofs.WrittenThenRead.{read-where-stands}
 use Rattle.run_theorems.proofs.ListReadBack.{kept-both}
 use Rattle.run_theorems.proofs.ReadThenWritten.{passed-over, passed-there}
 
@@ -82,7 +82,7 @@ module _ (w : List ℕ) (at : ℕ) where
   pub no-entry : at ≤ length w → (k p : ℕ) → readEntry w at .onward ≡ refused k p → NoEntry (drop at w)
   no-entry h k p e l rest kept there =
       let both = kept-both l kept in
-      let read = entry-there (l .house) (l .kept) (both .0) (both .1) w at rest h there in
+      let read = read-where-stands (l .house) (l .kept) (both .0) (both .1) w at rest h there in
       next-not-refused (at + length (entryOf (l .house) (l .kept))) k p (sym (ap (λ (a : Standing). a .onward) read) ∙ e)
 
   -- the reading goes on exactly where the entry of a kept house and record stands, and there with what follows it
@@ -102,6 +102,6 @@ module _ (w : List ℕ) (at : ℕ) where
         ),
     λ x.
         let both = kept-both (x .0) (x .1) in
-        ap (λ (a : Standing). a .onward) (entry-there (x .0 .house) (x .0 .kept) (both .0) (both .1) w at (drop n w) h (x .2))
+        ap (λ (a : Standing). a .onward) (read-where-stands (x .0 .house) (x .0 .kept) (both .0) (both .1) w at (drop n w) h (x .2))
         ∙ ap next (sym (x .3)),
   )

@@ -34,7 +34,7 @@ use Rattle.entry.proofs.OctetsOfBits.{octets-bits}
 use Rattle.entry.proofs.FormsAndSexes.{tells-form, tells-sex}
 use Rattle.sound.proofs.SoundRecord.{Sound, taken-apart}
 use Rattle.entry.proofs.FieldBits.{put-number, puts-characters}
-use Rattle.entry.proofs.EntryBits.{entryBits, whole-octets, entry-filled, length-entry}
+use Rattle.entry.proofs.EntryBits.{entryBits, whole-octets, entry-filled, length-sound-entry}
 use Rattle.entry.proofs.Fields.{length-characters}
 
 take-bits : (n : ℕ) (s : List ℕ) → n ≤ length s → bitsOf (take n s) ≡ take (8 * n) (bitsOf s)
@@ -165,7 +165,7 @@ module _ (w : List ℕ) (at n : ℕ) (small : areOctets w) (there : at ≤ lengt
       let s = drop at w in
       let t = tests f s e in
       let o = taken-apart (recordIn f s) (t .sound-kept) in
-      let long : length (entryOf (houseIn s) (recordIn f s)) ≡ size (nameLength s) = length-entry (recordIn f s) o (houseIn s) in
+      let long : length (entryOf (houseIn s) (recordIn f s)) ≡ size (nameLength s) = length-sound-entry (recordIn f s) o (houseIn s) in
       let offset : at + size (nameLength s) ≡ n = same-next (at + size (nameLength s)) n same in
       let gap : n - at ≡ size (nameLength s) = omega arith in
       let fits : size (nameLength s) ≤ length w - at = rw (length-drop at w) at (t .long) in

@@ -26,7 +26,7 @@ use Rattle.entry.proofs.BitsOfOctets.{bitsOf, bits-append, put-followed}
 use Rattle.entry.proofs.FormsAndSexes.{form-tells, sex-tells}
 use Rattle.sound.proofs.SoundRecord.{Sound, taken-apart}
 use Rattle.entry.proofs.FieldBits.{next-put, next-puts, number-read, characters-read}
-use Rattle.entry.proofs.EntryBits.{key-followed, rest-followed, entryBits, name-taken, length-entry, bits-entry}
+use Rattle.entry.proofs.EntryBits.{key-followed, rest-followed, entryBits, name-taken, length-sound-entry, bits-entry}
 use Rattle.zone.specs.Alphabet.{isCharacter}
 
 house-range : (h : ℕ) → isHouse h ≡ true → (1 ≤ h) × (h ≤ 32767)
@@ -168,7 +168,7 @@ module _ (h : ℕ) (r : Record) (house : isHouse h ≡ true) (sound : isSound r 
     unfolding isWhole
     whole =
         let n = r .«name_len» in
-        let long : size n ≤ length s = rw (length-append (entryOf h r) rest, length-entry r o h) (omega arith) in
+        let long : size n ≤ length s = rw (length-append (entryOf h r) rest, length-sound-entry r o h) (omega arith) in
         let zeros : bitsAt s (278 + 6 * n) (spare n) ≡ 0 =
         number-read s (278 + 6 * n) (spare n) 0 (bitsOf rest) (pow-pos (spare n)) (after-key .behind) in
         rw (after-key .length-read, le-leb (size n) (length s) long, zeros)
@@ -180,13 +180,13 @@ module _ (h : ℕ) (r : Record) (house : isHouse h ≡ true) (sound : isSound r 
       form-told = key .0 .form-read;
       record-told = record-back;
       is-entry = rw (key .0 .house-read, house, whole, record-back, sound);
-      length-told = ap size (after-key .length-read) ∙ sym (length-entry r o h);
+      length-told = ap size (after-key .length-read) ∙ sym (length-sound-entry r o h);
     }
 
   -- the length of an entry is not 0
   pub some-octets : 1 ≤ length (entryOf h r)
   unfolding size
-  some-octets = rw (length-entry r o h) (omega arith)
+  some-octets = rw (length-sound-entry r o h) (omega arith)
 
   pub read-back : (front rest : List ℕ)
       → readEntry (front ++ (entryOf h r ++ rest)) (length front)
@@ -211,9 +211,9 @@ module _ (h : ℕ) (r : Record) (house : isHouse h ≡ true) (sound : isSound r 
       )
 
   -- the same, said of the place
-  pub entry-there : (w : List ℕ) (at : ℕ) (rest : List ℕ) → at ≤ length w → drop at w ≡ entryOf h r ++ rest
+  pub read-where-stands : (w : List ℕ) (at : ℕ) (rest : List ℕ) → at ≤ length w → drop at w ≡ entryOf h r ++ rest
       → readEntry w at ≡ record { onward = next (at + length (entryOf h r)); house = h; kept = r }
-  entry-there w at rest within there =
+  read-where-stands w at rest within there =
       let whole : take at w ++ (entryOf h r ++ rest) ≡ w = ap (λ (x : List ℕ). take at w ++ x) (sym there)
       ∙ take-append-drop at w in
       rw (whole, length-take-le at w within) at (read-back (take at w) rest)

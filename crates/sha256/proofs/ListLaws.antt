@@ -1,11 +1,12 @@
 -- Laws on lists that the kit does not have: parts, runs of one element, and stores of several.
-use mathlib.Core.Path.{_≡_, sym, _∙_}
+use mathlib.Core.Path.{_≡_, _∙_}
 use mathlib.Core.List.{List, [], _∷_, _++_, append-nil}
 use Prim.Native.Nat.{ℕ, zero, suc, _+_, _-_, _≤_}
-use native.Mathlib.Nat.{zero-add, add-zero, add-suc, suc-add}
+use native.Mathlib.Nat.{zero-add, suc-add}
 use native.Mathlib.Omega.{arith}
-use lib.ListN.{length, take, drop, set, replicate, length-append, length-drop, drop-of-length-le, take-append-drop}
+use lib.ListN.{length, take, drop, length-append, length-drop, drop-of-length-le, take-append-drop}
 use lib.Seq.{sets, sets-eq, take-all, take-nil, drop-drop, length-take-le}
+use Rattle.lent.proofs.Lists.{sets-append}
 
 -- 32 octets copied to the front of a longer range
 pub front-copied : (d out : List ℕ) → length d ≡ 32 → 32 ≤ length out
@@ -24,15 +25,6 @@ parted l t n = rw (← drop-drop n t l) (take-append-drop n (drop t l))
 pub length-part : (l : List ℕ) (t n : ℕ) → t + n ≤ length l → length (take n (drop t l)) ≡ n
 length-part l t n h = length-take-le n (drop t l) (rw length-drop (omega arith))
 
-pub drop-replicate : (n m : ℕ) → drop n (replicate (n + m) 0) ≡ replicate {A = ℕ} m 0
-drop-replicate zero m = rw zero-add
-drop-replicate (suc n) m = rw (suc-add, drop-replicate n m)
-
--- stores of two lists, one after the other
-pub sets-append : (a b l : List ℕ) (i : ℕ) → sets l i (a ++ b) ≡ sets (sets l i a) (i + length a) b
-sets-append [] b l i = rw add-zero
-sets-append (x ∷ a) b l i = rw (add-suc, ← suc-add, sets-append a b (set l i x) (suc i))
-
 -- two lists stored at the end
 pub sets-end : (a b l : List ℕ) (i : ℕ) → i + (length a + length b) ≡ length l
     → sets (sets l i a) (i + length a) b ≡ take i l ++ (a ++ b)
@@ -40,4 +32,4 @@ sets-end a b l i e =
     let n : i + length (a ++ b) ≡ length l = rw length-append e in
     let fits : i + length (a ++ b) ≤ length l = omega arith in
     let none : drop (i + length (a ++ b)) l ≡ [] = drop-of-length-le l {i = i + length (a ++ b)} (omega arith) in
-    sym (sets-append a b l i) ∙ sets-eq (a ++ b) l i fits ∙ rw (none, append-nil)
+    sets-append l i a b ∙ sets-eq (a ++ b) l i fits ∙ rw (none, append-nil)

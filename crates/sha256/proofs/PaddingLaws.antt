@@ -6,7 +6,7 @@ use native.Mathlib.Omega.{arith}
 use lib.ListN.{length, take, drop, set, replicate, length-append, length-drop, length-replicate, replicate-append-replicate}
 use lib.Seq.{take-all, set-append-seam, take-at, drop-append-le, take-append-le}
 use Rattle.sha256.specs.Padding.{octets, zeros, padding, padded}
-use Rattle.sha256.proofs.ListLaws.{drop-replicate}
+use Rattle.lent.proofs.Lists.{drop-replicate}
 
 -- what 5.1.1 asks: of l = 8 n bits, with k zero bits, 7 of them in the mark's octet, l + 1 + k is 448 modulo 512, and no smaller
 -- k would do
@@ -31,10 +31,10 @@ zeros-two n r e h = omega arith
 pub mark-after : (s : List ℕ) → length s < 64
     → set (take 64 s ++ drop (length s) (replicate 64 0)) (length s) 0x80 ≡ s ++ (0x80 ∷ replicate (63 - length s) 0)
 mark-after s h =
-    let e : 64 ≡ length s + suc (63 - length s) = omega arith in
+    let e : 64 - length s ≡ suc (63 - length s) = omega arith in
     let le : length s ≤ 64 = omega arith in
     let none : drop (length s) (replicate 64 0) ≡ replicate {A = ℕ} (suc (63 - length s)) 0 =
-    ap (λ (k : ℕ). drop (length s) (replicate {A = ℕ} k 0)) e ∙ drop-replicate (length s) (suc (63 - length s)) in
+    drop-replicate (length s) 64 0 ∙ ap (λ (k : ℕ). replicate {A = ℕ} k 0) e in
     rw (take-all 64 s, none) (set-append-seam s 0 (replicate (63 - length s) 0) 0x80)
 
 -- zeros in two runs, after the mark

@@ -25,7 +25,7 @@ use Rattle.text.specs.declared.number.Span.{Span}
 use Rattle.text.specs.Number.{isLong, spanOf, spanRule, numberRule, checkedBy}
 use Rattle.text.specs.Order.{characters, fieldCheck, numberDigit, furtherDigit, digitCheck, inOrder, verdictBy}
 use Rattle.text.specs.Read.{readText, readBy, answered, recordBy}
-use Rattle.text_theorems.specs.Accepted.{Keeps, has, filler}
+use Rattle.text_theorems.specs.Accepted.{Keeps, has, fillerAt}
 use Rattle.text_theorems.proofs.FirstFailing.{answered-outcome}
 use Rattle.zone.proofs.FormByLength.{told-by, by-told}
 use Rattle.text_theorems.proofs.FormByLength.{common}
@@ -72,7 +72,7 @@ module _ (f : Form) (t : List ℕ) (told : length t ≡ total f) (accepted : ver
       (unless-kept (numberRule f t span) 5 (start f number) (field-passed number (common f .has-number))) in
       (not-true (isFiller (getD (field f number t) 0 0)) (both .0), both .1)
 
-  ends : isLong f t ≡ true → (2 ≤ filler f t) × (filler f t < width f optional)
+  ends : isLong f t ≡ true → (2 ≤ fillerAt f t) × (fillerAt f t < width f optional)
   unfolding span
   ends long = span-ends f t (number-kept .1) long
 
@@ -83,10 +83,10 @@ module _ (f : Form) (t : List ℕ) (told : length t ≡ total f) (accepted : ver
       (rw (short-span f t short) at (digit-passed numberCheck (common f .has-number-check)))
 
   long-kept : isLong f t ≡ true
-      → getD t (start f optional + (filler f t - 1)) 0 ≡ digitOf (field f number t ++ take (filler f t - 1) (field f optional t))
+      → getD t (start f optional + (fillerAt f t - 1)) 0 ≡ digitOf (field f number t ++ take (fillerAt f t - 1) (field f optional t))
   unfolding span digitCheck furtherDigit checkedBy
   long-kept long =
-      digit-kept t (start f optional + (filler f t - 1)) (field f number t ++ take (filler f t - 1) (field f optional t))
+      digit-kept t (start f optional + (fillerAt f t - 1)) (field f number t ++ take (fillerAt f t - 1) (field f optional t))
       (rw (long-span f t long (ends long .0) (ends long .1)) at (digit-passed optional (long-has f t long)))
 
   characters-kept : (i : ℕ) → i < length t → isCharacter (getD t i 0) ≡ true
@@ -132,7 +132,7 @@ module _ (f : Form) (t : List ℕ) (k : Keeps f t) where
       rw (long-span f t e (k .number-ends e .0) (k .number-ends e .1)) (
         refl,
         refl,
-        kept-digit t (start f optional + (filler f t - 1)) (field f number t ++ take (filler f t - 1) (field f optional t))
+        kept-digit t (start f optional + (fillerAt f t - 1)) (field f number t ++ take (fillerAt f t - 1) (field f optional t))
             (k .long-digit e),
       )
 

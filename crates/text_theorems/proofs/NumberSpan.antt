@@ -1,4 +1,4 @@
--- How a number stands, from whether it is long and where the first filler of the optional field is.
+-- How a number stands, from whether it is long and where the first fillerAt of the optional field is.
 use Prim.Native.Nat.{ℕ, _-_, _≤_, _<_}
 use mathlib.Core.Path.{_≡_, refl}
 use mathlib.Core.Bool.{Bool, true, false, cond, _&&_, false≢true}
@@ -13,25 +13,25 @@ use Rattle.zone.specs.Part.{optional, rank, same}
 use Rattle.zone.specs.Form.{width, longest, parts, partOf, layout}
 use Rattle.text.specs.declared.number.Span.the-variants.{Short, Long, Bad}
 use Rattle.text.specs.Number.{isLong, cutAt, spanOf, spanRule}
-use Rattle.text_theorems.specs.Accepted.{filler, has, among}
+use Rattle.text_theorems.specs.Accepted.{fillerAt, has, among}
 
 pub short-span : (f : Form) (t : List ℕ) → isLong f t ≡ false → spanOf f t ≡ Short
 unfolding spanOf
 short-span f t e = rw e
 
-pub long-span : (f : Form) (t : List ℕ) → isLong f t ≡ true → 2 ≤ filler f t → filler f t < width f optional
-    → spanOf f t ≡ Long (filler f t - 1)
+pub long-span : (f : Form) (t : List ℕ) → isLong f t ≡ true → 2 ≤ fillerAt f t → fillerAt f t < width f optional
+    → spanOf f t ≡ Long (fillerAt f t - 1)
 unfolding spanOf cutAt
-long-span f t e h k = rw (e, le-leb 2 (filler f t) h, lt-ltb (filler f t) (width f optional) k)
+long-span f t e h k = rw (e, le-leb 2 (fillerAt f t) h, lt-ltb (fillerAt f t) (width f optional) k)
 
--- a long number that ends as it should has its filler where it should
+-- a long number that ends as it should has its fillerAt where it should
 pub span-ends : (f : Form) (t : List ℕ) → spanRule (spanOf f t) ≡ true → isLong f t ≡ true
-    → (2 ≤ filler f t) × (filler f t < width f optional)
+    → (2 ≤ fillerAt f t) × (fillerAt f t < width f optional)
 unfolding spanOf cutAt spanRule
 span-ends f t e long = go (leb 2 k && ltb k w) refl (rw long at e)
   where
     k : ℕ
-    k = filler f t
+    k = fillerAt f t
 
     w : ℕ
     w = width f optional
@@ -53,13 +53,13 @@ long-has Td3 t e = absurd (false≢true e)
 -- the further characters and their digit stand within the optional field
 pub span-within : (f : Form) (t : List ℕ) (n : ℕ) → spanOf f t ≡ Long n → n < width f optional
 unfolding spanOf cutAt
-span-within f t n e = go (isLong f t) (leb 2 (filler f t) && ltb (filler f t) (width f optional)) refl e
+span-within f t n e = go (isLong f t) (leb 2 (fillerAt f t) && ltb (fillerAt f t) (width f optional)) refl e
   where
-    go : (a b : Bool) → leb 2 (filler f t) && ltb (filler f t) (width f optional) ≡ b
-        → cond a (cond b (Long (filler f t - 1)) Bad) Short ≡ Long n → n < width f optional
+    go : (a b : Bool) → leb 2 (fillerAt f t) && ltb (fillerAt f t) (width f optional) ≡ b
+        → cond a (cond b (Long (fillerAt f t - 1)) Bad) Short ≡ Long n → n < width f optional
     go false b p q = absurd (let z : _≡_ {A = ℕ} 0 1 = cc in omega arith)
     go true false p q = absurd (let z : _≡_ {A = ℕ} 0 1 = cc in omega arith)
     go true true p q =
-        let both = and-both (leb 2 (filler f t)) (ltb (filler f t) (width f optional)) p in
-        let same-number : filler f t - 1 ≡ n = cc in
-        omega (arith, ltb-true (filler f t) (width f optional) (both .1))
+        let both = and-both (leb 2 (fillerAt f t)) (ltb (fillerAt f t) (width f optional)) p in
+        let same-number : fillerAt f t - 1 ≡ n = cc in
+        omega (arith, ltb-true (fillerAt f t) (width f optional) (both .1))

@@ -23,7 +23,7 @@ use Rattle.field.specs.Date.{birthRule, expiryRule}
 use Rattle.text.specs.Number.{isLong, spanOf, numberBy}
 use Rattle.text.specs.Read.{readText, answered, recordBy}
 use Rattle.sound.specs.Sound.{isShaped, isHeld, isSolid, isNumber, isDocument, isHolder, isSound}
-use Rattle.text_theorems.specs.Accepted.{Keeps, filler}
+use Rattle.text_theorems.specs.Accepted.{Keeps, fillerAt}
 use Rattle.text_theorems.specs.Held.{Holds}
 use Rattle.zone.proofs.FormByLength.{by-told}
 use Rattle.text_theorems.proofs.NumberSpan.{short-span, long-span}
@@ -54,7 +54,7 @@ field-length f x t e = rw (length-take, length-drop) (omega (arith, within f x))
 
 -- ---- lists with fillers behind them
 
--- a list that ends in no filler, with room to spare
+-- a list that ends in no fillerAt, with room to spare
 held : (most n : ℕ) (s : List ℕ) → 1 ≤ length s → length s ≤ most → length s ≤ n → trimmedLength s ≡ length s
     → isHeld most (padded n s) (length s) ≡ true
 unfolding isHeld
@@ -122,13 +122,13 @@ module _ (f : Form) (t : List ℕ) (k : Keeps f t) where
         further = short-further (trimmed s) (rw (trimmed-length s) (omega (arith, trimmed-le s, nine)));
       }
 
-  sure-long : isLong f t ≡ true → Sure f t (field f number t ++ take (filler f t - 1) (field f optional t))
+  sure-long : isLong f t ≡ true → Sure f t (field f number t ++ take (fillerAt f t - 1) (field f optional t))
   sure-long long =
       let s = field f number t in
-      let rest = take (filler f t - 1) (field f optional t) in
+      let rest = take (fillerAt f t - 1) (field f optional t) in
       let ends = k .number-ends long in
-      let solid : every isSolid rest ≡ true = solid-before (filler f t - 1) (field f optional t) (omega arith) in
-      let some : length rest ≡ filler f t - 1 = rw length-take (omega (arith, field-length f optional t (k .size), ends .1)) in
+      let solid : every isSolid rest ≡ true = solid-before (fillerAt f t - 1) (field f optional t) (omega arith) in
+      let some : length rest ≡ fillerAt f t - 1 = rw length-take (omega (arith, field-length f optional t (k .size), ends .1)) in
       let both : length (s ++ rest) ≡ length s + length rest = length-append s rest in
       record {
         some = omega (arith, nine);
@@ -136,7 +136,7 @@ module _ (f : Form) (t : List ℕ) (k : Keeps f t) where
         ends = ends-solid s rest solid (omega (arith, ends .0));
         begins = rw (List·getD-append s rest 0 0 (omega (arith, nine))) (k .number-begins);
         pure = every-append isCharacter s rest (pure-field number)
-            (every-take isCharacter (filler f t - 1) (field f optional t) (pure-field optional));
+            (every-take isCharacter (fillerAt f t - 1) (field f optional t) (pure-field optional));
         further = rw (drop-at s rest 9 nine) solid;
       }
 

@@ -30,7 +30,7 @@ use Rattle.text.specs.Number.{isLong, spanOf, numberBy}
 use Rattle.text.specs.Read.{Answer, readText, answered, recordBy}
 use Rattle.sound.specs.Sound.{isSolid, isSound}
 use Rattle.writing.specs.Text.{numberIn, furtherIn, isWide, textOf}
-use Rattle.text_theorems.specs.Accepted.{Keeps, filler, has, among}
+use Rattle.text_theorems.specs.Accepted.{Keeps, fillerAt, has, among}
 use Rattle.text_theorems.proofs.NumberSpan.{short-span, long-span}
 use Rattle.text_theorems.proofs.Acceptance.{passes, read-as}
 use Rattle.zone.proofs.Every.{every-append, every-take, each-every}
@@ -105,7 +105,7 @@ module _ (r : Record) (s : Sound r) where
     unfolding given inOptional same rank
     optional-padded = shown r s optional refl ∙ rw wide
 
-    filler-shown : filler f t ≡ length (furtherIn r) + 1
+    filler-shown : fillerAt f t ≡ length (furtherIn r) + 1
     filler-shown =
         ap firstFiller optional-padded
         ∙ first-padded (width f optional) (furtherIn r ++ (digitOf (numberIn r) ∷ [])) solids
@@ -118,21 +118,21 @@ module _ (r : Record) (s : Sound r) where
         optional-padded ∙ padded-behind (width f optional) (furtherIn r) (digitOf (numberIn r))
         (omega (arith, further-fits r s wide .1))
 
-    before-filler : filler f t - 1 ≡ length (furtherIn r)
+    before-filler : fillerAt f t - 1 ≡ length (furtherIn r)
     before-filler = omega (arith, filler-shown)
 
-    number-shown : field f number t ++ take (filler f t - 1) (field f optional t) ≡ numberIn r
+    number-shown : field f number t ++ take (fillerAt f t - 1) (field f optional t) ≡ numberIn r
     unfolding numberIn
     number-shown =
         rw (nine-shown, before-filler, optional-shown, take-append-seam (furtherIn r) (digitOf (numberIn r) ∷ _), further-all r s)
         (rw (take-take 9 (r .«number_len») (r .number) (omega (arith, is-wide r s wide))) at (take-append-drop 9 (numberIn r)))
 
-    digit-shown : getD t (start f optional + (filler f t - 1)) 0 ≡ digitOf (numberIn r)
+    digit-shown : getD t (start f optional + (fillerAt f t - 1)) 0 ≡ digitOf (numberIn r)
     digit-shown =
         rw (before-filler, in-field f optional t (length (furtherIn r)) (omega (arith, further-fits r s wide .1)), optional-shown)
         (getD-append-seam (furtherIn r) (digitOf (numberIn r)) _ 0)
 
-  ends : isWide r ≡ true → (2 ≤ filler f t) × (filler f t < width f optional)
+  ends : isWide r ≡ true → (2 ≤ fillerAt f t) × (fillerAt f t < width f optional)
   ends wide =
       let fits = further-fits r s wide in
       (rw (filler-shown wide) (omega (arith, fits .0)), rw (filler-shown wide) (fits .1))

@@ -26,7 +26,7 @@ use Rattle.sound.proofs.SoundRecord.{Sound}
 use Rattle.digit.proofs.Written.{digit-character}
 use Rattle.zone.proofs.Every.{every-append, every-take, every-drop, every-replicate}
 use Rattle.writing.proofs.AfterPut.{put-none, put-more, put-filled, put-other, every-put}
-use Rattle.writing.proofs.OneMarked.{length-put, single, mark-put, personal-single}
+use Rattle.writing.proofs.OneMarked.{put-length, single, mark-put, personal-single}
 use Rattle.zone.proofs.Fields.{one-there}
 use Rattle.writing.proofs.CompositePlace.{covered-clear}
 use Rattle.lent.proofs.Bools.{or-neither}
@@ -85,7 +85,7 @@ module _ (r : Record) where
   length-written : (xs : List Part) (t : List ℕ) → length t ≡ total (r .form) → length (written xs t) ≡ total (r .form)
   unfolding written
   length-written [] t e = e
-  length-written (x ∷ xs) t e = length-put r x (given x) (written xs t) (length-written xs t e)
+  length-written (x ∷ xs) t e = put-length r x (given x) (written xs t) (length-written xs t e)
 
   every-written : (p : ℕ → Bool) (xs : List Part) (t : List ℕ) → ((x : Part) → every p (given x) ≡ true) → every p t ≡ true
       → every p (written xs t) ≡ true
@@ -120,7 +120,7 @@ module _ (r : Record) where
       → field (r .form) x (written xs (put r x (given x) (written ys blanks))) ≡ padded (width (r .form) x) (given x)
   once x xs ys m n =
       let long = length-written ys blanks length-blanks in
-      field-others x xs (put r x (given x) (written ys blanks)) (length-put r x (given x) (written ys blanks) long) m
+      field-others x xs (put r x (given x) (written ys blanks)) (put-length r x (given x) (written ys blanks) long) m
       ∙ put-filled r x (given x) (written ys blanks) long (not-given x ys n)
 
   never : (x : Part) → among x whole ≡ false → field (r .form) x before ≡ padded (width (r .form) x) []
@@ -180,11 +180,11 @@ module _ (r : Record) where
       where
         marked : (c : ℕ) → mark r numberCheck c (put r number (r .number) t)
             ≡ put r numberCheck (c ∷ []) (put r number (r .number) t)
-        marked c = mark-put r numberCheck c (put r number (r .number) t) (length-put r number (r .number) t e)
+        marked c = mark-put r numberCheck c (put r number (r .number) t) (put-length r number (r .number) t e)
             (single (ones (r .form) .number-check-one))
 
         long-put : (c : ℕ) → length (put r numberCheck (c ∷ []) (put r number (r .number) t)) ≡ total (r .form)
-        long-put c = length-put r numberCheck (c ∷ []) (put r number (r .number) t) (length-put r number (r .number) t e)
+        long-put c = put-length r numberCheck (c ∷ []) (put r number (r .number) t) (put-length r number (r .number) t e)
 
         go : (b : Bool) → isWide r ≡ b
             → cond b (putLong r t) (putShort r t)
@@ -262,7 +262,7 @@ module _ (r : Record) (s : Sound r) where
   in-order = text-before r (λ e. omega (arith, further-fits e .1))
 
   pub length-text : length (textOf r) ≡ total (r .form)
-  length-text = rw in-order (length-put r composite (lastDigit r ∷ []) (before r) (length-before r))
+  length-text = rw in-order (put-length r composite (lastDigit r ∷ []) (before r) (length-before r))
 
   -- each part holds what it is given, with fillers behind that
   pub shown : (x : Part) → same x composite ≡ false → field (r .form) x (textOf r) ≡ padded (width (r .form) x) (given r x)

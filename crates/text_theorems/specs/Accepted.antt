@@ -25,8 +25,8 @@ unfoldable pub has : Form → Part → Bool
 has f x = among x (parts f)
 
 -- the first `<` of the optional field
-abbrev pub filler : Form → List ℕ → ℕ
-filler f t = firstFiller (field f optional t)
+abbrev pub fillerAt : Form → List ℕ → ℕ
+fillerAt f t = firstFiller (field f optional t)
 
 pub record Keeps (f : Form) (t : List ℕ) : Type 0 where
   pub size : length t ≡ total f
@@ -34,7 +34,7 @@ pub record Keeps (f : Form) (t : List ℕ) : Type 0 where
   pub code-kept : codeRule f (field f code t) ≡ true
   pub state-kept : stateRule (field f state t) ≡ true
   pub number-begins : isFiller (getD (field f number t) 0 0) ≡ false
-  pub number-ends : isLong f t ≡ true → (2 ≤ filler f t) × (filler f t < width f optional)
+  pub number-ends : isLong f t ≡ true → (2 ≤ fillerAt f t) × (fillerAt f t < width f optional)
   pub nationality-kept : stateRule (field f nationality t) ≡ true
   pub birth-kept : birthRule (field f birth t) ≡ true
   pub sex-kept : sexRule (getD t (start f sex) 0) ≡ true
@@ -42,7 +42,7 @@ pub record Keeps (f : Form) (t : List ℕ) : Type 0 where
   pub name-kept : nameRule (field f name t) ≡ true
   pub number-digit : isLong f t ≡ false → getD t (start f numberCheck) 0 ≡ digitOf (field f number t)
   pub long-digit : isLong f t ≡ true
-      → getD t (start f optional + (filler f t - 1)) 0 ≡ digitOf (field f number t ++ take (filler f t - 1) (field f optional t))
+      → getD t (start f optional + (fillerAt f t - 1)) 0 ≡ digitOf (field f number t ++ take (fillerAt f t - 1) (field f optional t))
   pub birth-digit : getD t (start f birthCheck) 0 ≡ digitOf (field f birth t)
   pub expiry-digit : getD t (start f expiryCheck) 0 ≡ digitOf (field f expiry t)
   pub personal-digit : has f personalCheck ≡ true → getD t (start f personalCheck) 0 ≡ digitOf (field f personal t)

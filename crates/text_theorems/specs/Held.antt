@@ -10,7 +10,7 @@ use Rattle.zone.specs.Part.{code, state, number, optional, nationality, birth, 
 use Rattle.zone.specs.Form.{start, field}
 use Rattle.zone.specs.Record.{trimmed}
 use Rattle.text.specs.Number.{isLong}
-use Rattle.text_theorems.specs.Accepted.{filler}
+use Rattle.text_theorems.specs.Accepted.{fillerAt}
 
 -- the fields that stand in the text, number and name without their trailing fillers
 pub record Holds (f : Form) (t : List ℕ) (r : Record) : Type 0 where
@@ -19,7 +19,7 @@ pub record Holds (f : Form) (t : List ℕ) (r : Record) : Type 0 where
   pub state-held : r .state ≡ field f state t
   pub short-held : isLong f t ≡ false → take (r .«number_len») (r .number) ≡ trimmed (field f number t)
   pub long-held : isLong f t ≡ true
-      → take (r .«number_len») (r .number) ≡ field f number t ++ take (filler f t - 1) (field f optional t)
+      → take (r .«number_len») (r .number) ≡ field f number t ++ take (fillerAt f t - 1) (field f optional t)
   pub nationality-held : r .nationality ≡ field f nationality t
   pub birth-held : r .birth ≡ field f birth t
   pub sex-held : r .sex ≡ getD t (start f sex) 0

@@ -31,8 +31,8 @@ octetString = 0x04
 abbrev pub text : ℕ
 text = 0x5F1F
 
-abbrev pub groupOne : ℕ
-groupOne = 0x61
+abbrev pub group1 : ℕ
+group1 = 0x61
 
 -- "Tags, groups 1 to 16: 61 75 63 76 65 none 67 68 69 6A 6B 6C 6D 6E 6F 70": the group of a tag, 0 where it is no group's. Group
 -- 6 is reserved and has none.

@@ -20,7 +20,7 @@ use Rattle.zone.proofs.Padded.{padded-spare, padded-cut, fillers-left}
 use Rattle.zone.specs.Alphabet.{every}
 use Rattle.writing.specs.Text.{put}
 use Rattle.zone.proofs.Parts.{apart}
-use Rattle.lent.proofs.Copies.{copied-there, cut-before, cut-behind, cut-there, set-behind}
+use Rattle.lent.proofs.Copies.{copied-there, before-copied, behind-copied, at-copied, set-behind}
 use Rattle.zone.proofs.Every.{every-append, every-take, every-drop}
 use Rattle.writing.proofs.OneMarked.{put-fits}
 
@@ -53,7 +53,7 @@ module _ (r : Record) where
         let a = start (r .form) x in
         let u = take w s in
         let n : length u ≤ w = rw length-take (omega arith) in
-        cut-there t a u (put-fits r x s t e) w n
+        at-copied t a u (put-fits r x s t e) w n
         ∙ ap (λ l. u ++ l) (ap (take (w - length u)) (sym (drop-drop (length u) a t)) ∙ fillers-left (length u) w
         (drop a t) n blank)
         ∙ sym (padded-spare w u n)
@@ -72,8 +72,8 @@ module _ (r : Record) where
 
         go : (start f y + width f y ≤ start f x) ⊎ (start f x + width f x ≤ start f y)
             → take (width f y) (drop (start f y) (copiedAt t (start f x) u)) ≡ take (width f y) (drop (start f y) t)
-        go (inl h) = cut-before t (start f x) u (put-fits r x s t e) (start f y) (width f y) h
-        go (inr h) = cut-behind t (start f x) u (put-fits r x s t e) (start f y) (width f y) (rw length-take (omega arith))
+        go (inl h) = before-copied t (start f x) u (put-fits r x s t e) (start f y) (width f y) h
+        go (inr h) = behind-copied t (start f x) u (put-fits r x s t e) (start f y) (width f y) (rw length-take (omega arith))
 
   pub every-put : (p : ℕ → Bool) (x : Part) (s t : List ℕ) → every p s ≡ true → every p t ≡ true → every p (put r x s t) ≡ true
   unfolding put

@@ -18,7 +18,7 @@ use Rattle.zone.specs.Part.{composite, rank, same}
 use Rattle.zone.specs.Form.{layout, start, startIn, width, total, covers, line, pieceOf, pieces, cut, joinedCuts, covered}
 use Rattle.zone.proofs.Widths.{within, ones}
 use Rattle.writing.specs.Text.{put}
-use Rattle.lent.proofs.Copies.{cut-before, cut-behind}
+use Rattle.lent.proofs.Copies.{before-copied, behind-copied}
 
 isClear : ℕ → Piece → Bool
 isClear p s = leb (s .start + s .width) p || ltb p (s .start)
@@ -40,8 +40,8 @@ module _ (t : List ℕ) (p c : ℕ) (h : p + 1 ≤ length t) where
     where
       go : (leb (s .start + s .width) p ≡ true) ⊎ (ltb p (s .start) ≡ true)
           → take (s .width) (drop (s .start) (copiedAt t p (c ∷ []))) ≡ take (s .width) (drop (s .start) t)
-      go (inl k) = cut-before t p (c ∷ []) h (s .start) (s .width) (leb-true (s .start + s .width) p k)
-      go (inr k) = cut-behind t p (c ∷ []) h (s .start) (s .width) (omega (arith, ltb-true p (s .start) k))
+      go (inl k) = before-copied t p (c ∷ []) h (s .start) (s .width) (leb-true (s .start + s .width) p k)
+      go (inr k) = behind-copied t p (c ∷ []) h (s .start) (s .width) (omega (arith, ltb-true p (s .start) k))
 
   joined-clear : (ss : List Piece) → areClear p ss ≡ true → joinedCuts (copiedAt t p (c ∷ [])) ss ≡ joinedCuts t ss
   unfolding areClear joinedCuts

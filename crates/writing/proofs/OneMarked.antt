@@ -21,9 +21,9 @@ module _ (r : Record) where
       → start (r .form) x + length (take (width (r .form) x) s) ≤ length t
   put-fits x s t e = rw (length-take, e) (omega (arith, within (r .form) x))
 
-  pub length-put : (x : Part) (s t : List ℕ) → length t ≡ total (r .form) → length (put r x s t) ≡ total (r .form)
+  pub put-length : (x : Part) (s t : List ℕ) → length t ≡ total (r .form) → length (put r x s t) ≡ total (r .form)
   unfolding put
-  length-put x s t e = length-copied t (start (r .form) x) (take (width (r .form) x) s) (put-fits x s t e) ∙ e
+  put-length x s t e = length-copied t (start (r .form) x) (take (width (r .form) x) s) (put-fits x s t e) ∙ e
 
   -- where a part of one character begins, or at the end where the form does not have it
   pub data Single (x : Part) : Type 0 where

@@ -5,7 +5,7 @@ use borrow.Author.Needs.{needs}
 use denote.Ref.{now}
 use lib.ListN.{length, drop}
 use Rattle.lent.specs.Octets.{stands}
-use Rattle.lent.proofs.Standing.{stands-more, stands-here, stands-nowhere}
+use Rattle.lent.proofs.Among.{stands-more, stands-here, stands-nowhere}
 use Rattle.lent.proofs.stands.Statement.{statement}
 use Rattle.lent.proofs.stands.Tie as tie
 

@@ -1,12 +1,12 @@
 -- A refusal has no digests.
 use Rattle.tlv.specs.Read.{outcomeIn}
-use Rattle.object.specs.Inner.Seen.{told, tableOf}
+use Rattle.object.specs.Inner.Seen.{objectAnswer, tableOf}
 use mathlib.Core.Path.{refl}
 use Rattle.object.proofs.refused.Statement.{statement}
 use Rattle.object.proofs.refused.Tie as tie
 
 returns : tie.Need-returns
-unfolding told tableOf outcomeIn
+unfolding objectAnswer tableOf outcomeIn
 returns c = refl
 
 pub refused-spec : {M : Type 1} → statement M

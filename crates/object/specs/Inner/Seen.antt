@@ -19,9 +19,9 @@ use Rattle.object.specs.Object.{digestFor}
 
 -- ---- an entry
 
-abbrev pub entryOf : HashRead → Read O.GroupHash
-entryOf (Value e) = value (record { group = e .group; place = e .place; digest = e .digest; end = e .end })
-entryOf (Refused r) = refusal (numberOf (r .cause)) (r .place)
+abbrev pub groupHashOf : HashRead → Read O.GroupHash
+groupHashOf (Value e) = value (record { group = e .group; place = e .place; digest = e .digest; end = e .end })
+groupHashOf (Refused r) = refusal (numberOf (r .cause)) (r .place)
 
 -- ---- what was seen of the entries
 
@@ -73,15 +73,15 @@ unfoldable pub tableOf : Read (List O.GroupHash) → List ℕ
 tableOf (value es) = digestsFrom 17 0 es
 tableOf (refusal n p) = replicate 17 0
 
-pub record Told : Type 0 where
+pub record ObjectAnswer : Type 0 where
   pub outcome : Outcome
   pub digests : List ℕ
 
-abbrev pub objectOf : ObjectRead → Told
-objectOf r = record { outcome = outcomeOf (r .verdict); digests = r .digests }
+abbrev pub objectAnswerOf : ObjectRead → ObjectAnswer
+objectAnswerOf r = record { outcome = outcomeOf (r .verdict); digests = r .digests }
 
-unfoldable pub told : Read (List O.GroupHash) → Told
-told x = record { outcome = outcomeIn x; digests = tableOf x }
+unfoldable pub objectAnswer : Read (List O.GroupHash) → ObjectAnswer
+objectAnswer x = record { outcome = outcomeIn x; digests = tableOf x }
 
 -- the entries in a list's content, then the tests on all of them, and nothing follows
 abbrev pub fromEntries : List ℕ → ℕ → Stretch → Read (List O.GroupHash)
@@ -90,6 +90,6 @@ fromEntries s at v =
     checked (O.entriesCheck es at) (checked (endCheck s (v .to)) (value es)))
 
 -- a refusal has no digests
-unfoldable pub settled : Outcome → List ℕ → Told
+unfoldable pub settled : Outcome → List ℕ → ObjectAnswer
 settled passed digests = record { outcome = passed; digests = digests }
 settled (refused n p) digests = record { outcome = refused n p; digests = replicate 17 0 }

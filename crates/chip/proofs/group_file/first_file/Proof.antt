@@ -14,7 +14,7 @@ use Rattle.chip.specs.Inner.ByTable.{filesIn}
 use Rattle.chip.specs.Presentation.{firstFile}
 use Rattle.chip.proofs.FilesWalked.{file-behind}
 use Rattle.chip.proofs.FilesByTable.{in-next, lent-never}
-use Rattle.chip.proofs.FirstFile.{first-here, first-on, first-none}
+use Rattle.chip.proofs.FirstFile.{first-here, first-on, first-missing}
 use Rattle.chip.proofs.group_file.first_file.Statement.{statement}
 use Rattle.chip.proofs.group_file.first_file.Tie as tie
 
@@ -97,7 +97,7 @@ returns-3 c =
     let a = c .before .before .before .args in
     let l = c .before .loop in
     let w = now (a .w) in
-    first-none w (a .group) (l .at) (l .inv .0) (c .loop-test .left) ∙ l .inv .1
+    first-missing w (a .group) (l .at) (l .inv .0) (c .loop-test .left) ∙ l .inv .1
 
 pub first-file-spec : {M : Type 1} → statement M
 first-file-spec =

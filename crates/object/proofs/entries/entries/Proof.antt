@@ -1,6 +1,6 @@
 -- What was seen so far, with what is left from here, is what is seen of the whole.
 use Rattle.object.specs.Object.{GroupHash}
-use Rattle.object.specs.Inner.Seen.{entryOf, none, tallyFrom, seenIn}
+use Rattle.object.specs.Inner.Seen.{groupHashOf, none, tallyFrom, seenIn}
 use Rattle.object.proofs.EntryPlaces.{entry-stands}
 use Rattle.object.proofs.EntriesWalked.{tally-step, tally-refused, tally-done}
 use Rattle.object.proofs.EntriesByTable.{counted-count}
@@ -40,7 +40,7 @@ counted-requires c κs =
     let here : l .at < length s = c .before .before .before .before .loop-test .taken in
     let x = c .before .e .given .0 .0 in
     let e : GroupHash = record { group = x .group; place = x .place; digest = x .digest; end = x .end } in
-    let read = sym (c .before .before .before .entry-at .ensures) ∙ ap entryOf (c .before .e .given .1) in
+    let read = sym (c .before .before .before .entry-at .ensures) ∙ ap groupHashOf (c .before .e .given .1) in
     let k = entry-stands s (l .at) e read in
     (omega (arith, k .2 .numbered .1), omega (arith, l .inv .0, here))
 
@@ -51,7 +51,7 @@ loop-less c =
     let here : l .at < length s = c .before .before .before .before .before .loop-test .taken in
     let x = c .before .before .e .given .0 .0 in
     let e : GroupHash = record { group = x .group; place = x .place; digest = x .digest; end = x .end } in
-    let read = sym (c .before .before .before .before .entry-at .ensures) ∙ ap entryOf (c .before .before .e .given .1) in
+    let read = sym (c .before .before .before .before .entry-at .ensures) ∙ ap groupHashOf (c .before .before .e .given .1) in
     let k = entry-stands s (l .at) e read in
     omega (arith, k .0, here)
 
@@ -62,7 +62,7 @@ loop-again c =
     let here : l .at < length s = c .before .before .before .before .before .loop-test .taken in
     let x = c .before .before .e .given .0 .0 in
     let e : GroupHash = record { group = x .group; place = x .place; digest = x .digest; end = x .end } in
-    let read = sym (c .before .before .before .before .entry-at .ensures) ∙ ap entryOf (c .before .before .e .given .1) in
+    let read = sym (c .before .before .before .before .entry-at .ensures) ∙ ap groupHashOf (c .before .before .e .given .1) in
     let k = entry-stands s (l .at) e read in
     let n = counted-count (l .seen) e in
     rw (c .counted .ensures) (omega (arith, k .0, n, l .inv .0), tally-step s (l .at) (l .seen) e here read ∙ l .inv .1)
@@ -80,7 +80,7 @@ returns c =
     let l = c .before .before .before .before .before .before .loop in
     let here : l .at < length s = c .before .before .before .before .before .loop-test .taken in
     let r = c .before .before .refusal .given .0 .0 in
-    let read = sym (c .before .before .before .before .entry-at .ensures) ∙ ap entryOf (c .before .before .refusal .given .1) in
+    let read = sym (c .before .before .before .before .entry-at .ensures) ∙ ap groupHashOf (c .before .before .refusal .given .1) in
     let q = sym (l .inv .1) ∙ tally-refused s (l .at) (l .seen) (numberOf (r .cause)) (r .place) here read in
     (rw q, rw (q, c .none2 .ensures))
 
