@@ -37,7 +37,7 @@ text-held : (s : List ℕ) (at : ℕ) (r : Record) → textAt s at ≡ value r
     → (t : List ℕ) × (readText t .outcome ≡ passed) × (readText t .kept ≡ r)
 unfolding textAt
 text-held s at r e =
-    let a = first-value (element s at 24351)
+    let a = first-value (element s at 0x5F1F)
     (λ (u : Stretch). checked (endCheck s (u .to)) (moved (u .from) (readText (cut s u)))) r e in
     let v = a .0 in
     let t = cut s v in

@@ -18,6 +18,7 @@ use Rattle.entry.specs.Entry.{entryOf}
 use Rattle.tlv.specs.declared.Stretch.{Stretch}
 use Rattle.tlv.specs.Read.{Read, value, refusal}
 use Rattle.tlv.specs.Element.{element}
+use Rattle.tlv.specs.Tags.{octetString}
 use Rattle.lent.specs.Octets.{alike}
 
 -- the octets of a text
@@ -39,7 +40,7 @@ pub data Example : Type 0 where
 
 -- a digit of a TD3 text is the one worked out, and stands in its place
 unfoldable pub isDigitAt : List ℕ → Part → List ℕ → ℕ → Bool
-isDigitAt t x covers n = eqb (checkOf covers) n && eqb (getD t (start Td3 x) 0) (48 + n)
+isDigitAt t x covers n = eqb (checkOf covers) n && eqb (getD t (start Td3 x) 0) (code "0" + n)
 
 -- whether an element is read, or refused with a number
 unfoldable pub isRead : Read Stretch → Bool
@@ -52,7 +53,7 @@ isRefused by (refusal n p) = eqb n by
 
 -- an octet string with this length, and so many octets
 unfoldable pub told : List ℕ → ℕ → Read Stretch
-told l n = element (4 ∷ (l ++ replicate n 0)) 0 4
+told l n = element (octetString ∷ (l ++ replicate n 0)) 0 octetString
 
 unfoldable pub isRight : Example → Bool
 isRight (check s n) = eqb (checkOf (octets s)) n
@@ -84,10 +85,10 @@ examples =
     ∷ birthKept "95<<31"
     ∷ birthRefused "950229"
     ∷ digits T3 1 8 2 0
-    ∷ entry T3 1 43 (0 ∷ 2 ∷ 159 ∷ 121 ∷ 149 ∷ 72 ∷ [])
-    ∷ lengthRead (127 ∷ []) 127
-    ∷ lengthRefused (129 ∷ 127 ∷ []) 127
-    ∷ lengthRead (129 ∷ 128 ∷ []) 128
+    ∷ entry T3 1 43 (0x00 ∷ 0x02 ∷ 0x9F ∷ 0x79 ∷ 0x95 ∷ 0x48 ∷ [])
+    ∷ lengthRead (0x7F ∷ []) 0x7F
+    ∷ lengthRefused (0x81 ∷ 0x7F ∷ []) 0x7F
+    ∷ lengthRead (0x81 ∷ 0x80 ∷ []) 0x80
     ∷ []
 
 unfoldable pub allRight : List Example → Bool

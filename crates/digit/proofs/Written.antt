@@ -8,16 +8,17 @@ use native.Mathlib.Omega.{arith}
 use borrow.Author.Tests.{ne-eqb, le-leb}
 use lib.Dec.{lit<}
 use lib.ListN.{replicate}
-use Rattle.zone.specs.Alphabet.{isDigit, isLetter, isFiller, isCharacter}
+use Prim.Native.Char.{code}
+use Rattle.zone.specs.Alphabet.{isDigit, isLetter, isFiller, isCharacter, filler}
 use Rattle.digit.specs.Check.{value, sumFrom, checkOf, digitOf}
 
-sum-fillers : (i n : ℕ) → sumFrom i (replicate n 60) ≡ 0
+sum-fillers : (i n : ℕ) → sumFrom i (replicate n filler) ≡ 0
 unfolding sumFrom value isDigit isLetter
 sum-fillers i zero = refl
 sum-fillers i (suc n) = rw (sum-fillers (suc i) n) (omega arith)
 
 -- fillers have 0
-pub fillers-digit : (n : ℕ) → digitOf (replicate n 60) ≡ 48
+pub fillers-digit : (n : ℕ) → digitOf (replicate n filler) ≡ code "0"
 unfolding digitOf checkOf
 fillers-digit n = rw (sum-fillers 0 n)
 
@@ -25,14 +26,18 @@ digit-below : (s : List ℕ) → digitOf s < 58
 unfolding digitOf checkOf
 digit-below s = omega (arith, mod-lt (sumFrom 0 s) (lit< {m = 0} {n = 10} tt))
 
-digit-from : (s : List ℕ) → 48 ≤ digitOf s
+digit-from : (s : List ℕ) → code "0" ≤ digitOf s
 unfolding digitOf
 digit-from s = omega arith
 
 pub digit-character : (s : List ℕ) → isCharacter (digitOf s) ≡ true
 unfolding isCharacter isDigit
-digit-character s = rw (le-leb 48 (digitOf s) (digit-from s), le-leb (digitOf s) 57 (omega (arith, digit-below s)))
+digit-character s = rw (
+  le-leb (code "0") (digitOf s) (digit-from s),
+  le-leb (digitOf s) (code "9")
+      (omega (arith, digit-below s)),
+)
 
 pub digit-solid : (s : List ℕ) → isFiller (digitOf s) ≡ false
 unfolding isFiller
-digit-solid s = ne-eqb (digitOf s) 60 (λ e. omega (arith, digit-below s))
+digit-solid s = ne-eqb (digitOf s) filler (λ e. omega (arith, digit-below s))

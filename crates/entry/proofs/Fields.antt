@@ -9,6 +9,7 @@ use native.Mathlib.Omega.{arith}
 use borrow.Author.Tests.{leb-true}
 use lib.Dec.{leb, eqb}
 use lib.ListN.{length, take, drop, getD, set, replicate}
+use Rattle.zone.specs.Alphabet.{filler}
 use Rattle.lent.specs.Copied.{copied}
 use Rattle.lent.proofs.Bools.{and-both}
 use Rattle.lent.proofs.Lists.{copy-more, copy-ends}
@@ -48,7 +49,7 @@ unpack-ends to s k n i ht hn e =
     copy-ends to (charactersAt s k n) i ht h f
 
 -- characters over as many fillers
-pub characters-fill : (s : List ℕ) (k n : ℕ) → copied (replicate n 60) (charactersAt s k n) ≡ charactersAt s k n
+pub characters-fill : (s : List ℕ) (k n : ℕ) → copied (replicate n filler) (charactersAt s k n) ≡ charactersAt s k n
 characters-fill s k n = copied-padded n (charactersAt s k n) ∙ padded-exact n (charactersAt s k n) (length-characters s k n)
 
 -- an entry that is whole has all the bits of its name

@@ -5,7 +5,8 @@ use mathlib.Core.Bool.{Bool, true, false, cond, false≢true}
 use native.Mathlib.Omega.{arith}
 use borrow.Author.Tests.{eqb-true}
 use lib.Dec.{eqb}
-use Rattle.zone.specs.Alphabet.{isFiller}
+use Prim.Native.Char.{code}
+use Rattle.zone.specs.Alphabet.{isFiller, filler}
 use Rattle.zone.specs.declared.form.Form.{Form}
 use Rattle.zone.specs.declared.form.Form.the-variants.{Td1, Td2, Td3}
 use Rattle.zone.specs.declared.form.Recognised.the-variants.{As, Unknown}
@@ -34,13 +35,13 @@ tells-form n f e = go (eqb n 0) refl (eqb n 1) refl (eqb n 2) refl e
 
 pub sex-tells : (c : ℕ) → sexRule c ≡ true → (sexBy (sexCode c) ≡ c) × (sexCode c < 4)
 unfolding sexRule sexBy sexCode isFiller
-sex-tells c e = go (eqb c 70) refl (eqb c 77) refl (eqb c 60) refl
+sex-tells c e = go (eqb c (code "F")) refl (eqb c (code "M")) refl (eqb c filler) refl
   where
-    go : (a : Bool) → eqb c 70 ≡ a → (b : Bool) → eqb c 77 ≡ b → (d : Bool) → eqb c 60 ≡ d
+    go : (a : Bool) → eqb c (code "F") ≡ a → (b : Bool) → eqb c (code "M") ≡ b → (d : Bool) → eqb c filler ≡ d
         → (sexBy (sexCode c) ≡ c) × (sexCode c < 4)
-    go true p b q d r = (rw p (sym (eqb-true c 70 p)), rw p (omega arith))
-    go false p true q d r = (rw (p, q) (sym (eqb-true c 77 q)), rw (p, q) (omega arith))
-    go false p false q true r = (rw (p, q) (sym (eqb-true c 60 r)), rw (p, q) (omega arith))
+    go true p b q d r = (rw p (sym (eqb-true c (code "F") p)), rw p (omega arith))
+    go false p true q d r = (rw (p, q) (sym (eqb-true c (code "M") q)), rw (p, q) (omega arith))
+    go false p false q true r = (rw (p, q) (sym (eqb-true c filler r)), rw (p, q) (omega arith))
     go false p false q false r = absurd (false≢true (rw (p, q, r) at e))
 
 pub tells-sex : (n : ℕ) → n < 4 → sexRule (sexBy n) ≡ true → sexCode (sexBy n) ≡ n

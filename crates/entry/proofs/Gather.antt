@@ -3,7 +3,8 @@ use mathlib.Core.Path.{_≡_, refl, ap, ap₂, sym, _∙_}
 use mathlib.Core.Bool.{Bool, true, false, cond}
 use mathlib.Core.List.{List, [], _∷_, _++_}
 use Prim.Native.Nat.{ℕ, zero, suc, _+_, _-_, _*_, _/_, _%_, _^_, _≤_, _<_}
-use native.Mathlib.Nat.{zero-add, suc-add, add-comm, pow-suc, mul-comm, add-mul, mul-assoc, mul-add-div-right, mul-add-mod-self-right, div-add-mod', mod-eq-of-lt}
+use native.Mathlib.Nat.{zero-add, suc-add, add-comm, pow-suc, mul-comm, add-mul, mul-assoc, mul-add-div-right}
+use native.Mathlib.Nat.{mul-add-mod-self-right, div-add-mod', mod-eq-of-lt}
 use native.Mathlib.Omega.{arith}
 use native.Mathlib.Numerals.{add-one, one-add}
 use borrow.Author.Tests.{eq-eqb, ne-eqb, eqb-true, eqb-false}

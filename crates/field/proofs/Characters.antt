@@ -8,6 +8,7 @@ use native.Mathlib.Omega.{arith}
 use borrow.Author.Tests.{eqb-true}
 use lib.Dec.{eqb}
 use lib.ListN.{length, getD}
+use Prim.Native.Char.{code}
 use Rattle.lent.proofs.Bools.{and-both, or-either}
 use Rattle.zone.specs.Alphabet.{isDigit, isLetter, isFiller, isCharacter, every}
 use Rattle.zone.specs.declared.form.Form.{Form}
@@ -45,26 +46,26 @@ one-of c n h k = ap isCharacter (eqb-true c n k) ∙ letter-in n h
 
 card-letter : (c : ℕ) → isCardLetter c ≡ true → isCharacter c ≡ true
 unfolding isCardLetter isLetter
-card-letter c e = go (or-either (eqb c 65 || eqb c 67) (eqb c 73) e)
+card-letter c e = go (or-either (eqb c (code "A") || eqb c (code "C")) (eqb c (code "I")) e)
   where
-    first-two : (eqb c 65 ≡ true) ⊎ (eqb c 67 ≡ true) → isCharacter c ≡ true
-    first-two (inl h) = one-of c 65 refl h
-    first-two (inr h) = one-of c 67 refl h
+    first-two : (eqb c (code "A") ≡ true) ⊎ (eqb c (code "C") ≡ true) → isCharacter c ≡ true
+    first-two (inl h) = one-of c (code "A") refl h
+    first-two (inr h) = one-of c (code "C") refl h
 
-    go : (eqb c 65 || eqb c 67 ≡ true) ⊎ (eqb c 73 ≡ true) → isCharacter c ≡ true
-    go (inl h) = first-two (or-either (eqb c 65) (eqb c 67) h)
-    go (inr h) = one-of c 73 refl h
+    go : (eqb c (code "A") || eqb c (code "C") ≡ true) ⊎ (eqb c (code "I") ≡ true) → isCharacter c ≡ true
+    go (inl h) = first-two (or-either (eqb c (code "A")) (eqb c (code "C")) h)
+    go (inr h) = one-of c (code "I") refl h
 
 pub sex-pure : (c : ℕ) → sexRule c ≡ true → isCharacter c ≡ true
 unfolding sexRule isLetter
-sex-pure c e = go (or-either (eqb c 77 || eqb c 70) (isFiller c) e)
+sex-pure c e = go (or-either (eqb c (code "M") || eqb c (code "F")) (isFiller c) e)
   where
-    letters : (eqb c 77 ≡ true) ⊎ (eqb c 70 ≡ true) → isCharacter c ≡ true
-    letters (inl h) = one-of c 77 refl h
-    letters (inr h) = one-of c 70 refl h
+    letters : (eqb c (code "M") ≡ true) ⊎ (eqb c (code "F") ≡ true) → isCharacter c ≡ true
+    letters (inl h) = one-of c (code "M") refl h
+    letters (inr h) = one-of c (code "F") refl h
 
-    go : (eqb c 77 || eqb c 70 ≡ true) ⊎ (isFiller c ≡ true) → isCharacter c ≡ true
-    go (inl h) = letters (or-either (eqb c 77) (eqb c 70) h)
+    go : (eqb c (code "M") || eqb c (code "F") ≡ true) ⊎ (isFiller c ≡ true) → isCharacter c ≡ true
+    go (inl h) = letters (or-either (eqb c (code "M")) (eqb c (code "F")) h)
     go (inr h) = filler-in c h
 
 card-pure : (s : List ℕ) → length s ≡ 2 → cardRule (getD s 0 0) (getD s 1 0) ≡ true → every isCharacter s ≡ true
@@ -72,8 +73,10 @@ unfolding cardRule isSecond
 card-pure s l e =
     let a = getD s 0 0 in
     let b = getD s 1 0 in
-    let both = and-both (isCardLetter a) ((isLetter b || isFiller b) && (not (eqb b 86) && not (eqb a 65 && eqb b 67))) e in
-    let more = and-both (isLetter b || isFiller b) (not (eqb b 86) && not (eqb a 65 && eqb b 67)) (both .1) in
+    let both = and-both (isCardLetter a)
+    ((isLetter b || isFiller b) && (not (eqb b (code "V")) && not (eqb a (code "A") && eqb b (code "C")))) e in
+    let more = and-both (isLetter b || isFiller b) (not (eqb b (code "V")) && not (eqb a (code "A") && eqb b (code "C")))
+    (both .1) in
     two s l (card-letter a (both .0)) (either-in b (more .0))
 
 passport-pure : (s : List ℕ) → length s ≡ 2 → passportRule (getD s 0 0) (getD s 1 0) ≡ true → every isCharacter s ≡ true
@@ -81,8 +84,8 @@ unfolding passportRule isSecond isLetter
 passport-pure s l e =
     let a = getD s 0 0 in
     let b = getD s 1 0 in
-    let both = and-both (eqb a 80) (isLetter b || isFiller b) e in
-    two s l (one-of a 80 refl (both .0)) (either-in b (both .1))
+    let both = and-both (eqb a (code "P")) (isLetter b || isFiller b) e in
+    two s l (one-of a (code "P") refl (both .0)) (either-in b (both .1))
 
 pub code-pure : (f : Form) (s : List ℕ) → length s ≡ 2 → codeRule f s ≡ true → every isCharacter s ≡ true
 unfolding codeRule
@@ -121,7 +124,7 @@ pair-pure rule none a b e = go (isDigit a) refl (isDigit b) refl (isFiller a && 
     never h = false≢true (sym none ∙ h)
 
     go : (x : Bool) → isDigit a ≡ x → (y : Bool) → isDigit b ≡ y → (z : Bool) → isFiller a && isFiller b ≡ z
-        → rule (cond x (cond y (Known ((a - 48) * 10 + (b - 48))) Neither) (cond z Unknown Neither)) ≡ true
+        → rule (cond x (cond y (Known ((a - code "0") * 10 + (b - code "0"))) Neither) (cond z Unknown Neither)) ≡ true
         → (isCharacter a ≡ true) × (isCharacter b ≡ true)
     go true p true q z r h = (digit-in a p, digit-in b q)
     go true p false q z r h = absurd (never h)

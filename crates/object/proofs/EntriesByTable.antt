@@ -17,7 +17,8 @@ use Rattle.object.specs.declared.entries.Seen.{Seen}
 use Rattle.lent.specs.Octets.{stands}
 use Rattle.object.specs.Object.{GroupHash, entryAt, entriesFrom, entries, numbersOnce, count, entriesCheck}
 use Rattle.object.specs.Object.{digestFor}
-use Rattle.object.specs.Inner.Seen.{none, isNew, counted, tallied, tallyFrom, seenIn, seenCheck, digestsFrom, tableOf, ObjectAnswer}
+use Rattle.object.specs.Inner.Seen.{none, isNew, counted, tallied, tallyFrom, seenIn, seenCheck, digestsFrom, tableOf}
+use Rattle.object.specs.Inner.Seen.{ObjectAnswer}
 use Rattle.object.specs.Inner.Seen.{objectAnswer, settled}
 use Rattle.lent.proofs.Marks.{Marks, none-marked, one-marked}
 use Rattle.tlv.proofs.Joined.{never-value, same-value, first-value}
@@ -305,6 +306,7 @@ walk-told s at from to rest =
     list-told (entries t from) at rest (tallyFrom t from none) (all-sound (suc (length t)) t from) refl
 
 -- the two things that are objectAnswer
-pub told-both : (r : ObjectAnswer) (x : Read (List GroupHash)) → r ≡ objectAnswer x → (r .outcome ≡ outcomeIn x) × (r .digests ≡ tableOf x)
+pub told-both : (r : ObjectAnswer) (x : Read (List GroupHash)) → r ≡ objectAnswer x
+    → (r .outcome ≡ outcomeIn x) × (r .digests ≡ tableOf x)
 unfolding objectAnswer
 told-both r x e = (ap (λ (y : ObjectAnswer). y .outcome) e, ap (λ (y : ObjectAnswer). y .digests) e)

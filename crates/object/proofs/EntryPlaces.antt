@@ -60,7 +60,8 @@ number-stands s at e h =
     let later : v .to < e .digest = d .2 in
     ((omega arith, omega arith), d .1, omega arith, d .3)
 
-pub entry-stands : (s : List ℕ) (at : ℕ) (e : GroupHash) → entryAt s at ≡ value e → (at < e .end) × (e .end ≤ length s) × EntrySound e
+pub entry-stands : (s : List ℕ) (at : ℕ) (e : GroupHash) → entryAt s at ≡ value e
+    → (at < e .end) × (e .end ≤ length s) × EntrySound e
 unfolding entryAt
 entry-stands s at e h =
     let read = first-value (element s at 0x30) _ e h in

@@ -23,9 +23,9 @@ use Rattle.presentation_theorems.proofs.Elements.{read-element, element
 
 -- ---- group tags
 
-group-none : (tag : ℕ) → 256 ≤ tag → groupOf tag ≡ 0
+no-group : (tag : ℕ) → 256 ≤ tag → groupOf tag ≡ 0
 unfolding groupOf
-group-none tag h =
+no-group tag h =
     rw (
       ne-eqb tag 0x61 (λ e. omega arith),
       ne-eqb tag 0x75 (λ e. omega arith),
@@ -42,7 +42,7 @@ group-below tag e = go (ltb tag 256) refl
   where
     go : (b : Bool) → ltb tag 256 ≡ b → tag < 256
     go true f = ltb-true tag 256 f
-    go false f = absurd (eqb-false (groupOf tag) 0 (not-true (eqb (groupOf tag) 0) e) (group-none tag (ltb-false tag 256 f)))
+    go false f = absurd (eqb-false (groupOf tag) 0 (not-true (eqb (groupOf tag) 0) e) (no-group tag (ltb-false tag 256 f)))
 
 -- ---- the file that was walked
 

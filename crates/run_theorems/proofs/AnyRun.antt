@@ -15,7 +15,7 @@ use Rattle.zone.specs.Octets.{areOctets}
 use Rattle.run_theorems.specs.Runs.{Line, isKept, allKept, joined, Reading, onwards, lineAt, readFrom, readRun, Passed}
 use Rattle.run_theorems.specs.Runs.{NoEntry, Ends, ended, broken}
 use Rattle.run_theorems.proofs.WrittenThenRead.{some-octets}
-use Rattle.run_theorems.proofs.ListReadBack.{end-read, read-joined}
+use Rattle.run_theorems.proofs.ListReadBack.{read-joined}
 use Rattle.run_theorems.proofs.OneAnswer.{none-not-refused, none-end, refused-here, no-entry}
 use Rattle.run_theorems.proofs.ReadThenWritten.{passed-over, passed-there}
 
@@ -48,14 +48,12 @@ one-more w at n l x p f =
       stopped = rw place (f .stopped);
     }
 
-read-from : (most : ℕ) (w : List ℕ) (at : ℕ) → areOctets w → at ≤ length w → length w ≤ at + most → From w at (readFrom most w at)
+read-from : (most : ℕ) (w : List ℕ) (at : ℕ) → areOctets w → at ≤ length w → length w < at + most → From w at (readFrom most w at)
 unfolding Stop readFrom onwards lineAt
-read-from zero w at small h k =
-    let end : at ≡ length w = omega arith in
-    rw (end-read w at end) (nothing-more w at none (inl (refl, end)))
+read-from zero w at small h k = absurd (omega arith)
 read-from (suc most) w at small h k = go (readEntry w at .onward) refl (λ (n : ℕ) i j. read-from most w n small i j)
   where
-    go : (o : Onward) → readEntry w at .onward ≡ o → ((n : ℕ) → n ≤ length w → length w ≤ n + most → From w n (readFrom most w n))
+    go : (o : Onward) → readEntry w at .onward ≡ o → ((n : ℕ) → n ≤ length w → length w < n + most → From w n (readFrom most w n))
         → From w at (onwards o (lineAt w at) (readFrom most w))
     go (next n) e rest =
         let p = passed-over w at n small e in
@@ -71,8 +69,8 @@ read-from (suc most) w at small h k = go (readEntry w at .onward) refl (λ (n : 
 -- follows
 pub read-any : (w : List ℕ) → areOctets w → (allKept (readRun w .lines) ≡ true) × Ends w (readRun w .lines) (readRun w .stop)
 unfolding readRun Stop
-read-any w small = let f = read-from (length w) w 0 small (omega arith) (omega arith) in
-    (f .lines-kept, go (readFrom (length w) w 0) f)
+read-any w small = let f = read-from (suc (length w)) w 0 small (omega arith) (omega arith) in
+    (f .lines-kept, go (readFrom (suc (length w)) w 0) f)
   where
     ends : (o : Onward) (ls : List Line) → w ≡ joined ls ++ drop (length (joined ls)) w → Stop w (length (joined ls)) o
         → Ends w ls o

@@ -1,7 +1,7 @@
 -- DEMAND 3, the run read back: the bytes of a list of kept houses and records are read as that list, to their end; so joined
 -- entries of two different lists never give the same bytes. And of any bytes, no list with whose bytes they begin goes further
 -- than the list that is read.
-use Prim.Native.Nat.{ℕ, zero, suc, _+_, _≤_}
+use Prim.Native.Nat.{ℕ, zero, suc, _+_, _≤_, _<_}
 use mathlib.Core.Path.{_≡_, refl, ap, sym, _∙_}
 use mathlib.Core.Bool.{true}
 use mathlib.Core.List.{List, [], _∷_, _++_, append-nil, append-assoc}
@@ -24,10 +24,9 @@ pub end-read : (w : List ℕ) (at : ℕ) → at ≡ length w → readEntry w at 
 unfolding readEntry
 end-read w at e = rw (eq-eqb at (length w) e)
 
-end-reading : (most : ℕ) (w : List ℕ) (at : ℕ) → at ≡ length w → readFrom most w at ≡ record { lines = []; stop = none }
+end-reading : (most : ℕ) (w : List ℕ) (at : ℕ) → at ≡ length w → readFrom (suc most) w at ≡ record { lines = []; stop = none }
 unfolding readFrom onwards
-end-reading zero w at e = rw (end-read w at e)
-end-reading (suc most) w at e = rw (end-read w at e)
+end-reading most w at e = rw (end-read w at e)
 
 line-read : (most : ℕ) (front rest : List ℕ) (l : Line) → isKept l ≡ true
     → let e = entryOf (l .house) (l .kept) in
@@ -37,11 +36,11 @@ unfolding readFrom onwards lineAt
 line-read most front rest l k x e = let both = kept-both l k in rw
     (read-back (l .house) (l .kept) (both .0) (both .1) front rest, e)
 
-read-lines : (ls : List Line) (most : ℕ) (front : List ℕ) → allKept ls ≡ true → length ls ≤ most
+read-lines : (ls : List Line) (most : ℕ) (front : List ℕ) → allKept ls ≡ true → length ls < most
     → readFrom most (front ++ joined ls) (length front) ≡ record { lines = ls; stop = none }
 unfolding joined allKept
-read-lines [] most front k h = rw append-nil (end-reading most front (length front) refl)
-read-lines (l ∷ ls) zero front k h = absurd (omega arith)
+read-lines ls zero front k h = absurd (omega arith)
+read-lines [] (suc most) front k h = rw append-nil (end-reading most front (length front) refl)
 read-lines (l ∷ ls) (suc most) front k h =
     let e = entryOf (l .house) (l .kept) in
     let both = and-both (isKept l) (allKept ls) k in
@@ -61,7 +60,7 @@ enough (l ∷ ls) k =
 
 pub read-joined : (ls : List Line) → allKept ls ≡ true → readRun (joined ls) ≡ record { lines = ls; stop = none }
 unfolding readRun
-read-joined ls k = read-lines ls (length (joined ls)) [] k (enough ls k)
+read-joined ls k = read-lines ls (suc (length (joined ls))) [] k (omega (arith, enough ls k))
 
 -- joined entries of two different lists never give the same bytes
 pub joined-tells : (a b : List Line) → allKept a ≡ true → allKept b ≡ true → joined a ≡ joined b → a ≡ b
@@ -88,5 +87,5 @@ pub begins-read : (w : List ℕ) (ls : List Line) (rest : List ℕ) → allKept 
     → (more : List Line) × (readRun w .lines ≡ ls ++ more)
 unfolding readRun
 begins-read w ls rest k e =
-    let b = begins ls (length w) [] rest k (rw (e, length-append (joined ls) rest) (omega (arith, enough ls k))) in
+    let b = begins ls (suc (length w)) [] rest k (rw (e, length-append (joined ls) rest) (omega (arith, enough ls k))) in
     (b .0, rw (sym e) at (b .1))

@@ -102,6 +102,7 @@ module _ (w : List ℕ) (at : ℕ) where
         ),
     λ x.
         let both = kept-both (x .0) (x .1) in
-        ap (λ (a : Standing). a .onward) (read-where-stands (x .0 .house) (x .0 .kept) (both .0) (both .1) w at (drop n w) h (x .2))
+        ap (λ (a : Standing). a .onward)
+        (read-where-stands (x .0 .house) (x .0 .kept) (both .0) (both .1) w at (drop n w) h (x .2))
         ∙ ap next (sym (x .3)),
   )

@@ -165,7 +165,8 @@ module _ (w : List ℕ) (at n : ℕ) (small : areOctets w) (there : at ≤ lengt
       let s = drop at w in
       let t = tests f s e in
       let o = taken-apart (recordIn f s) (t .sound-kept) in
-      let long : length (entryOf (houseIn s) (recordIn f s)) ≡ size (nameLength s) = length-sound-entry (recordIn f s) o (houseIn s) in
+      let long : length (entryOf (houseIn s) (recordIn f s))
+      ≡ size (nameLength s) = length-sound-entry (recordIn f s) o (houseIn s) in
       let offset : at + size (nameLength s) ≡ n = same-next (at + size (nameLength s)) n same in
       let gap : n - at ≡ size (nameLength s) = omega arith in
       let fits : size (nameLength s) ≤ length w - at = rw (length-drop at w) at (t .long) in

@@ -45,14 +45,14 @@ onwards (refused n p) l rest = record { lines = []; stop = refused n p }
 unfoldable pub lineAt : List ℕ → ℕ → Line
 lineAt w at = record { house = readEntry w at .house; kept = readEntry w at .kept }
 
--- "A run is read entry by entry, each with the offset of the next", here at most so many
+-- "A run is read entry by entry, each with the offset of the next", here at most so many steps, of which the last finds the end
 unfoldable pub readFrom : ℕ → List ℕ → ℕ → Reading
-readFrom zero w at = record { lines = []; stop = readEntry w at .onward }
+readFrom zero w at = record { lines = []; stop = refused 18 at }
 readFrom (suc most) w at = onwards (readEntry w at .onward) (lineAt w at) (readFrom most w)
 
 -- the whole run: no entry is empty, so there are no more of them than bytes
 unfoldable pub readRun : List ℕ → Reading
-readRun w = readFrom (length w) w 0
+readRun w = readFrom (suc (length w)) w 0
 
 -- the bytes from an offset to the next are the entry of a house and a record that are kept: not "a length or next offset made up"
 pub record Passed (w : List ℕ) (at n h : ℕ) (r : Record) : Type 0 where

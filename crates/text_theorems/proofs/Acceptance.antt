@@ -83,7 +83,8 @@ module _ (f : Form) (t : List ℕ) (told : length t ≡ total f) (accepted : ver
       (rw (short-span f t short) at (digit-passed numberCheck (common f .has-number-check)))
 
   long-kept : isLong f t ≡ true
-      → getD t (start f optional + (fillerAt f t - 1)) 0 ≡ digitOf (field f number t ++ take (fillerAt f t - 1) (field f optional t))
+      → getD t (start f optional + (fillerAt f t - 1)) 0
+      ≡ digitOf (field f number t ++ take (fillerAt f t - 1) (field f optional t))
   unfolding span digitCheck furtherDigit checkedBy
   long-kept long =
       digit-kept t (start f optional + (fillerAt f t - 1)) (field f number t ++ take (fillerAt f t - 1) (field f optional t))

@@ -11,7 +11,7 @@ use Rattle.lent.proofs.Bools.{and-both, both-and}
 use Rattle.refusal.specs.Outcome.{passed}
 use Rattle.zone.specs.declared.form.Form.{Form}
 use Rattle.zone.specs.declared.form.Form.the-variants.{Td1, Td2, Td3}
-use Rattle.zone.specs.Alphabet.{isCharacter, isFiller, isLetter, isDigit, every}
+use Rattle.zone.specs.Alphabet.{isCharacter, isFiller, isLetter, isDigit, every, filler}
 use Rattle.zone.specs.Part.{Part, code, state, number, optional, birth, expiry, nationality, name, rank, same}
 use Rattle.zone.specs.Form.{start, width, widthIn, layout, total, longest, field}
 use Rattle.zone.specs.Record.{trimmedLength, trimmed, padded}
@@ -68,17 +68,18 @@ held most n s a b c e =
     )
 
 first-padded : (n : ℕ) (s : List ℕ) → length s ≤ n → 0 < length s → getD (padded n s) 0 0 ≡ getD s 0 0
-first-padded n s h k = rw (padded-spare n s h) (List·getD-append s (replicate (n - length s) 60) 0 0 k)
+first-padded n s h k = rw (padded-spare n s h) (List·getD-append s (replicate (n - length s) filler) 0 0 k)
 
-every-padded : (p : ℕ → Bool) (n : ℕ) (s : List ℕ) → length s ≤ n → p 60 ≡ true → every p s ≡ true → every p (padded n s) ≡ true
+every-padded : (p : ℕ → Bool) (n : ℕ) (s : List ℕ) → length s ≤ n → p filler ≡ true → every p s ≡ true
+    → every p (padded n s) ≡ true
 every-padded p n s h q e = rw (padded-spare n s h)
-    (every-append p s (replicate (n - length s) 60) e (every-replicate p (n - length s) 60 q))
+    (every-append p s (replicate (n - length s) filler) e (every-replicate p (n - length s) filler q))
 
-filler-character : isCharacter 60 ≡ true
+filler-character : isCharacter filler ≡ true
 unfolding isCharacter isDigit isLetter isFiller
 filler-character = refl
 
-filler-in-name : isNameCharacter 60 ≡ true
+filler-in-name : isNameCharacter filler ≡ true
 unfolding isNameCharacter isLetter isFiller
 filler-in-name = refl
 

@@ -15,7 +15,7 @@ use Rattle.refusal.specs.Outcome.{passed}
 use Rattle.zone.specs.declared.form.Form.{Form}
 use Rattle.zone.specs.declared.form.Form.the-variants.{Td1, Td2, Td3}
 use Rattle.zone.specs.declared.record.Record.{Record}
-use Rattle.zone.specs.Alphabet.{isCharacter, isFiller, isLetter, firstFiller, every}
+use Rattle.zone.specs.Alphabet.{isCharacter, isFiller, isLetter, firstFiller, every, filler}
 use Rattle.zone.specs.Part.{code, state, number, numberCheck, optional, birth, birthCheck, sex, expiry, expiryCheck, nationality}
 use Rattle.zone.specs.Part.{name, personal, personalCheck, rank, same}
 use Rattle.zone.specs.Form.{parts, partOf, layout, start, width, widthIn, total, longest, field}
@@ -79,7 +79,7 @@ module _ (r : Record) (s : Sound r) where
   unfolding isLong atCheck isFiller
   long-shown = rw check-shown (go (isWide r) refl)
     where
-      go : (b : Bool) → isWide r ≡ b → ltb 9 (longest f) && isFiller (cond b 60 (digitOf (take 9 (r .number)))) ≡ b
+      go : (b : Bool) → isWide r ≡ b → ltb 9 (longest f) && isFiller (cond b filler (digitOf (take 9 (r .number)))) ≡ b
       go true e = rw (lt-ltb 9 (longest f) (omega (arith, is-wide r s e, s .number-most)))
       go false e = rw (digit-solid (take 9 (r .number))) (and-false (ltb 9 (longest f)))
 
@@ -113,7 +113,7 @@ module _ (r : Record) (s : Sound r) where
         ∙ one-more
 
     optional-shown : field f optional t
-        ≡ furtherIn r ++ (digitOf (numberIn r) ∷ replicate (width f optional - suc (length (furtherIn r))) 60)
+        ≡ furtherIn r ++ (digitOf (numberIn r) ∷ replicate (width f optional - suc (length (furtherIn r))) filler)
     optional-shown =
         optional-padded ∙ padded-behind (width f optional) (furtherIn r) (digitOf (numberIn r))
         (omega (arith, further-fits r s wide .1))
@@ -193,7 +193,7 @@ module _ (r : Record) (s : Sound r) where
   personal-right : has f personalCheck ≡ true → getD t (start f personalCheck) 0 ≡ digitOf (field f personal t)
   unfolding given same rank
   personal-right h =
-      one-shown r s personalCheck 48 refl (personal-one f h) refl
+      one-shown r s personalCheck 0x30 refl (personal-one f h) refl
       ∙ sym (ap digitOf (shown r s personal refl ∙ padded-nil (width f personal)) ∙ fillers-digit (width f personal))
 
   pub text-keeps : Keeps f t

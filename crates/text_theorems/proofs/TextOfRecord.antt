@@ -13,7 +13,7 @@ use Rattle.zone.specs.declared.form.Form.the-variants.{Td1, Td2, Td3}
 use Rattle.zone.specs.declared.record.Record.{Record}
 use Rattle.zone.specs.Part.{Part, code, state, number, numberCheck, optional, birth, birthCheck, sex, expiry, expiryCheck}
 use Rattle.zone.specs.Part.{nationality, optional2, composite, name, personal, personalCheck, rank, same}
-use Rattle.zone.specs.Alphabet.{isDigit, isLetter, isFiller, isCharacter, every}
+use Rattle.zone.specs.Alphabet.{isDigit, isLetter, isFiller, isCharacter, every, filler}
 use Rattle.zone.specs.Form.{layout, start, width, widthIn, total, longest, field, covered}
 use Rattle.zone.specs.Record.{padded}
 use Rattle.zone.proofs.Widths.{fixed, within, ones}
@@ -36,7 +36,7 @@ module _ (r : Record) where
 
   -- at the check place stands the digit, or the filler that means a long number
   unfoldable pub atCheck : ℕ
-  atCheck = cond (isWide r) 60 (digitOf (take 9 (r .number)))
+  atCheck = cond (isWide r) filler (digitOf (take 9 (r .number)))
 
   -- further characters and their digit
   unfoldable pub inOptional : List ℕ
@@ -59,7 +59,7 @@ module _ (r : Record) where
   given composite = []
   given name = r .name
   given personal = []
-  given personalCheck = 48 ∷ []
+  given personalCheck = 0x30 ∷ []
 
   -- these parts put over a text, the last one first
   written : List Part → List ℕ → List ℕ
@@ -72,11 +72,11 @@ module _ (r : Record) where
       ∷ state ∷ code ∷ []
 
   blanks : List ℕ
-  blanks = replicate (total (r .form)) 60
+  blanks = replicate (total (r .form)) filler
 
   length-blanks : length blanks ≡ total (r .form)
   unfolding blanks
-  length-blanks = length-replicate (total (r .form)) 60
+  length-blanks = length-replicate (total (r .form)) filler
 
   -- the text, but for the composite digit
   pub before : List ℕ
@@ -93,9 +93,9 @@ module _ (r : Record) where
   every-written p [] t h e = e
   every-written p (x ∷ xs) t h e = every-put r p x (given x) (written xs t) (h x) (every-written p xs t h e)
 
-  pub every-before : (p : ℕ → Bool) → p 60 ≡ true → ((x : Part) → every p (given x) ≡ true) → every p before ≡ true
+  pub every-before : (p : ℕ → Bool) → p filler ≡ true → ((x : Part) → every p (given x) ≡ true) → every p before ≡ true
   unfolding before blanks
-  every-before p e h = every-written p whole blanks h (every-replicate p (total (r .form)) 60 e)
+  every-before p e h = every-written p whole blanks h (every-replicate p (total (r .form)) filler e)
 
   -- ---- part by part
 
@@ -107,12 +107,12 @@ module _ (r : Record) where
       let neither = or-neither (same x y) (among x xs) n in
       put-other r y (given y) (written xs t) (length-written xs t e) x (neither .0) ∙ field-others x xs t e (neither .1)
 
-  field-blank : (x : Part) → field (r .form) x blanks ≡ replicate (width (r .form) x) 60
+  field-blank : (x : Part) → field (r .form) x blanks ≡ replicate (width (r .form) x) filler
   unfolding field blanks
   field-blank x = cut-fillers (start (r .form) x) (width (r .form) x) (total (r .form)) (within (r .form) x)
 
   not-given : (x : Part) (xs : List Part) → among x xs ≡ false
-      → field (r .form) x (written xs blanks) ≡ replicate (width (r .form) x) 60
+      → field (r .form) x (written xs blanks) ≡ replicate (width (r .form) x) filler
   not-given x xs n = field-others x xs blanks length-blanks n ∙ field-blank x
 
   -- a part that stands once among them
@@ -168,9 +168,9 @@ module _ (r : Record) where
     person = rw (mark-put r sex (r .sex) (written (nationality ∷ []) t) (length-written (nationality ∷ []) t e)
         (single (fixed (r .form) .sex-width)))
 
-    personal-zero : mark r personalCheck 48 t ≡ written (personalCheck ∷ []) t
+    personal-zero : mark r personalCheck 0x30 t ≡ written (personalCheck ∷ []) t
     unfolding written given
-    personal-zero = mark-put r personalCheck 48 t e (personal-single r)
+    personal-zero = mark-put r personalCheck 0x30 t e (personal-single r)
 
     -- short, or long where the further characters and their digit have room
     number-put : (isWide r ≡ true → length (furtherIn r) < width (r .form) optional)
@@ -189,8 +189,9 @@ module _ (r : Record) where
         go : (b : Bool) → isWide r ≡ b
             → cond b (putLong r t) (putShort r t)
             ≡ put r optional (cond b (furtherIn r ++ (digitOf (numberIn r) ∷ [])) [])
-            (put r numberCheck (cond b 60 (digitOf (take 9 (r .number))) ∷ []) (put r number (r .number) t))
-        go true wide = rw (marked 60) (put-more r optional (furtherIn r) (digitOf (numberIn r)) _ (long-put 60) (room wide))
+            (put r numberCheck (cond b filler (digitOf (take 9 (r .number))) ∷ []) (put r number (r .number) t))
+        go true wide = rw (marked filler)
+            (put-more r optional (furtherIn r) (digitOf (numberIn r)) _ (long-put filler) (room wide))
         go false short = rw (marked (digitOf (take 9 (r .number))))
             (sym (put-none r optional _ (long-put (digitOf (take 9 (r .number))))))
 
@@ -204,7 +205,7 @@ module _ (r : Record) where
   length-before = length-written whole blanks length-blanks
 
   module _ (room : isWide r ≡ true → length (furtherIn r) < width (r .form) optional) where
-    steps : mark r personalCheck 48 (putPerson r (putDates r (putNumber r (putOpening r blanks)))) ≡ before
+    steps : mark r personalCheck 0x30 (putPerson r (putDates r (putNumber r (putOpening r blanks)))) ≡ before
     unfolding before whole written
     steps =
         let a = written (state ∷ code ∷ []) blanks in
@@ -220,7 +221,7 @@ module _ (r : Record) where
     pub text-before : textOf r ≡ put r composite (lastDigit ∷ []) before
     unfolding textOf putAll putLast lastDigit blanks
     text-before =
-        rw (length-replicate {A = ℕ} (total (r .form)) 60, steps)
+        rw (length-replicate {A = ℕ} (total (r .form)) filler, steps)
         (mark-put r composite lastDigit before length-before (single (ones (r .form) .composite-one)))
 
 -- ---- the text of a sound record
@@ -309,7 +310,7 @@ module _ (r : Record) (s : Sound r) where
   given-pure number = s .number-characters
   given-pure numberCheck = one-pure (atCheck r) (go (isWide r))
     where
-      go : (b : Bool) → isCharacter (cond b 60 (digitOf (take 9 (r .number)))) ≡ true
+      go : (b : Bool) → isCharacter (cond b filler (digitOf (take 9 (r .number)))) ≡ true
       go true = refl
       go false = digit-character (take 9 (r .number))
   given-pure optional = go (isWide r)

@@ -42,7 +42,8 @@ pub record Keeps (f : Form) (t : List ℕ) : Type 0 where
   pub name-kept : nameRule (field f name t) ≡ true
   pub number-digit : isLong f t ≡ false → getD t (start f numberCheck) 0 ≡ digitOf (field f number t)
   pub long-digit : isLong f t ≡ true
-      → getD t (start f optional + (fillerAt f t - 1)) 0 ≡ digitOf (field f number t ++ take (fillerAt f t - 1) (field f optional t))
+      → getD t (start f optional + (fillerAt f t - 1)) 0
+      ≡ digitOf (field f number t ++ take (fillerAt f t - 1) (field f optional t))
   pub birth-digit : getD t (start f birthCheck) 0 ≡ digitOf (field f birth t)
   pub expiry-digit : getD t (start f expiryCheck) 0 ≡ digitOf (field f expiry t)
   pub personal-digit : has f personalCheck ≡ true → getD t (start f personalCheck) 0 ≡ digitOf (field f personal t)

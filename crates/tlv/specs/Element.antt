@@ -6,7 +6,6 @@ use lib.Dec.{eqb, leb, ltb}
 use lib.ListN.{length, getD}
 use Rattle.refusal.specs.Numbers.{numberOf}
 use Rattle.tlv.specs.declared.Stretch.{Stretch}
-use Rattle.tlv.specs.declared.Count.{Count}
 use Rattle.tlv.specs.declared.Size.{Size}
 use Rattle.tlv.specs.declared.Size.the-variants.{Of, Unknown}
 use Rattle.tlv.specs.declared.Taken.{Taken}
@@ -34,11 +33,6 @@ sizeOf a b c =
     cond (leb a 0x7F) (Of (record { count = a; told = 1 }))
     (cond (eqb a 0x81 && leb 0x80 b) (Of (record { count = b; told = 2 }))
     (cond (eqb a 0x82 && leb 1 b) (Of (record { count = b * 256 + c; told = 3 })) Unknown))
-
--- no words of the paper: the length itself, 0 for none
-unfoldable pub countIn : Size → Count
-countIn (Of z) = z
-countIn Unknown = record { count = 0; told = 0 }
 
 -- the octets of a tag
 unfoldable pub tagWidth : ℕ → ℕ

@@ -6,3 +6,5 @@ pub mod Tags
 pub mod Element
 -- a stretch of lent octets
 pub mod Cut
+-- no words of the paper
+pub mod Inner

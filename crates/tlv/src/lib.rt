@@ -2,7 +2,8 @@
 ghost use mathlib.Core.Path.{_≡_};
 ghost use Prim.Native.Nat.{_+_, _<_, _≤_, _^_};
 ghost use Rattle.tlv.specs.Read.{refusal};
-ghost use Rattle.tlv.specs.Element.{sizeOf, countIn, sizeAt, tagAt, tagWidth, endsWithin, sized, element, takenOf};
+ghost use Rattle.tlv.specs.Element.{sizeOf, sizeAt, tagAt, tagWidth, endsWithin, sized, element, takenOf};
+ghost use Rattle.tlv.specs.Inner.Counts.{countIn};
 
 pub mod cut;
 pub mod tags;

@@ -17,7 +17,7 @@ use Rattle.zone.specs.Form.{start, width, total, field}
 use Rattle.zone.specs.Record.{padded}
 use Rattle.zone.proofs.Widths.{within}
 use Rattle.zone.proofs.Padded.{padded-spare, padded-cut, fillers-left}
-use Rattle.zone.specs.Alphabet.{every}
+use Rattle.zone.specs.Alphabet.{every, filler}
 use Rattle.writing.specs.Text.{put}
 use Rattle.zone.proofs.Parts.{apart}
 use Rattle.lent.proofs.Copies.{copied-there, before-copied, behind-copied, at-copied, set-behind}
@@ -45,7 +45,7 @@ module _ (r : Record) where
 
   module _ (x : Part) (s t : List ℕ) (e : length t ≡ total (r .form)) where
     -- over fillers, with fillers behind what is put
-    pub put-filled : field (r .form) x t ≡ replicate (width (r .form) x) 60
+    pub put-filled : field (r .form) x t ≡ replicate (width (r .form) x) filler
         → field (r .form) x (put r x s t) ≡ padded (width (r .form) x) s
     unfolding put field
     put-filled blank =

@@ -8,7 +8,7 @@ use lib.Dec.{leb}
 use borrow.Author.Tests.{leb-true, le-leb, lt-leb, ne-eqb}
 use mathlib.Core.Logic.{_⊎_, inl, inr}
 use Rattle.lent.proofs.Bools.{and-both, or-either}
-use Rattle.zone.specs.Alphabet.{isDigit, isLetter, isFiller, isCharacter}
+use Rattle.zone.specs.Alphabet.{isDigit, isLetter, isFiller, isCharacter, filler}
 
 between : (a b c : ℕ) → leb a c && leb c b ≡ true → (a ≤ c) × (c ≤ b)
 between a b c e = let p = and-both (leb a c) (leb c b) e in (leb-true a c (p .0), leb-true c b (p .1))
@@ -36,7 +36,7 @@ in-letters c h k = rw (le-leb (code "A") c h, le-leb c (code "Z") k)
 
 pub letter-solid : (c : ℕ) → isLetter c ≡ true → isFiller c ≡ false
 unfolding isFiller
-letter-solid c e = ne-eqb c 60 (λ h. omega (arith, letter-range c e .0))
+letter-solid c e = ne-eqb c filler (λ h. omega (arith, letter-range c e .0))
 
 pub letter-in : (c : ℕ) → isLetter c ≡ true → isCharacter c ≡ true
 unfolding isCharacter

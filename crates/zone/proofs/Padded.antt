@@ -129,20 +129,21 @@ padded-full n s h =
     rw (e, append-nil)
 
 pub padded-behind : (n : ℕ) (s : List ℕ) (c : ℕ) → length s < n
-    → padded n (s ++ (c ∷ [])) ≡ s ++ (c ∷ replicate (n - suc (length s)) 60)
+    → padded n (s ++ (c ∷ [])) ≡ s ++ (c ∷ replicate (n - suc (length s)) filler)
 padded-behind n s c h =
     let m : length (s ++ (c ∷ [])) ≡ suc (length s) = length-append s (c ∷ []) ∙ add-one (length s) in
-    padded-spare n (s ++ (c ∷ [])) (rw m (omega arith)) ∙ rw m (append-assoc s (c ∷ []) (replicate (n - suc (length s)) 60))
+    padded-spare n (s ++ (c ∷ [])) (rw m (omega arith)) ∙ rw m (append-assoc s (c ∷ []) (replicate (n - suc (length s)) filler))
 
 -- fillers cut from fillers
-pub cut-fillers : (a w n : ℕ) → a + w ≤ n → take {A = ℕ} w (drop a (replicate n 60)) ≡ replicate w 60
+pub cut-fillers : (a w n : ℕ) → a + w ≤ n → take {A = ℕ} w (drop a (replicate n filler)) ≡ replicate w filler
 cut-fillers zero zero n h = refl
 cut-fillers zero (suc w) zero h = absurd (omega arith)
-cut-fillers zero (suc w) (suc n) h = ap (λ (l : List ℕ). 60 ∷ l) (cut-fillers zero w n (omega arith))
+cut-fillers zero (suc w) (suc n) h = ap (λ (l : List ℕ). filler ∷ l) (cut-fillers zero w n (omega arith))
 cut-fillers (suc a) w zero h = absurd (omega arith)
 cut-fillers (suc a) w (suc n) h = cut-fillers a w n (omega arith)
 
-pub fillers-left : (k w : ℕ) (l : List ℕ) → k ≤ w → take w l ≡ replicate w 60 → take (w - k) (drop k l) ≡ replicate (w - k) 60
+pub fillers-left : (k w : ℕ) (l : List ℕ) → k ≤ w → take w l ≡ replicate w filler
+    → take (w - k) (drop k l) ≡ replicate (w - k) filler
 fillers-left zero w l h e = rw (sub-zero w) e
 fillers-left (suc k) zero l h e = absurd (omega arith)
 fillers-left (suc k) (suc w) [] h e = absurd (omega (arith, ap length e))

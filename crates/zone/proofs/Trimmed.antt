@@ -9,7 +9,7 @@ use lib.ListN.{length, take, getD, replicate}
 use lib.Dec.{eqb, eqb·suc-zero}
 use lib.Seq.{take-suc, length-take-le, take-take}
 use borrow.Author.Tests.{eqb-true}
-use Rattle.zone.specs.Alphabet.{isFiller}
+use Rattle.zone.specs.Alphabet.{isFiller, filler}
 use Rattle.zone.specs.Record.{trimmedLength, trimmed}
 use Rattle.lent.proofs.Bools.{and-both}
 
@@ -40,12 +40,12 @@ module _ (s : List ℕ) (i : ℕ) (h : i < length s) where
       let k : i ≤ length s = omega arith in
       rw (add-one i, take-suc s i 0 h, trimmed-snoc, e, length-take-le i s k)
 
-fillers-none : (m : ℕ) → trimmedLength (replicate m 60) ≡ 0
+fillers-none : (m : ℕ) → trimmedLength (replicate m filler) ≡ 0
 unfolding trimmedLength isFiller
 fillers-none zero = refl
 fillers-none (suc m) = rw (fillers-none m)
 
-pub trimmed-fillers : (s : List ℕ) (m : ℕ) → trimmedLength (s ++ replicate m 60) ≡ trimmedLength s
+pub trimmed-fillers : (s : List ℕ) (m : ℕ) → trimmedLength (s ++ replicate m filler) ≡ trimmedLength s
 unfolding trimmedLength
 trimmed-fillers [] m = fillers-none m
 trimmed-fillers (c ∷ s) m = rw (trimmed-fillers s m)

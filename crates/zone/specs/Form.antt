@@ -8,7 +8,6 @@ use Rattle.zone.specs.declared.form.Form.{Form}
 use Rattle.zone.specs.declared.form.Form.the-variants.{Td1, Td2, Td3}
 use Rattle.zone.specs.declared.form.Recognised.{Recognised}
 use Rattle.zone.specs.declared.form.Recognised.the-variants.{As, Unknown}
-use Rattle.zone.specs.declared.form.Places.{Places}
 use Rattle.zone.specs.declared.form.Piece.{Piece}
 use Rattle.zone.specs.Part.{Part, code, state, number, numberCheck, optional, birth, birthCheck, sex, expiry, expiryCheck}
 use Rattle.zone.specs.Part.{nationality, optional2, composite, name, personal, personalCheck, same}
@@ -110,23 +109,3 @@ joinedCuts t (s ∷ ss) = cut t s ++ joinedCuts t ss
 
 unfoldable pub covered : Form → List ℕ → List ℕ
 covered f t = joinedCuts t (pieces f)
-
--- no words of the paper: the rows of constants that the code has of these
-unfoldable pub placesOf : Form → Places
-placesOf f = record {
-  code = start f code;
-  state = start f state;
-  number = start f number;
-  «number_check» = start f numberCheck;
-  optional = start f optional;
-  nationality = start f nationality;
-  birth = start f birth;
-  «birth_check» = start f birthCheck;
-  sex = start f sex;
-  expiry = start f expiry;
-  «expiry_check» = start f expiryCheck;
-  personal = start f personal;
-  «personal_check» = start f personalCheck;
-  composite = start f composite;
-  name = start f name;
-}

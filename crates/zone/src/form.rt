@@ -1,7 +1,8 @@
 // The three forms of document 01, "The text": which length tells which, and where everything stands in each. A form is a row of
 // constants here; what reads and writes a text goes by these and by nothing else of the form.
 ghost use mathlib.Core.Path.{_≡_};
-ghost use Rattle.zone.specs.Form.{formOf, placesOf, width, longest, total};
+ghost use Rattle.zone.specs.Form.{formOf, width, longest, total};
+ghost use Rattle.zone.specs.Inner.Places.{placesOf};
 ghost use Rattle.zone.specs.Inner.Pieces.{coveredOf};
 ghost use Rattle.zone.specs.Part.{name, optional, personal};
 

@@ -7,18 +7,12 @@ use denote.Ref.{now}
 use Rattle.object.proofs.read.Statement.{statement}
 use Rattle.object.proofs.read.Tie as tie
 
-part-requires : tie.Need-part-requires
-part-requires c κs = search needs
-
-from-version-requires : tie.Need-from-version-requires
-from-version-requires c κs = search needs
-
-returns : tie.Need-returns
+pub read-spec : {M : Type 1} → statement M
 unfolding readObject
-returns c =
+read-spec = tie.close (tie.spec
+    (λ c κs. search needs)
+    (λ c κs. search needs)
+    (λ c.
     let a = c .before .before .before .args in
     let e = rw (c .before .part .ensures) at (c .from-version .ensures) in
-    told-both (objectAnswerOf (c .from-version .result)) (readObject (now (a .w)) (a .o)) e
-
-pub read-spec : {M : Type 1} → statement M
-read-spec = tie.close (tie.spec part-requires from-version-requires returns)
+    told-both (objectAnswerOf (c .from-version .result)) (readObject (now (a .w)) (a .o)) e))

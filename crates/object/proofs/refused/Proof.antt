@@ -5,9 +5,7 @@ use mathlib.Core.Path.{refl}
 use Rattle.object.proofs.refused.Statement.{statement}
 use Rattle.object.proofs.refused.Tie as tie
 
-returns : tie.Need-returns
-unfolding objectAnswer tableOf outcomeIn
-returns c = refl
-
 pub refused-spec : {M : Type 1} → statement M
-refused-spec = tie.close (tie.spec returns)
+unfolding objectAnswer tableOf outcomeIn
+refused-spec = tie.close (tie.spec
+    (λ c. refl))

@@ -28,39 +28,6 @@ loop-holds c =
     let a = c .before .before .args in
     (search needs, c .before .before .pre, refl)
 
-file-at-requires : tie.Need-file-at-requires Inv-loop μ-loop
-file-at-requires c κs = search needs
-
-enum-known-held : tie.Need-enum-known-held Inv-loop μ-loop
-enum-known-held c = search needs
-
-octet-requires : tie.Need-octet-requires Inv-loop μ-loop
-octet-requires c κs = search needs
-
-group-of-requires : tie.Need-group-of-requires Inv-loop μ-loop
-group-of-requires c κs = search needs
-
-cast-group : tie.Need-cast-group Inv-loop μ-loop
-cast-group c = search needs
-
-mul-place : tie.Need-mul-place Inv-loop μ-loop
-mul-place c = search needs
-
-array-read-place : tie.Need-array-read-place Inv-loop μ-loop
-array-read-place c = search needs
-
-file-check-requires : tie.Need-file-check-requires Inv-loop μ-loop
-file-check-requires c κs = search needs
-
-enum-told : tie.Need-enum-told Inv-loop μ-loop
-enum-told c = search needs
-
-mul-table : tie.Need-mul-table Inv-loop μ-loop
-mul-table c = search needs
-
-array-write-table : tie.Need-array-write-table Inv-loop μ-loop
-array-write-table c = search needs
-
 loop-less : tie.Need-loop-less Inv-loop μ-loop
 loop-less c =
     let a = c .before .before .before .before .before .before .before .before .before .before .before .before .before .args in
@@ -92,13 +59,11 @@ loop-again c =
       rw g (lent-on w tags (l .table) (l .at) (l .inv .1) v h e p ∙ l .inv .2),
     )
 
-enum-known-refusal : tie.Need-enum-known-refusal Inv-loop μ-loop
-enum-known-refusal c = search needs
-
 returns : tie.Need-returns Inv-loop μ-loop
 returns c =
-    let a = c .before .before .before .before .before .before .before .before .before .before .before .before .before .before .args in
-    let l = c .before .before .before .before .before .before .before .before .before .before .before .loop in
+    let turn = c .before .before .before .before .before .before .before .before .before .before .before in
+    let a = turn .before .before .before .args in
+    let l = turn .loop in
     let w = now (a .w) in
     let tags = now (a .tags) in
     let e = sym (c .before .before .before .before .before .before .before .before .before .file-at .ensures)
@@ -110,9 +75,6 @@ returns c =
     let p = rw (o, g) at (k ∙ ap outcomeOf (c .before .refusal .given .1)) in
     lent-refused w tags (l .table) (l .at) (l .inv .1) v _ _
     (c .before .before .before .before .before .before .before .before .before .before .loop-test .taken) e p ∙ l .inv .2
-
-enum-told-2 : tie.Need-enum-told-2 Inv-loop μ-loop
-enum-told-2 c = search needs
 
 returns-2 : tie.Need-returns-2 Inv-loop μ-loop
 returns-2 c =
@@ -138,21 +100,21 @@ files-check-spec =
     Inv-loop
     μ-loop
     loop-holds
-    file-at-requires
-    enum-known-held
-    octet-requires
-    group-of-requires
-    cast-group
-    mul-place
-    array-read-place
-    file-check-requires
-    enum-told
-    mul-table
-    array-write-table
+    (λ c κs. search needs)
+    (λ c. search needs)
+    (λ c κs. search needs)
+    (λ c κs. search needs)
+    (λ c. search needs)
+    (λ c. search needs)
+    (λ c. search needs)
+    (λ c κs. search needs)
+    (λ c. search needs)
+    (λ c. search needs)
+    (λ c. search needs)
     loop-less
     loop-again
-    enum-known-refusal
+    (λ c. search needs)
     returns
-    enum-told-2
+    (λ c. search needs)
     returns-2
     returns-3)

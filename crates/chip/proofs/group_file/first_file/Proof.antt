@@ -28,21 +28,6 @@ abbrev μ-loop : tie.MeasureT-loop
 loop-holds : tie.Need-loop-holds Inv-loop μ-loop
 loop-holds c = (c .before .pre, refl)
 
-file-at-requires : tie.Need-file-at-requires Inv-loop μ-loop
-file-at-requires c κs = search needs
-
-enum-known-held : tie.Need-enum-known-held Inv-loop μ-loop
-enum-known-held c = search needs
-
-octet-requires : tie.Need-octet-requires Inv-loop μ-loop
-octet-requires c κs = search needs
-
-group-of-requires : tie.Need-group-of-requires Inv-loop μ-loop
-group-of-requires c κs = search needs
-
-cast-own : tie.Need-cast-own Inv-loop μ-loop
-cast-own c = search needs
-
 returns : tie.Need-returns Inv-loop μ-loop
 returns c =
     let a = c .before .before .before .before .before .before .before .before .before .before .args in
@@ -81,9 +66,6 @@ loop-again c =
           ∙ l .inv .1,
     )
 
-enum-told : tie.Need-enum-told Inv-loop μ-loop
-enum-told c = search needs
-
 returns-2 : tie.Need-returns-2 Inv-loop μ-loop
 returns-2 c =
     let a = c .before .before .before .before .before .before .args in
@@ -106,14 +88,14 @@ first-file-spec =
     Inv-loop
     μ-loop
     loop-holds
-    file-at-requires
-    enum-known-held
-    octet-requires
-    group-of-requires
-    cast-own
+    (λ c κs. search needs)
+    (λ c. search needs)
+    (λ c κs. search needs)
+    (λ c κs. search needs)
+    (λ c. search needs)
     returns
     loop-less
     loop-again
-    enum-told
+    (λ c. search needs)
     returns-2
     returns-3)

@@ -10,26 +10,22 @@ use Rattle.chip.proofs.FirstFile.{in-then}
 use Rattle.chip.proofs.group_file.group_stretch.Statement.{statement}
 use Rattle.chip.proofs.group_file.group_stretch.Tie as tie
 
-walk-requires : tie.Need-walk-requires
-walk-requires c κs = search needs
-
-enum-known-parts : tie.Need-enum-known-parts
-enum-known-parts c = search needs
-
 first-file-requires : tie.Need-first-file-requires
 first-file-requires c κs = walked-files (now (c .before .before .before .before .before .before .args .w))
     (c .before .before .parts .given .0 .0)
     (sym (c .before .before .before .before .walk .ensures) ∙ ap walkedOf (c .before .before .parts .given .1))
 
-stretch-of-requires : tie.Need-stretch-of-requires
-stretch-of-requires c κs = search needs
-
-enum-told : tie.Need-enum-told
-enum-told c = search needs
-
-returns : tie.Need-returns
-unfolding groupStretch andThen
-returns c =
+pub group-stretch-spec : {M : Type 1} → statement M
+unfolding groupStretch andThen fileOrNone
+group-stretch-spec =
+    tie.close
+    (tie.spec
+    (λ c κs. search needs)
+    (λ c. search needs)
+    first-file-requires
+    (λ c κs. search needs)
+    (λ c. search needs)
+    (λ c.
     let w = now (c .before .before .before .before .before .before .before .before .args .w) in
     let walked = sym (c .before .before .before .before .before .before .walk .ensures)
     ∙ ap walkedOf (c .before .before .before .before .parts .given .1) in
@@ -40,20 +36,5 @@ returns c =
       in-then (files w (o .object .to))
           (λ fs. firstFile w (c .before .before .before .before .before .before .before .before .args .group) fs) told,
     )
-    (c .stretch-of .ensures ∙ ap fileOrNone (c .before .first-file .ensures))
-
-returns-2 : tie.Need-returns-2
-unfolding groupStretch fileOrNone andThen
-returns-2 c = rw (sym (c .before .before .walk .ensures) ∙ ap walkedOf (c .enum-told .given .1))
-
-pub group-stretch-spec : {M : Type 1} → statement M
-group-stretch-spec =
-    tie.close
-    (tie.spec
-    walk-requires
-    enum-known-parts
-    first-file-requires
-    stretch-of-requires
-    enum-told
-    returns
-    returns-2)
+    (c .stretch-of .ensures ∙ ap fileOrNone (c .before .first-file .ensures)))
+    (λ c. rw (sym (c .before .before .walk .ensures) ∙ ap walkedOf (c .enum-told .given .1))))

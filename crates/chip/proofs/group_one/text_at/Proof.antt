@@ -17,24 +17,6 @@ use Rattle.chip.proofs.Near.{moved-near}
 use Rattle.chip.proofs.group_one.text_at.Statement.{statement}
 use Rattle.chip.proofs.group_one.text_at.Tie as tie
 
-element-requires : tie.Need-element-requires
-element-requires c κs = search needs
-
-enum-known-v : tie.Need-enum-known-v
-enum-known-v c = search needs
-
-end-check-requires : tie.Need-end-check-requires
-end-check-requires c κs = search needs
-
-enum-told : tie.Need-enum-told
-enum-told c = search needs
-
-cut-requires : tie.Need-cut-requires
-cut-requires c κs = search needs
-
-read-requires : tie.Need-read-requires
-read-requires c κs = search needs
-
 move-by-requires : tie.Need-move-by-requires
 unfolding answerOf
 move-by-requires c κs = λ n p r.
@@ -49,21 +31,23 @@ move-by-requires c κs = λ n p r.
     let near = moved-near s v n p (le-trans (stood .1) (stood .2)) told in
     omega (arith, near, small)
 
-enum-known-why : tie.Need-enum-known-why
-enum-known-why c = search needs
-
-refuse-requires : tie.Need-refuse-requires
-refuse-requires c κs = search needs
-
-enum-known-why-2 : tie.Need-enum-known-why-2
-enum-known-why-2 c = search needs
-
-refuse-requires-2 : tie.Need-refuse-requires-2
-refuse-requires-2 c κs = search needs
-
-returns : tie.Need-returns
+pub text-at-spec : {M : Type 1} → statement M
 unfolding textAt andThen checked
-returns c =
+text-at-spec =
+    tie.close
+    (tie.spec
+    (λ c κs. search needs)
+    (λ c. search needs)
+    (λ c κs. search needs)
+    (λ c. search needs)
+    (λ c κs. search needs)
+    (λ c κs. search needs)
+    move-by-requires
+    (λ c. search needs)
+    (λ c κs. search needs)
+    (λ c. search needs)
+    (λ c κs. search needs)
+    (λ c.
     let s = now (c .before .before .before .before .before .before .before .before .before .before .before .args .s) in
     let v = c .before .before .before .before .before .before .before .v .given .0 .0 in
     let e = sym (c .before .before .before .before .before .before .before .before .before .element .ensures)
@@ -71,37 +55,11 @@ returns c =
     let done = sym (c .before .before .before .before .before .end-check .ensures)
     ∙ ap outcomeOf (c .before .before .before .enum-told .given .1) in
     rw (e, done) (c .move-by .ensures ∙ ap (λ a. answerBy (moved (v .from) a))
-    (c .before .read .ensures ∙ ap readText (c .before .before .cut .ensures)))
-
-returns-2 : tie.Need-returns-2
-unfolding textAt andThen checked
-returns-2 c =
+    (c .before .read .ensures ∙ ap readText (c .before .before .cut .ensures))))
+    (λ c.
     let e = sym (c .before .before .before .before .before .before .before .before .element .ensures)
     ∙ ap takenOf (c .before .before .before .before .before .before .v .given .1) in
     let over = sym (c .before .before .before .before .end-check .ensures) ∙ ap outcomeOf (c .before .before .why .given .1) in
-    rw (e, over) (c .refuse .ensures)
-
-returns-3 : tie.Need-returns-3
-unfolding textAt andThen checked
-returns-3 c =
-    rw (sym (c .before .before .before .before .element .ensures) ∙ ap takenOf (c .before .before .why2 .given .1))
-    (c .refuse2 .ensures)
-
-pub text-at-spec : {M : Type 1} → statement M
-text-at-spec =
-    tie.close
-    (tie.spec
-    element-requires
-    enum-known-v
-    end-check-requires
-    enum-told
-    cut-requires
-    read-requires
-    move-by-requires
-    enum-known-why
-    refuse-requires
-    enum-known-why-2
-    refuse-requires-2
-    returns
-    returns-2
-    returns-3)
+    rw (e, over) (c .refuse .ensures))
+    (λ c. rw (sym (c .before .before .before .before .element .ensures) ∙ ap takenOf (c .before .before .why2 .given .1))
+    (c .refuse2 .ensures)))

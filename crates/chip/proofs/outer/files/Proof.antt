@@ -21,12 +21,6 @@ abbrev μ-loop : tie.MeasureT-loop
 loop-holds : tie.Need-loop-holds Inv-loop μ-loop
 loop-holds c = refl
 
-file-at-requires : tie.Need-file-at-requires Inv-loop μ-loop
-file-at-requires c κs = search needs
-
-enum-known-held : tie.Need-enum-known-held Inv-loop μ-loop
-enum-known-held c = search needs
-
 loop-less : tie.Need-loop-less Inv-loop μ-loop
 loop-less c =
     let w = now (c .before .before .before .before .before .before .before .args .w) in
@@ -41,9 +35,6 @@ loop-again c =
     told-next w (c .before .before .before .before .before .loop .at) (c .before .held .given .0 .0)
     (c .before .before .before .before .loop-test .taken) e
     ∙ c .before .before .before .before .before .loop .inv
-
-enum-known-refusal : tie.Need-enum-known-refusal Inv-loop μ-loop
-enum-known-refusal c = search needs
 
 returns : tie.Need-returns Inv-loop μ-loop
 unfolding outcomeIn
@@ -66,10 +57,10 @@ files-spec =
     Inv-loop
     μ-loop
     loop-holds
-    file-at-requires
-    enum-known-held
+    (λ c κs. search needs)
+    (λ c. search needs)
     loop-less
     loop-again
-    enum-known-refusal
+    (λ c. search needs)
     returns
     returns-2)

@@ -6,22 +6,14 @@ use Rattle.tlv.proofs.Joined.{passed-then, refused-then}
 use Rattle.chip.proofs.outer.with_object.Statement.{statement}
 use Rattle.chip.proofs.outer.with_object.Tie as tie
 
-files-requires : tie.Need-files-requires
-files-requires c κs = search needs
-
-enum-told : tie.Need-enum-told
-enum-told c = search needs
-
-enum-known-refusal : tie.Need-enum-known-refusal
-enum-known-refusal c = search needs
-
-returns : tie.Need-returns
-returns c = sym (passed-then _ _ (sym (c .before .before .files .ensures) ∙ ap outcomeOf (c .enum-told .given .1)))
-
 returns-2 : tie.Need-returns-2
 returns-2 c = sym (refused-then _ _ _ _
     (sym (c .before .before .before .files .ensures) ∙ ap outcomeOf (c .before .refusal .given .1)))
 
 pub with-object-spec : {M : Type 1} → statement M
 with-object-spec =
-    tie.close (tie.spec files-requires enum-told enum-known-refusal returns returns-2)
+    tie.close (tie.spec
+    (λ c κs. search needs)
+    (λ c. search needs)
+    (λ c. search needs)
+    (λ c. sym (passed-then _ _ (sym (c .before .before .files .ensures) ∙ ap outcomeOf (c .enum-told .given .1)))) returns-2)

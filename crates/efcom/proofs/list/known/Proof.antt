@@ -19,18 +19,6 @@ abbrev μ-loop : tie.MeasureT-loop
 loop-holds : tie.Need-loop-holds Inv-loop μ-loop
 loop-holds c = (search needs, ap (λ p. knownFrom p (now (c .before .args .tags))) (add-zero (c .before .args .from)))
 
-shared-slice-read-c : tie.Need-shared-slice-read-c Inv-loop μ-loop
-shared-slice-read-c c = search needs
-
-is-group-requires : tie.Need-is-group-requires Inv-loop μ-loop
-is-group-requires c κs = search needs
-
-add-i : tie.Need-add-i Inv-loop μ-loop
-add-i c = search needs
-
-loop-less : tie.Need-loop-less Inv-loop μ-loop
-loop-less c = search needs
-
 loop-again : tie.Need-loop-again Inv-loop μ-loop
 loop-again c =
     let l = c .before .before .before .before .loop in
@@ -41,18 +29,13 @@ loop-again c =
           (sym (c .before .is-group .ensures) ∙ c .if1 .taken),
     )
 
-add-at : tie.Need-add-at Inv-loop μ-loop
-add-at c = search needs
-
-at-requires : tie.Need-at-requires Inv-loop μ-loop
-at-requires c κs = search needs
-
 returns : tie.Need-returns Inv-loop μ-loop
 returns c =
     let l = c .before .before .before .before .before .loop in
     let from = c .before .before .before .before .before .before .before .args .from in
     let s = now (c .before .before .before .before .before .before .before .args .tags) in
-    rw (c .at .ensures) (known-stop s from (l .i) (knownFrom from s) (l .inv .1) (search needs) (sym (c .before .before .is-group .ensures) ∙ c .before .if1 .left))
+    rw (c .at .ensures) (known-stop s from (l .i) (knownFrom from s) (l .inv .1) (search needs)
+    (sym (c .before .before .is-group .ensures) ∙ c .before .if1 .left))
 
 returns-2 : tie.Need-returns-2 Inv-loop μ-loop
 returns-2 c =
@@ -68,12 +51,12 @@ known-spec =
     Inv-loop
     μ-loop
     loop-holds
-    shared-slice-read-c
-    is-group-requires
-    add-i
-    loop-less
+    (λ c. search needs)
+    (λ c κs. search needs)
+    (λ c. search needs)
+    (λ c. search needs)
     loop-again
-    add-at
-    at-requires
+    (λ c. search needs)
+    (λ c κs. search needs)
     returns
     returns-2)

@@ -30,24 +30,6 @@ loop-holds c = (
       (add-zero (c .before .args .from)),
 )
 
-octet-requires : tie.Need-octet-requires Inv-loop μ-loop
-octet-requires c κs = search needs
-
-cast-c : tie.Need-cast-c Inv-loop μ-loop
-cast-c c = search needs
-
-array-read-if1 : tie.Need-array-read-if1 Inv-loop μ-loop
-array-read-if1 c = search needs
-
-array-write-seen : tie.Need-array-write-seen Inv-loop μ-loop
-array-write-seen c = search needs
-
-add-i : tie.Need-add-i Inv-loop μ-loop
-add-i c = search needs
-
-loop-less : tie.Need-loop-less Inv-loop μ-loop
-loop-less c = search needs
-
 loop-again : tie.Need-loop-again Inv-loop μ-loop
 loop-again c =
     let l = c .before .before .before .loop in
@@ -62,12 +44,6 @@ loop-again c =
           (one-marked 256 (l .seen) (backFrom (l .i) s) d 1 (l .inv .2) (l .inv .1) (search needs) (search needs)),
       once-more s from (l .i) (onceFrom from [] s) (l .inv .3) (search needs) (rw e at free),
     )
-
-add-at : tie.Need-add-at Inv-loop μ-loop
-add-at c = search needs
-
-at-requires : tie.Need-at-requires Inv-loop μ-loop
-at-requires c κs = search needs
 
 returns : tie.Need-returns Inv-loop μ-loop
 returns c =
@@ -93,14 +69,14 @@ once-spec =
     Inv-loop
     μ-loop
     loop-holds
-    octet-requires
-    cast-c
-    array-read-if1
-    array-write-seen
-    add-i
-    loop-less
+    (λ c κs. search needs)
+    (λ c. search needs)
+    (λ c. search needs)
+    (λ c. search needs)
+    (λ c. search needs)
+    (λ c. search needs)
     loop-again
-    add-at
-    at-requires
+    (λ c. search needs)
+    (λ c κs. search needs)
     returns
     returns-2)

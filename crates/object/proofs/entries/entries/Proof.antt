@@ -21,17 +21,8 @@ Inv-loop s start at₀ seen₀ at seen = (seen .count ≤ at) × (tallyFrom s at
 abbrev μ-loop : tie.MeasureT-loop
 μ-loop s start at₀ seen₀ at seen = length s - at
 
-none-requires : tie.Need-none-requires Inv-loop μ-loop
-none-requires c κs = search needs
-
 loop-holds : tie.Need-loop-holds Inv-loop μ-loop
 loop-holds c = rw (c .none .ensures) (search needs, refl)
-
-entry-at-requires : tie.Need-entry-at-requires Inv-loop μ-loop
-entry-at-requires c κs = search needs
-
-enum-known-e : tie.Need-enum-known-e Inv-loop μ-loop
-enum-known-e c = search needs
 
 counted-requires : tie.Need-counted-requires Inv-loop μ-loop
 counted-requires c κs =
@@ -67,12 +58,6 @@ loop-again c =
     let n = counted-count (l .seen) e in
     rw (c .counted .ensures) (omega (arith, k .0, n, l .inv .0), tally-step s (l .at) (l .seen) e here read ∙ l .inv .1)
 
-enum-known-refusal : tie.Need-enum-known-refusal Inv-loop μ-loop
-enum-known-refusal c = search needs
-
-none-requires-2 : tie.Need-none-requires-2 Inv-loop μ-loop
-none-requires-2 c κs = search needs
-
 returns : tie.Need-returns Inv-loop μ-loop
 unfolding outcomeIn seenIn
 returns c =
@@ -80,7 +65,8 @@ returns c =
     let l = c .before .before .before .before .before .before .loop in
     let here : l .at < length s = c .before .before .before .before .before .loop-test .taken in
     let r = c .before .before .refusal .given .0 .0 in
-    let read = sym (c .before .before .before .before .entry-at .ensures) ∙ ap groupHashOf (c .before .before .refusal .given .1) in
+    let read = sym (c .before .before .before .before .entry-at .ensures)
+    ∙ ap groupHashOf (c .before .before .refusal .given .1) in
     let q = sym (l .inv .1) ∙ tally-refused s (l .at) (l .seen) (numberOf (r .cause)) (r .place) here read in
     (rw q, rw (q, c .none2 .ensures))
 
@@ -98,14 +84,14 @@ entries-spec =
     (tie.spec
     Inv-loop
     μ-loop
-    none-requires
+    (λ c κs. search needs)
     loop-holds
-    entry-at-requires
-    enum-known-e
+    (λ c κs. search needs)
+    (λ c. search needs)
     counted-requires
     loop-less
     loop-again
-    enum-known-refusal
-    none-requires-2
+    (λ c. search needs)
+    (λ c κs. search needs)
     returns
     returns-2)

@@ -7,66 +7,31 @@ use mathlib.Core.Path.{sym, ap, _∙_}
 use Rattle.object.proofs.entries.number_at.Statement.{statement}
 use Rattle.object.proofs.entries.number_at.Tie as tie
 
-element-requires : tie.Need-element-requires
-element-requires c κs = search needs
-
-enum-known-v : tie.Need-enum-known-v
-enum-known-v c = search needs
-
-is-group-number-requires : tie.Need-is-group-number-requires
-is-group-number-requires c κs = search needs
-
-octet-requires : tie.Need-octet-requires
-octet-requires c κs = search needs
-
-cast-digest-at : tie.Need-cast-digest-at
-cast-digest-at c = search needs
-
-digest-at-requires : tie.Need-digest-at-requires
-digest-at-requires c κs = search needs
-
-refuse-requires : tie.Need-refuse-requires
-refuse-requires c κs = search needs
-
-enum-known-refusal : tie.Need-enum-known-refusal
-enum-known-refusal c = search needs
-
-returns : tie.Need-returns
+pub number-at-spec : {M : Type 1} → statement M
 unfolding numberAt andThen checked
-returns c =
+number-at-spec =
+    tie.close
+    (tie.spec
+    (λ c κs. search needs)
+    (λ c. search needs)
+    (λ c κs. search needs)
+    (λ c κs. search needs)
+    (λ c. search needs)
+    (λ c κs. search needs)
+    (λ c κs. search needs)
+    (λ c. search needs)
+    (λ c.
     let told = sym (c .before .before .before .before .before .before .before .element .ensures)
     ∙ ap takenOf (c .before .before .before .before .before .v .given .1) in
     rw (
       told,
       (sym (c .before .before .before .is-group-number .ensures) ∙ c .before .before .if1 .taken),
       ← c .before .octet .ensures,
-    ) (c .digest-at .ensures)
-
-returns-2 : tie.Need-returns-2
-unfolding numberAt andThen checked
-returns-2 c =
+    ) (c .digest-at .ensures))
+    (λ c.
     let told = sym (c .before .before .before .before .before .before .element .ensures)
     ∙ ap takenOf (c .before .before .before .before .v .given .1) in
-    rw (told, (sym (c .before .before .is-group-number .ensures) ∙ c .before .if1 .left)) (c .refuse .ensures)
-
-returns-3 : tie.Need-returns-3
-unfolding numberAt andThen checked
-returns-3 c =
+    rw (told, (sym (c .before .before .is-group-number .ensures) ∙ c .before .if1 .left)) (c .refuse .ensures))
+    (λ c.
     let told = sym (c .before .before .before .element .ensures) ∙ ap takenOf (c .before .refusal .given .1) in
-    rw told
-
-pub number-at-spec : {M : Type 1} → statement M
-number-at-spec =
-    tie.close
-    (tie.spec
-    element-requires
-    enum-known-v
-    is-group-number-requires
-    octet-requires
-    cast-digest-at
-    digest-at-requires
-    refuse-requires
-    enum-known-refusal
-    returns
-    returns-2
-    returns-3)
+    rw told))

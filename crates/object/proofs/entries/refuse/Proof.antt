@@ -3,11 +3,7 @@ use borrow.Author.Needs.{needs}
 use Rattle.object.proofs.entries.refuse.Statement.{statement}
 use Rattle.object.proofs.entries.refuse.Tie as tie
 
-at-requires : tie.Need-at-requires
-at-requires c κs = search needs
-
-returns : tie.Need-returns
-returns c = rw (c .at .ensures)
-
 pub refuse-spec : {M : Type 1} → statement M
-refuse-spec = tie.close (tie.spec at-requires returns)
+refuse-spec = tie.close (tie.spec
+    (λ c κs. search needs)
+    (λ c. rw (c .at .ensures)))

@@ -4,9 +4,7 @@ use Rattle.sha256.specs.Constants.{H0}
 use Rattle.sha256.proofs.constants.initial_hash.Statement.{statement}
 use Rattle.sha256.proofs.constants.initial_hash.Tie as tie
 
-returns : tie.Need-returns
-unfolding H0
-returns c = search needs
-
 pub initial-hash-spec : {M : Type 1} → statement M
-initial-hash-spec = tie.close (tie.spec returns)
+unfolding H0
+initial-hash-spec = tie.close (tie.spec
+    (λ c. search needs))

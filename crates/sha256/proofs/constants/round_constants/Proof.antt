@@ -4,9 +4,7 @@ use Rattle.sha256.specs.Constants.{K}
 use Rattle.sha256.proofs.constants.round_constants.Statement.{statement}
 use Rattle.sha256.proofs.constants.round_constants.Tie as tie
 
-returns : tie.Need-returns
-unfolding K
-returns c = search needs
-
 pub round-constants-spec : {M : Type 1} → statement M
-round-constants-spec = tie.close (tie.spec returns)
+unfolding K
+round-constants-spec = tie.close (tie.spec
+    (λ c. search needs))

@@ -23,38 +23,14 @@ Inv-loop message hash₀ at₀ hash at = (at ≤ length message) × (at % 64 ≡
 abbrev μ-loop : tie.MeasureT-loop
 μ-loop message hash₀ at₀ hash at = length message - at
 
-initial-hash-requires : tie.Need-initial-hash-requires Inv-loop μ-loop
-initial-hash-requires c κs = search needs
-
 loop-holds : tie.Need-loop-holds Inv-loop μ-loop
 loop-holds c = (search needs, search needs, rw (c .initial-hash .ensures))
-
-sub-loop : tie.Need-sub-loop Inv-loop μ-loop
-sub-loop c = search needs
-
-add-compress : tie.Need-add-compress Inv-loop μ-loop
-add-compress c = search needs
-
-sub-compress : tie.Need-sub-compress Inv-loop μ-loop
-sub-compress c = search needs
-
-part-compress-start : tie.Need-part-compress-start Inv-loop μ-loop
-part-compress-start c = search needs
-
-part-compress-end : tie.Need-part-compress-end Inv-loop μ-loop
-part-compress-end c = search needs
 
 compress-requires : tie.Need-compress-requires Inv-loop μ-loop
 compress-requires c κs =
     let m = now (c .before .before .before .before .before .args .message) in
     let l = c .before .before .loop in
     rw add-sub-cancel-left (length-take-le 64 (drop (l .at) m) (rw length-drop (omega arith)))
-
-add-at : tie.Need-add-at Inv-loop μ-loop
-add-at c = search needs
-
-loop-less : tie.Need-loop-less Inv-loop μ-loop
-loop-less c = search needs
 
 loop-again : tie.Need-loop-again Inv-loop μ-loop
 loop-again c =
@@ -65,15 +41,6 @@ loop-again c =
       omega arith,
       rw (c .compress .ensures, add-sub-cancel-left) (chained-block (l .hash) m (l .at) h) ∙ l .inv .2,
     )
-
-sub-finish : tie.Need-sub-finish Inv-loop μ-loop
-sub-finish c = search needs
-
-part-finish-start : tie.Need-part-finish-start Inv-loop μ-loop
-part-finish-start c = search needs
-
-part-finish-end : tie.Need-part-finish-end Inv-loop μ-loop
-part-finish-end c = search needs
 
 finish-requires : tie.Need-finish-requires Inv-loop μ-loop
 finish-requires c κs =
@@ -94,19 +61,19 @@ hash-spec =
     (tie.spec
     Inv-loop
     μ-loop
-    initial-hash-requires
+    (λ c κs. search needs)
     loop-holds
-    sub-loop
-    add-compress
-    sub-compress
-    part-compress-start
-    part-compress-end
+    (λ c. search needs)
+    (λ c. search needs)
+    (λ c. search needs)
+    (λ c. search needs)
+    (λ c. search needs)
     compress-requires
-    add-at
-    loop-less
+    (λ c. search needs)
+    (λ c. search needs)
     loop-again
-    sub-finish
-    part-finish-start
-    part-finish-end
+    (λ c. search needs)
+    (λ c. search needs)
+    (λ c. search needs)
     finish-requires
     returns)

@@ -6,26 +6,17 @@ use Rattle.sha256.proofs.OctetLaws.{put-length}
 use Rattle.sha256.proofs.message.sized.Statement.{statement}
 use Rattle.sha256.proofs.message.sized.Tie as tie
 
-slice-aggregate-put : tie.Need-slice-aggregate-put
-slice-aggregate-put c = search needs
-
-cast-put : tie.Need-cast-put
-cast-put c = record { fits = mask-lt (c .before .args .n / 2 ^ 29) 32 }
-
-put-requires : tie.Need-put-requires
-put-requires c κs = search needs
-
-slice-aggregate-put-2 : tie.Need-slice-aggregate-put-2
-slice-aggregate-put-2 c = search needs
-
-cast-put-2 : tie.Need-cast-put-2
-cast-put-2 c = record { fits = mask-lt (c .before .before .before .before .args .n * 2 ^ 3 % 2 ^ 64) 32 }
-
-put-requires-2 : tie.Need-put-requires-2
-put-requires-2 c κs = search needs
-
-returns : tie.Need-returns
-returns c =
+pub sized-spec : {M : Type 1} → statement M
+sized-spec =
+    tie.close
+    (tie.spec
+    (λ c. search needs)
+    (λ c. record { fits = mask-lt (c .before .args .n / 2 ^ 29) 32 })
+    (λ c κs. search needs)
+    (λ c. search needs)
+    (λ c. record { fits = mask-lt (c .before .before .before .before .args .n * 2 ^ 3 % 2 ^ 64) 32 })
+    (λ c κs. search needs)
+    (λ c.
     let a = c .before .before .before .before .before .before .args in
     rw (
       c .before .put2 .ensures,
@@ -34,16 +25,4 @@ returns c =
       and-mask
           (a .n * 2 ^ 3 % 2 ^ 64) 32,
     )
-    (put-length (a .start) (a .n) (search needs))
-
-pub sized-spec : {M : Type 1} → statement M
-sized-spec =
-    tie.close
-    (tie.spec
-    slice-aggregate-put
-    cast-put
-    put-requires
-    slice-aggregate-put-2
-    cast-put-2
-    put-requires-2
-    returns)
+    (put-length (a .start) (a .n) (search needs))))

@@ -3,11 +3,7 @@ use lib.Bits.{and-mask, mask-lt}
 use Rattle.sha256.proofs.octets.low.Statement.{statement}
 use Rattle.sha256.proofs.octets.low.Tie as tie
 
-cast-result : tie.Need-cast-result
-cast-result c = record { fits = mask-lt (c .args .x) 8 }
-
-returns : tie.Need-returns
-returns c = and-mask (c .args .x) 8
-
 pub low-spec : {M : Type 1} → statement M
-low-spec = tie.close (tie.spec cast-result returns)
+low-spec = tie.close (tie.spec
+    (λ c. record { fits = mask-lt (c .args .x) 8 })
+    (λ c. and-mask (c .args .x) 8))

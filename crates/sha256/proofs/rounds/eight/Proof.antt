@@ -16,30 +16,6 @@ Inv-loop k w s₀ i₀ s i = (i ≤ 8) × (rounds (drop i k) (drop i w) s ≡ ro
 abbrev μ-loop : tie.MeasureT-loop
 μ-loop k w s₀ i₀ s i = 8 - i
 
-loop-holds : tie.Need-loop-holds Inv-loop μ-loop
-loop-holds c = search needs
-
-mul-round : tie.Need-mul-round Inv-loop μ-loop
-mul-round c = search needs
-
-shared-slice-read-round : tie.Need-shared-slice-read-round Inv-loop μ-loop
-shared-slice-read-round c = search needs
-
-mul-round-2 : tie.Need-mul-round-2 Inv-loop μ-loop
-mul-round-2 c = search needs
-
-shared-slice-read-round-2 : tie.Need-shared-slice-read-round-2 Inv-loop μ-loop
-shared-slice-read-round-2 c = search needs
-
-round-requires : tie.Need-round-requires Inv-loop μ-loop
-round-requires c κs = search needs
-
-add-i : tie.Need-add-i Inv-loop μ-loop
-add-i c = search needs
-
-loop-less : tie.Need-loop-less Inv-loop μ-loop
-loop-less c = search needs
-
 loop-again : tie.Need-loop-again Inv-loop μ-loop
 loop-again c =
     let a = c .before .before .before .before .before .before .before .args in
@@ -60,13 +36,13 @@ eight-spec =
     (tie.spec
     Inv-loop
     μ-loop
-    loop-holds
-    mul-round
-    shared-slice-read-round
-    mul-round-2
-    shared-slice-read-round-2
-    round-requires
-    add-i
-    loop-less
+    (λ c. search needs)
+    (λ c. search needs)
+    (λ c. search needs)
+    (λ c. search needs)
+    (λ c. search needs)
+    (λ c κs. search needs)
+    (λ c. search needs)
+    (λ c. search needs)
     loop-again
     returns)

@@ -26,51 +26,6 @@ abbrev μ-loop : tie.MeasureT-loop
 loop-holds : tie.Need-loop-holds Inv-loop μ-loop
 loop-holds c = (search needs, search needs, refl, rw add-zero, refl)
 
-mul-round : tie.Need-mul-round Inv-loop μ-loop
-mul-round c = search needs
-
-shared-slice-read-round : tie.Need-shared-slice-read-round Inv-loop μ-loop
-shared-slice-read-round c = search needs
-
-add-round : tie.Need-add-round Inv-loop μ-loop
-add-round c = search needs
-
-mul-round-2 : tie.Need-mul-round-2 Inv-loop μ-loop
-mul-round-2 c = search needs
-
-slice-read-round : tie.Need-slice-read-round Inv-loop μ-loop
-slice-read-round c = search needs
-
-round-requires : tie.Need-round-requires Inv-loop μ-loop
-round-requires c κs = search needs
-
-add-next-word : tie.Need-add-next-word Inv-loop μ-loop
-add-next-word c = search needs
-
-add-next-word-2 : tie.Need-add-next-word-2 Inv-loop μ-loop
-add-next-word-2 c = search needs
-
-next-word-requires : tie.Need-next-word-requires Inv-loop μ-loop
-next-word-requires c κs = search needs
-
-add-w : tie.Need-add-w Inv-loop μ-loop
-add-w c = search needs
-
-add-w-2 : tie.Need-add-w-2 Inv-loop μ-loop
-add-w-2 c = search needs
-
-mul-w : tie.Need-mul-w Inv-loop μ-loop
-mul-w c = search needs
-
-slice-write-w : tie.Need-slice-write-w Inv-loop μ-loop
-slice-write-w c = search needs
-
-add-i : tie.Need-add-i Inv-loop μ-loop
-add-i c = search needs
-
-loop-less : tie.Need-loop-less Inv-loop μ-loop
-loop-less c = search needs
-
 loop-again : tie.Need-loop-again Inv-loop μ-loop
 loop-again c =
     let a = c .before .before .before .before .before .before .before .before .before .args in
@@ -94,9 +49,6 @@ loop-again c =
       rw (c .before .before .round .ensures, kept) (rounds-more k P (l .i) (l .s) hk hP) ∙ l .inv .4,
     )
 
-same-length : tie.Need-same-length Inv-loop μ-loop
-same-length c = search needs
-
 returns : tie.Need-returns Inv-loop μ-loop
 returns c =
     let a = c .before .before .before .before .args in
@@ -115,21 +67,21 @@ eight-growing-spec =
     Inv-loop
     μ-loop
     loop-holds
-    mul-round
-    shared-slice-read-round
-    add-round
-    mul-round-2
-    slice-read-round
-    round-requires
-    add-next-word
-    add-next-word-2
-    next-word-requires
-    add-w
-    add-w-2
-    mul-w
-    slice-write-w
-    add-i
-    loop-less
+    (λ c. search needs)
+    (λ c. search needs)
+    (λ c. search needs)
+    (λ c. search needs)
+    (λ c. search needs)
+    (λ c κs. search needs)
+    (λ c. search needs)
+    (λ c. search needs)
+    (λ c κs. search needs)
+    (λ c. search needs)
+    (λ c. search needs)
+    (λ c. search needs)
+    (λ c. search needs)
+    (λ c. search needs)
+    (λ c. search needs)
     loop-again
-    same-length
+    (λ c. search needs)
     returns)

@@ -30,29 +30,8 @@ Inv-loop2 block k w s₀ t₀ s t =
 abbrev μ-loop2 : tie.MeasureT-loop2
 μ-loop2 block k w s₀ t₀ s t = 64 - t
 
-round-constants-requires : tie.Need-round-constants-requires Inv-loop μ-loop Inv-loop2 μ-loop2
-round-constants-requires c κs = search needs
-
-first-words-requires : tie.Need-first-words-requires Inv-loop μ-loop Inv-loop2 μ-loop2
-first-words-requires c κs = search needs
-
 loop-holds : tie.Need-loop-holds Inv-loop μ-loop Inv-loop2 μ-loop2
 loop-holds c = (search needs, search needs, there-first _ _ (search needs) (c .first-words .ensures), search needs)
-
-add-eight-growing : tie.Need-add-eight-growing Inv-loop μ-loop Inv-loop2 μ-loop2
-add-eight-growing c = search needs
-
-mul-eight-growing : tie.Need-mul-eight-growing Inv-loop μ-loop Inv-loop2 μ-loop2
-mul-eight-growing c = search needs
-
-sub-eight-growing : tie.Need-sub-eight-growing Inv-loop μ-loop Inv-loop2 μ-loop2
-sub-eight-growing c = search needs
-
-part-eight-growing-start : tie.Need-part-eight-growing-start Inv-loop μ-loop Inv-loop2 μ-loop2
-part-eight-growing-start c = search needs
-
-part-eight-growing-end : tie.Need-part-eight-growing-end Inv-loop μ-loop Inv-loop2 μ-loop2
-part-eight-growing-end c = search needs
 
 slice-aggregate-eight-growing :
     tie.Need-slice-aggregate-eight-growing Inv-loop μ-loop Inv-loop2 μ-loop2
@@ -66,12 +45,6 @@ eight-growing-requires c κs =
       omega arith,
       l .inv .2 .long,
     )
-
-add-t : tie.Need-add-t Inv-loop μ-loop Inv-loop2 μ-loop2
-add-t c = search needs
-
-loop-less : tie.Need-loop-less Inv-loop μ-loop Inv-loop2 μ-loop2
-loop-less c = search needs
 
 loop-again : tie.Need-loop-again Inv-loop μ-loop Inv-loop2 μ-loop2
 loop-again c =
@@ -90,36 +63,6 @@ loop-again c =
 loop2-holds : tie.Need-loop2-holds Inv-loop μ-loop Inv-loop2 μ-loop2
 loop2-holds c = (omega arith, c .before .loop .inv .1, refl)
 
-add-eight : tie.Need-add-eight Inv-loop μ-loop Inv-loop2 μ-loop2
-add-eight c = search needs
-
-mul-eight : tie.Need-mul-eight Inv-loop μ-loop Inv-loop2 μ-loop2
-mul-eight c = search needs
-
-sub-eight : tie.Need-sub-eight Inv-loop μ-loop Inv-loop2 μ-loop2
-sub-eight c = search needs
-
-part-eight-start : tie.Need-part-eight-start Inv-loop μ-loop Inv-loop2 μ-loop2
-part-eight-start c = search needs
-
-part-eight-end : tie.Need-part-eight-end Inv-loop μ-loop Inv-loop2 μ-loop2
-part-eight-end c = search needs
-
-add-eight-2 : tie.Need-add-eight-2 Inv-loop μ-loop Inv-loop2 μ-loop2
-add-eight-2 c = search needs
-
-mul-eight-2 : tie.Need-mul-eight-2 Inv-loop μ-loop Inv-loop2 μ-loop2
-mul-eight-2 c = search needs
-
-sub-eight-2 : tie.Need-sub-eight-2 Inv-loop μ-loop Inv-loop2 μ-loop2
-sub-eight-2 c = search needs
-
-part-eight-start-2 : tie.Need-part-eight-start-2 Inv-loop μ-loop Inv-loop2 μ-loop2
-part-eight-start-2 c = search needs
-
-part-eight-end-2 : tie.Need-part-eight-end-2 Inv-loop μ-loop Inv-loop2 μ-loop2
-part-eight-end-2 c = search needs
-
 eight-requires : tie.Need-eight-requires Inv-loop μ-loop Inv-loop2 μ-loop2
 eight-requires c κs =
     let t = c .before .before .before .before .before .loop2 .t in
@@ -130,12 +73,6 @@ eight-requires c κs =
       length-part (k .result) t 8 (omega (arith, ap length (k .ensures) ∙ length-K)),
       length-part (w .w) t 8 (omega (arith, w .inv .2 .long)),
     )
-
-add-t-2 : tie.Need-add-t-2 Inv-loop μ-loop Inv-loop2 μ-loop2
-add-t-2 c = search needs
-
-loop2-less : tie.Need-loop2-less Inv-loop μ-loop Inv-loop2 μ-loop2
-loop2-less c = search needs
 
 loop2-again : tie.Need-loop2-again Inv-loop μ-loop Inv-loop2 μ-loop2
 loop2-again c =
@@ -168,32 +105,32 @@ rounds-spec =
     μ-loop
     Inv-loop2
     μ-loop2
-    round-constants-requires
-    first-words-requires
+    (λ c κs. search needs)
+    (λ c κs. search needs)
     loop-holds
-    add-eight-growing
-    mul-eight-growing
-    sub-eight-growing
-    part-eight-growing-start
-    part-eight-growing-end
+    (λ c. search needs)
+    (λ c. search needs)
+    (λ c. search needs)
+    (λ c. search needs)
+    (λ c. search needs)
     slice-aggregate-eight-growing
     eight-growing-requires
-    add-t
-    loop-less
+    (λ c. search needs)
+    (λ c. search needs)
     loop-again
     loop2-holds
-    add-eight
-    mul-eight
-    sub-eight
-    part-eight-start
-    part-eight-end
-    add-eight-2
-    mul-eight-2
-    sub-eight-2
-    part-eight-start-2
-    part-eight-end-2
+    (λ c. search needs)
+    (λ c. search needs)
+    (λ c. search needs)
+    (λ c. search needs)
+    (λ c. search needs)
+    (λ c. search needs)
+    (λ c. search needs)
+    (λ c. search needs)
+    (λ c. search needs)
+    (λ c. search needs)
     eight-requires
-    add-t-2
-    loop2-less
+    (λ c. search needs)
+    (λ c. search needs)
     loop2-again
     returns)

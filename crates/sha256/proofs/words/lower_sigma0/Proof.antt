@@ -9,18 +9,12 @@ use Rattle.sha256.proofs.RotationLaws.{nest-two}
 use Rattle.sha256.proofs.words.lower_sigma0.Statement.{statement}
 use Rattle.sha256.proofs.words.lower_sigma0.Tie as tie
 
-rotr-requires : tie.Need-rotr-requires
-rotr-requires c κs = search needs
-
-rotr-requires-2 : tie.Need-rotr-requires-2
-rotr-requires-2 c κs = search needs
-
-returns : tie.Need-returns
+pub lower-sigma0-spec : {M : Type 1} → statement M
 unfolding σ0
-returns c =
+lower-sigma0-spec = tie.close (tie.spec
+    (λ c κs. search needs)
+    (λ c κs. search needs)
+    (λ c.
     let x = c .before .before .args .x in
     rw (c .rotr2 .ensures, c .before .rotr .ensures)
-    (ap (λ (n : ℕ). n ⊕ shr 3 x) (nest-two 32 7 11 x (lit≤ tt) (c .before .before .fits .x .fits)))
-
-pub lower-sigma0-spec : {M : Type 1} → statement M
-lower-sigma0-spec = tie.close (tie.spec rotr-requires rotr-requires-2 returns)
+    (ap (λ (n : ℕ). n ⊕ shr 3 x) (nest-two 32 7 11 x (lit≤ tt) (c .before .before .fits .x .fits)))))

@@ -4,12 +4,10 @@ use Rattle.sha256.proofs.BitLaws.{majority}
 use Rattle.sha256.proofs.words.maj.Statement.{statement}
 use Rattle.sha256.proofs.words.maj.Tie as tie
 
-returns : tie.Need-returns
+pub maj-spec : {M : Type 1} → statement M
 unfolding Maj
-returns c =
+maj-spec = tie.close (tie.spec
+    (λ c.
     let a = c .args in
     let f = c .fits in
-    majority 32 (a .x) (a .y) (a .z) (f .x .fits) (f .y .fits) (f .z .fits)
-
-pub maj-spec : {M : Type 1} → statement M
-maj-spec = tie.close (tie.spec returns)
+    majority 32 (a .x) (a .y) (a .z) (f .x .fits) (f .y .fits) (f .z .fits)))

@@ -4,18 +4,10 @@ use Rattle.sha256.specs.Words.{rotr}
 use Rattle.sha256.proofs.words.rotr.Statement.{statement}
 use Rattle.sha256.proofs.words.rotr.Tie as tie
 
-shr-result : tie.Need-shr-result
-shr-result c = search needs
-
-sub-result : tie.Need-sub-result
-sub-result c = search needs
-
-shl-result : tie.Need-shl-result
-shl-result c = search needs
-
-returns : tie.Need-returns
-unfolding rotr
-returns c = search needs
-
 pub rotr-spec : {M : Type 1} → statement M
-rotr-spec = tie.close (tie.spec shr-result sub-result shl-result returns)
+unfolding rotr
+rotr-spec = tie.close (tie.spec
+    (λ c. search needs)
+    (λ c. search needs)
+    (λ c. search needs)
+    (λ c. search needs))

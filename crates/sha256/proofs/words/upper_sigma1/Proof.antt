@@ -6,20 +6,11 @@ use Rattle.sha256.proofs.RotationLaws.{nest-three}
 use Rattle.sha256.proofs.words.upper_sigma1.Statement.{statement}
 use Rattle.sha256.proofs.words.upper_sigma1.Tie as tie
 
-rotr-requires : tie.Need-rotr-requires
-rotr-requires c κs = search needs
-
-rotr-requires-2 : tie.Need-rotr-requires-2
-rotr-requires-2 c κs = search needs
-
-rotr-requires-3 : tie.Need-rotr-requires-3
-rotr-requires-3 c κs = search needs
-
-returns : tie.Need-returns
-unfolding Σ1
-returns c =
-    rw (c .rotr3 .ensures, c .before .rotr2 .ensures, c .before .before .rotr .ensures)
-    (nest-three 32 6 5 14 (c .before .before .before .args .x) (lit≤ tt) (c .before .before .before .fits .x .fits))
-
 pub upper-sigma1-spec : {M : Type 1} → statement M
-upper-sigma1-spec = tie.close (tie.spec rotr-requires rotr-requires-2 rotr-requires-3 returns)
+unfolding Σ1
+upper-sigma1-spec = tie.close (tie.spec
+    (λ c κs. search needs)
+    (λ c κs. search needs)
+    (λ c κs. search needs)
+    (λ c. rw (c .rotr3 .ensures, c .before .rotr2 .ensures, c .before .before .rotr .ensures)
+    (nest-three 32 6 5 14 (c .before .before .before .args .x) (lit≤ tt) (c .before .before .before .fits .x .fits))))

@@ -1,6 +1,6 @@
 -- One call on what the digit covers.
 use borrow.Author.Needs.{needs}
-use Rattle.zone.specs.Form.{placesOf}
+use Rattle.zone.specs.Inner.Places.{placesOf}
 use Rattle.text.specs.Order.{digitAt, digitCheck}
 use Rattle.text.proofs.digits.composite_digit.Statement.{statement}
 use Rattle.text.proofs.digits.composite_digit.Tie as tie

@@ -1,7 +1,7 @@
 -- The checks joined in the order of the form's layout.
 use borrow.Author.Needs.{needs}
 use denote.Ref.{now}
-use Rattle.zone.specs.Form.{placesOf}
+use Rattle.zone.specs.Inner.Places.{placesOf}
 use Rattle.text.proofs.Walks.{digits-in-order}
 use Rattle.text.proofs.digits.digits.Statement.{statement}
 use Rattle.text.proofs.digits.digits.Tie as tie

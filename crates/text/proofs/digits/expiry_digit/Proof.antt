@@ -1,7 +1,8 @@
 -- One call on the field.
 use borrow.Author.Needs.{needs}
 use Rattle.zone.proofs.Widths.{fixed}
-use Rattle.zone.specs.Form.{placesOf, field}
+use Rattle.zone.specs.Form.{field}
+use Rattle.zone.specs.Inner.Places.{placesOf}
 use Rattle.text.specs.Order.{digitCheck}
 use Rattle.text.proofs.digits.expiry_digit.Statement.{statement}
 use Rattle.text.proofs.digits.expiry_digit.Tie as tie

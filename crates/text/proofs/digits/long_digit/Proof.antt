@@ -3,7 +3,7 @@ use borrow.Author.Needs.{needs}
 use mathlib.Core.Path.{ap}
 use native.Mathlib.Omega.{arith}
 use Rattle.zone.specs.Part.{optional}
-use Rattle.zone.specs.Form.{placesOf}
+use Rattle.zone.specs.Inner.Places.{placesOf}
 use Rattle.zone.specs.declared.form.Places.{Places}
 use Rattle.zone.proofs.Widths.{within, total-le}
 use Rattle.text.specs.Order.{digitAt, furtherDigit, digitCheck}

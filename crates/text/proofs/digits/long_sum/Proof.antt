@@ -2,7 +2,8 @@
 use borrow.Author.Needs.{needs}
 use Rattle.digit.proofs.Sums.{over-over, over-digit}
 use Rattle.zone.proofs.Widths.{fixed}
-use Rattle.zone.specs.Form.{placesOf, field}
+use Rattle.zone.specs.Form.{field}
+use Rattle.zone.specs.Inner.Places.{placesOf}
 use Rattle.text.specs.Number.{checkedBy}
 use Rattle.text.proofs.digits.long_sum.Statement.{statement}
 use Rattle.text.proofs.digits.long_sum.Tie as tie

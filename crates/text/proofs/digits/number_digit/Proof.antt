@@ -1,7 +1,8 @@
 -- The cases of `numberDigit`.
 use borrow.Author.Needs.{needs}
 use Rattle.zone.proofs.Widths.{fixed}
-use Rattle.zone.specs.Form.{placesOf, field}
+use Rattle.zone.specs.Form.{field}
+use Rattle.zone.specs.Inner.Places.{placesOf}
 use Rattle.text.specs.Number.{checkedBy}
 use Rattle.text.specs.Order.{numberDigit, digitCheck}
 use Rattle.text.proofs.digits.number_digit.Statement.{statement}

@@ -1,7 +1,8 @@
 -- One call on the field, where the form has it.
 use borrow.Author.Needs.{needs}
 use borrow.Author.Tests.{lt-ltb, le-ltb}
-use Rattle.zone.specs.Form.{placesOf, field}
+use Rattle.zone.specs.Form.{field}
+use Rattle.zone.specs.Inner.Places.{placesOf}
 use Rattle.text.specs.Order.{digitCheck}
 use Rattle.text.specs.Inner.Checks.{ifHas}
 use Rattle.text.proofs.digits.personal_digit.Statement.{statement}

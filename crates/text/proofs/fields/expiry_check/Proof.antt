@@ -2,7 +2,8 @@
 use borrow.Author.Needs.{needs}
 use Rattle.zone.proofs.Widths.{fixed}
 use Rattle.text.specs.Order.{fieldCheck}
-use Rattle.zone.specs.Form.{placesOf, field}
+use Rattle.zone.specs.Form.{field}
+use Rattle.zone.specs.Inner.Places.{placesOf}
 use Rattle.text.proofs.fields.expiry_check.Statement.{statement}
 use Rattle.text.proofs.fields.expiry_check.Tie as tie
 

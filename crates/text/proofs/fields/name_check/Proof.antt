@@ -1,7 +1,8 @@
 -- The rule on the field, at the field's start.
 use borrow.Author.Needs.{needs}
 use Rattle.text.specs.Order.{fieldCheck}
-use Rattle.zone.specs.Form.{placesOf, field}
+use Rattle.zone.specs.Form.{field}
+use Rattle.zone.specs.Inner.Places.{placesOf}
 use Rattle.text.proofs.fields.name_check.Statement.{statement}
 use Rattle.text.proofs.fields.name_check.Tie as tie
 

@@ -1,7 +1,8 @@
 -- The tests of `isLong`, and the filler that is found.
 use borrow.Author.Needs.{needs}
 use Rattle.zone.specs.Alphabet.{isFiller}
-use Rattle.zone.specs.Form.{placesOf, field}
+use Rattle.zone.specs.Form.{field}
+use Rattle.zone.specs.Inner.Places.{placesOf}
 use Rattle.text.specs.Number.{spanOf, isLong}
 use Rattle.text.proofs.number.span_of.Statement.{statement}
 use Rattle.text.proofs.number.span_of.Tie as tie

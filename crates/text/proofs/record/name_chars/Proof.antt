@@ -4,7 +4,8 @@ use denote.Ref.{now}
 use mathlib.Core.Path.{sym, _∙_}
 use Rattle.zone.specs.Part.{name}
 use Rattle.zone.proofs.Padded.{copied-padded, padded-trimmed}
-use Rattle.zone.specs.Form.{placesOf, field}
+use Rattle.zone.specs.Form.{field}
+use Rattle.zone.specs.Inner.Places.{placesOf}
 use Rattle.text.proofs.record.name_chars.Statement.{statement}
 use Rattle.text.proofs.record.name_chars.Tie as tie
 

@@ -1,7 +1,8 @@
 -- The trimmed length of the field.
 use borrow.Author.Needs.{needs}
 use Rattle.zone.proofs.Padded.{trimmed-length}
-use Rattle.zone.specs.Form.{placesOf, field}
+use Rattle.zone.specs.Form.{field}
+use Rattle.zone.specs.Inner.Places.{placesOf}
 use Rattle.text.proofs.record.name_length.Statement.{statement}
 use Rattle.text.proofs.record.name_length.Tie as tie
 

@@ -6,7 +6,8 @@ use denote.Ref.{now}
 use lib.ListN.{take, drop, length-append}
 use Rattle.zone.specs.Part.{number, optional}
 use Rattle.zone.proofs.Padded.{trimmed-length}
-use Rattle.zone.specs.Form.{placesOf, field, start}
+use Rattle.zone.specs.Form.{field, start}
+use Rattle.zone.specs.Inner.Places.{placesOf}
 use Rattle.text.specs.Number.{numberBy}
 use Rattle.text.proofs.record.number_length.Statement.{statement}
 use Rattle.text.proofs.record.number_length.Tie as tie

@@ -1,7 +1,8 @@
 -- Field by field.
 use borrow.Author.Needs.{needs}
 use Rattle.zone.proofs.Widths.{fixed}
-use Rattle.zone.specs.Form.{placesOf, field}
+use Rattle.zone.specs.Form.{field}
+use Rattle.zone.specs.Inner.Places.{placesOf}
 use Rattle.text.specs.Read.{recordBy}
 use Rattle.text.proofs.record.record_by.Statement.{statement}
 use Rattle.text.proofs.record.record_by.Tie as tie

@@ -3,15 +3,11 @@ use Rattle.tlv.proofs.Stretches.{has-within, has-without}
 use Rattle.tlv.proofs.cut.has_octets.Statement.{statement}
 use Rattle.tlv.proofs.cut.has_octets.Tie as tie
 
-returns : tie.Need-returns
-returns c =
-    let a = c .before .before .before .args in
-    has-within (a .n) (a .v) (c .before .if1 .taken)
-
-returns-2 : tie.Need-returns-2
-returns-2 c =
-    let a = c .before .before .args in
-    has-without (a .n) (a .v) (c .if1 .left)
-
 pub has-octets-spec : {M : Type 1} → statement M
-has-octets-spec = tie.close (tie.spec returns returns-2)
+has-octets-spec = tie.close (tie.spec
+    (λ c.
+    let a = c .before .before .before .args in
+    has-within (a .n) (a .v) (c .before .if1 .taken))
+    (λ c.
+    let a = c .before .before .args in
+    has-without (a .n) (a .v) (c .if1 .left)))

@@ -6,29 +6,6 @@ use native.Mathlib.Omega.{arith}
 use Rattle.tlv.proofs.tags.group_of.Statement.{statement}
 use Rattle.tlv.proofs.tags.group_of.Tie as tie
 
-sub-result : tie.Need-sub-result
-sub-result c = search needs
-
-returns : tie.Need-returns
-unfolding groupOf
-returns c = (simp (c .match .keys1), search needs)
-
-returns-2 : tie.Need-returns-2
-unfolding groupOf
-returns-2 c = (simp (c .match .keys2), search needs)
-
-returns-3 : tie.Need-returns-3
-unfolding groupOf
-returns-3 c = (simp (c .match .keys3), search needs)
-
-returns-4 : tie.Need-returns-4
-unfolding groupOf
-returns-4 c = (simp (c .match .keys4), search needs)
-
-returns-5 : tie.Need-returns-5
-unfolding groupOf
-returns-5 c = (simp (c .match .keys5), search needs)
-
 returns-6 : tie.Need-returns-6
 unfolding groupOf
 returns-6 c = (
@@ -79,15 +56,16 @@ returns-8 c = (
 )
 
 pub group-of-spec : {M : Type 1} → statement M
+unfolding groupOf
 group-of-spec =
     tie.close
     (tie.spec
-    sub-result
-    returns
-    returns-2
-    returns-3
-    returns-4
-    returns-5
+    (λ c. search needs)
+    (λ c. (simp (c .match .keys1), search needs))
+    (λ c. (simp (c .match .keys2), search needs))
+    (λ c. (simp (c .match .keys3), search needs))
+    (λ c. (simp (c .match .keys4), search needs))
+    (λ c. (simp (c .match .keys5), search needs))
     returns-6
     returns-7
     returns-8)

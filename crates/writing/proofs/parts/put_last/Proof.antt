@@ -1,7 +1,7 @@
 -- Each call puts its part.
 use borrow.Author.Needs.{needs}
 use Rattle.writing.specs.Text.{mark, putLast}
-use Rattle.zone.specs.Form.{placesOf}
+use Rattle.zone.specs.Inner.Places.{placesOf}
 use Rattle.writing.proofs.parts.put_last.Statement.{statement}
 use Rattle.writing.proofs.parts.put_last.Tie as tie
 

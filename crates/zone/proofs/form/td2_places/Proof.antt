@@ -1,6 +1,7 @@
 -- The starts that the layout's widths add up to.
 use mathlib.Core.Path.{refl}
-use Rattle.zone.specs.Form.{placesOf, layout, start, startIn}
+use Rattle.zone.specs.Form.{layout, start, startIn}
+use Rattle.zone.specs.Inner.Places.{placesOf}
 use Rattle.zone.specs.Part.{rank, same}
 use Rattle.zone.proofs.form.td2_places.Statement.{statement}
 use Rattle.zone.proofs.form.td2_places.Tie as tie
