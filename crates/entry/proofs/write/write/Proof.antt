@@ -12,18 +12,17 @@ use Rattle.entry.proofs.write.write.Tie as tie
 
 size-requires : tie.Need-size-requires
 size-requires c κs =
+    let a = c .before .before .before .before .args in
     let kept = rw (c .before .is-sound .ensures, c .before .before .is-house .ensures) at (c .if1 .taken) in
-    let fits = kept-fits (c .before .before .before .before .args .house) (c .before .before .before .before .args .r) kept in
+    let fits = kept-fits (a .house) (a .r) kept in
     search needs
 
 write-bits-requires : tie.Need-write-bits-requires
 write-bits-requires c κs =
-    let kept = rw (
-      c .before .before .before .before .is-sound .ensures,
-      c .before .before .before .before .before .is-house .ensures,
-    ) at (c .before .before .before .if1 .taken) in
-    kept-fits (c .before .before .before .before .before .before .before .args .house)
-    (c .before .before .before .before .before .before .before .args .r) kept
+    let early = c .before .before .before in
+    let a = early .before .before .before .before .args in
+    kept-fits (a .house) (a .r) (rw (early .before .is-sound .ensures, early .before .before .is-house .ensures) at
+    (early .if1 .taken))
 
 returns : tie.Need-returns
 unfolding entryAnswer entryOut
@@ -33,25 +32,26 @@ returns c =
     let kept = rw (
       c .before .before .before .before .before .before .before .is-sound .ensures,
       c .before .before .before .before .before .before .before .before .is-house .ensures,
-    ) at
-    (c .before .before .before .before .before .before .if1 .taken) in
+    )
+    at (c .before .before .before .before .before .before .if1 .taken) in
     let room = rw s at (c .before .before .before .before .if2 .taken) in
     let h = le-leb _ _ room in
     let n =
     length-entry (a .house) (a .r) (search needs) (search needs) (search needs) (search needs) (search needs) (search needs)
-    (search needs)
-    (kept-fits (a .house) (a .r) kept .1) in
+    (search needs) (kept-fits (a .house) (a .r) kept .1) in
     record {
       answer = rw (kept, h, s);
-      output = rw (kept, h) (c .before .before .write-bits .ensures
+      output =
+          rw (kept, h)
+          (c .before .before .write-bits .ensures
           ∙ sets-front (now (a .out)) (entryOf (a .house) (a .r)) (size (a .r .«name_len»)) n room);
     }
 
 returns-2 : tie.Need-returns-2
 unfolding entryAnswer entryOut
 returns-2 c =
-    let kept = rw (c .before .before .before .is-sound .ensures, c .before .before .before .before .is-house .ensures) at
-    (c .before .before .if1 .taken) in
+    let early = c .before .before in
+    let kept = rw (early .before .is-sound .ensures, early .before .before .is-house .ensures) at (early .if1 .taken) in
     let h = rw (c .before .size .ensures .0) at (lt-leb _ _ (c .if2 .left)) in
     record { answer = rw (kept, h); output = rw (kept, h) }
 
