@@ -8,6 +8,7 @@ ghost use Rattle.zone.specs.Rooms.{codeRoom, stateRoom, dateRoom, numberRoom, n
 ghost use Rattle.entry.specs.Codes.{formBy, sexBy};
 ghost use Rattle.entry.specs.Run.{charactersAt};
 use crate::bits::six;
+use crate::places;
 use zone::alphabet::FILLER;
 use zone::codes::characters;
 use zone::form::Form;
@@ -47,7 +48,7 @@ fn unpack(to: &mut [u8], s: &[u8], at: usize, n: usize)
         if n <= i {
             return;
         }
-        to[i] = table[six(s, at + 6 * i) as usize];
+        to[i] = table[six(s, at + places::CHARACTER * i) as usize];
         i += 1;
     }
 }

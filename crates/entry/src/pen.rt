@@ -7,6 +7,7 @@ ghost use mathlib.Core.List.{[]};
 ghost use Rattle.entry.specs.Bits.{put, gathered};
 ghost use Rattle.entry.specs.Entry.{puts};
 ghost use Rattle.entry.specs.Inner.Ink.{Ready, Reached, Wrote};
+use crate::places;
 use zone::codes::code_of;
 
 // So many bits of an octet, the number that they say, and the place where that octet goes.
@@ -84,7 +85,7 @@ pub(crate) fn push_all(out: &mut [u8], start: Pen, s: &[u8]) -> Pen
     let mut i = 0;
     while i < s.len() {
         let code = code_of(s[i]) as u32;
-        let next = push(out, pen, 6, code);
+        let next = push(out, pen, places::CHARACTER as u32, code);
         pen = next;
         i += 1;
     }

@@ -44,6 +44,7 @@ push-all-spec =
     (λ c. search needs)
     (λ c κs. search needs)
     (λ c. search needs)
+    (λ c. search needs)
     (λ c κs. (c .before .before .before .before .loop .inv .2 .ready, search needs, c .before .code-of .ensures .1))
     (λ c. search needs)
     (λ c. search needs)
