@@ -92,7 +92,7 @@ impl Verdict {
         if holds {
             Verdict::Passed
         } else {
-            Verdict::Refused(Refusal { cause, place })
+            Verdict::Refused(Refusal::at(cause, place))
         }
     }
 
