@@ -1,4 +1,4 @@
 -- The laws of this crate.
-pub mod Numbers  -- what a number leaves in its room
+pub mod Numbers  -- what a number leaves in its room, and where a long one ends
 pub mod Walks  -- the order in which the code joins its checks is the text order
 pub mod Near  -- a refusal stands near the text

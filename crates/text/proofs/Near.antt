@@ -1,22 +1,21 @@
 -- A text's refusal stands near the text: so near that its place in what holds the text is a number of the machine.
 use Prim.Native.Nat.{ℕ, _+_, _-_, _≤_}
-use mathlib.Core.Path.{_≡_, refl, ap}
-use mathlib.Core.Bool.{Bool, true, false, cond, _&&_}
+use mathlib.Core.Path.{_≡_, refl}
+use mathlib.Core.Bool.{Bool, true, false}
 use mathlib.Core.List.{List, [], _∷_}
 use native.Mathlib.Omega.{arith}
-use borrow.Author.Tests.{leb-true, le-leb, ltb-true}
-use lib.Dec.{leb, ltb, eqb}
+use borrow.Author.Tests.{leb-true, le-leb}
+use lib.Dec.{leb, eqb}
 use lib.ListN.{length, getD}
-use Rattle.lent.proofs.Bools.{and-both}
 use Rattle.refusal.specs.Outcome.{Outcome, passed, refused, unless, orElse}
 use Rattle.zone.specs.declared.form.Form.{Form}
 use Rattle.zone.specs.declared.form.Recognised.{Recognised}
 use Rattle.zone.specs.declared.form.Recognised.the-variants.{As, Unknown}
 use Rattle.zone.specs.declared.record.Record.{Record}
-use Rattle.zone.specs.Alphabet.{first, firstForeign, isForeign, firstFiller}
+use Rattle.zone.specs.Alphabet.{first, firstForeign, isForeign}
 use Rattle.zone.specs.Part.{Part, code, state, number, numberCheck, optional, birth, birthCheck, sex, expiry, expiryCheck}
 use Rattle.zone.specs.Part.{nationality, optional2, composite, name, personal, personalCheck}
-use Rattle.zone.specs.Form.{formOf, parts, start, width, field}
+use Rattle.zone.specs.Form.{formOf, parts, start, field}
 use Rattle.zone.proofs.Widths.{within, total-le}
 use Rattle.field.specs.Code.{codeRule}
 use Rattle.field.specs.Letters.{stateRule, sexRule, nameRule}
@@ -24,10 +23,11 @@ use Rattle.field.specs.Date.{birthRule, expiryRule}
 use Rattle.text.specs.declared.number.Span.{Span}
 use Rattle.text.specs.declared.number.Span.the-variants.{Short, Long, Bad}
 use Rattle.digit.specs.Check.{digitOf}
-use Rattle.text.specs.Number.{isLong, cutAt, spanOf, checkedBy, numberRule}
+use Rattle.text.specs.Number.{spanOf, checkedBy, numberRule}
 use Rattle.text.specs.Order.{characters, fieldCheck, digitAt, numberDigit, furtherDigit, digitCheck, inOrder, verdictBy}
 use Rattle.text.specs.Read.{readText, readBy, answered, recordBy}
 use Rattle.zone.proofs.First.{first-le}
+use Rattle.text.proofs.Numbers.{span-within}
 
 -- a refusal within m, or none
 isNear : ℕ → Outcome → Bool
@@ -48,23 +48,6 @@ near-order : (m : ℕ) (check : Part → Outcome) → ((x : Part) → isNear m (
 unfolding inOrder isNear
 near-order m check each [] = refl
 near-order m check each (x ∷ xs) = near-else m (check x) (inOrder check xs) (each x) (near-order m check each xs)
-
--- the further characters are fewer than the optional field has places
-near-span : (f : Form) (filler n : ℕ) → cutAt f filler ≡ Long n → n ≤ 90
-unfolding cutAt
-near-span f filler n e = go (leb 2 filler && ltb filler (width f optional)) refl e
-  where
-    lengthIn : Span → ℕ
-    lengthIn Short = 0
-    lengthIn (Long k) = k
-    lengthIn Bad = 0
-
-    go : (b : Bool) → leb 2 filler && ltb filler (width f optional) ≡ b → cond b (Long (filler - 1)) Bad ≡ Long n → n ≤ 90
-    go true p h =
-        let q : filler - 1 ≡ n = ap lengthIn h in
-        let r = ltb-true filler (width f optional) (and-both (leb 2 filler) (ltb filler (width f optional)) p .1) in
-        omega (arith, q, r, within f optional, total-le f)
-    go false p h = let q : 0 ≡ n = ap lengthIn h in omega (arith, q)
 
 module _ (m : ℕ) (big : 180 ≤ m) where
   near-start : (f : Form) (x : Part) → start f x ≤ m
@@ -129,17 +112,7 @@ module _ (m : ℕ) (big : 180 ≤ m) where
   near-digits f t span h personal = refl
 
 long-near : (f : Form) (t : List ℕ) (n : ℕ) → spanOf f t ≡ Long n → n ≤ 90
-unfolding spanOf
-long-near f t n e = go (isLong f t) e
-  where
-    lengthIn : Span → ℕ
-    lengthIn Short = 0
-    lengthIn (Long k) = k
-    lengthIn Bad = 0
-
-    go : (b : Bool) → cond b (cutAt f (firstFiller (field f optional t))) Short ≡ Long n → n ≤ 90
-    go true h = near-span f (firstFiller (field f optional t)) n h
-    go false h = let q : 0 ≡ n = ap lengthIn h in omega (arith, q)
+long-near f t n e = omega (arith, span-within f t n e, within f optional, total-le f)
 
 near-characters : (m : ℕ) (t : List ℕ) → length t ≤ m → isNear m (characters t) ≡ true
 unfolding characters firstForeign

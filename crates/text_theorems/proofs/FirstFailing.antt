@@ -17,7 +17,7 @@ use Rattle.zone.specs.declared.form.Form.the-variants.{Td1, Td2, Td3}
 use Rattle.zone.specs.Form.{formOf, layout, partOf, parts, start, startIn, width}
 use Rattle.text.specs.declared.number.Span.the-variants.{Long}
 use Rattle.text.specs.Number.{spanOf}
-use Rattle.text_theorems.proofs.NumberSpan.{span-within}
+use Rattle.text.proofs.Numbers.{span-within}
 use Rattle.text.specs.Order.{inOrder, verdictBy, fieldCheck, digitCheck}
 use Rattle.text.specs.Read.{readText, readBy, answered, recordBy}
 use Rattle.zone.specs.declared.record.Record.{Record}

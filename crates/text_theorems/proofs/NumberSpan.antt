@@ -3,7 +3,6 @@ use Prim.Native.Nat.{ℕ, _-_, _≤_, _<_}
 use mathlib.Core.Path.{_≡_, refl}
 use mathlib.Core.Bool.{Bool, true, false, cond, _&&_, false≢true}
 use mathlib.Core.List.{List}
-use native.Mathlib.Omega.{arith}
 use borrow.Author.Tests.{le-leb, lt-ltb, leb-true, ltb-true}
 use lib.Dec.{leb, ltb}
 use Rattle.lent.proofs.Bools.{and-both}
@@ -49,17 +48,3 @@ unfolding has among parts partOf layout same rank isLong longest
 long-has Td1 t e = refl
 long-has Td2 t e = refl
 long-has Td3 t e = absurd (false≢true e)
-
--- the further characters and their digit stand within the optional field
-pub span-within : (f : Form) (t : List ℕ) (n : ℕ) → spanOf f t ≡ Long n → n < width f optional
-unfolding spanOf cutAt
-span-within f t n e = go (isLong f t) (leb 2 (fillerAt f t) && ltb (fillerAt f t) (width f optional)) refl e
-  where
-    go : (a b : Bool) → leb 2 (fillerAt f t) && ltb (fillerAt f t) (width f optional) ≡ b
-        → cond a (cond b (Long (fillerAt f t - 1)) Bad) Short ≡ Long n → n < width f optional
-    go false b p q = absurd (let z : _≡_ {A = ℕ} 0 1 = cc in omega arith)
-    go true false p q = absurd (let z : _≡_ {A = ℕ} 0 1 = cc in omega arith)
-    go true true p q =
-        let both = and-both (leb 2 (fillerAt f t)) (ltb (fillerAt f t) (width f optional)) p in
-        let same-number : fillerAt f t - 1 ≡ n = cc in
-        omega (arith, ltb-true (fillerAt f t) (width f optional) (both .1))
