@@ -41,6 +41,27 @@ typedef struct lamphudet_stretch {
     uint64_t start, length;
 } lamphudet_stretch;
 
+/* The forms, each by its code in an entry. These numbers stay what they are. */
+enum lamphudet_form {
+    LAMPHUDET_TD1 = 0,
+    LAMPHUDET_TD2 = 1,
+    LAMPHUDET_TD3 = 2
+};
+
+/*
+ * What an entry holds. The fields are characters, A-Z, 0-9 and the filler <, and no zero ends them:
+ * each fills its array, document_number and name with fillers behind their lengths.
+ */
+typedef struct lamphudet_record {
+    uint32_t number; /* 0, or 18 */
+    uint32_t house;
+    uint8_t form; /* LAMPHUDET_TD1, LAMPHUDET_TD2 or LAMPHUDET_TD3 */
+    uint8_t sex;  /* F, M or < */
+    uint8_t document_number_len, name_len;
+    uint8_t code[2], state[3], nationality[3], birth[6], expiry[6];
+    uint8_t document_number[22], name[39];
+} lamphudet_record;
+
 /*
  * The refusals. These numbers stay what they are.
  *
@@ -123,7 +144,7 @@ static inline const char *lamphudet_words(uint32_t number)
  * The first LAMPHUDET_KEY octets of two entries agree exactly when house, form, issuing state,
  * complete document number, birth and expiry agree.
  *
- * A host that shows an entry finds the record in its bits, the most significant first: house 15,
+ * What it holds is told by lamphudet_open_entry. The bits, the most significant first: house 15,
  * form 3 (TD1 0, TD2 1, TD3 2), state 18, number 132 (filled up with <), birth 36, expiry 36, which
  * is the key; then code 12, nationality 18, sex 2 (< 0, F 1, M 2), name length 6, name, and zero
  * bits to the next octet. A character is 6 bits: < 0, digits 1 to 10, letters 11 to 36.
@@ -231,6 +252,16 @@ lamphudet_stretch lamphudet_group_file(const uint8_t *presentation, size_t prese
  *   16  at 0: text has fewer octets than this text needs
  */
 lamphudet_answer lamphudet_write_text(const uint8_t *entry, size_t entry_len, uint8_t *text, size_t text_len);
+
+/*
+ * Opens an entry: answers 0, its house, and its record field by field. Writes nothing.
+ *
+ * Refuses:
+ *   18  at 0, which is not told: entry is not exactly one entry; none at all, a part of one, or one
+ *       with anything behind it. The house is then 0, and the record is the blank one: TD1, fillers
+ *       in every field, lengths 0.
+ */
+lamphudet_record lamphudet_open_entry(const uint8_t *entry, size_t entry_len);
 
 /*
  * Goes along a run, which is entries joined with nothing between. Answers 0 and the offset behind

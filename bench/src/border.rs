@@ -1,6 +1,7 @@
 //! The calls of the archive over bare ranges, with nothing around them that would be measured too.
 
 use paper::answer::Answer;
+use paper::opened::Opened;
 use shared::header;
 
 pub fn digest(input: &[u8], output: &mut [u8]) -> Answer {
@@ -16,6 +17,11 @@ pub fn read_text(house: u32, text: &[u8], entry: &mut [u8]) -> Answer {
 pub fn write_text(entry: &[u8], text: &mut [u8]) -> Answer {
     // As for the digest.
     unsafe { header::lamphudet_write_text(entry.as_ptr(), entry.len(), text.as_mut_ptr(), text.len()) }
+}
+
+pub fn open_entry(entry: &[u8]) -> Opened {
+    // The range is valid for its length.
+    unsafe { header::lamphudet_open_entry(entry.as_ptr(), entry.len()) }
 }
 
 pub fn next_entry(run: &[u8], offset: u64) -> Answer {

@@ -13,6 +13,8 @@ pub enum Job {
     ReadText,
     /// One entry of a run read.
     NextEntry,
+    /// One entry read, and every field of its record handed out.
+    OpenEntry,
     /// One entry read, and its text written.
     WriteText,
     /// One presentation of so many octets read, and its entry written.
@@ -24,7 +26,7 @@ pub enum Job {
 impl Job {
     /// One block, two sizes between, and the longest input.
     pub const DIGESTS: [Job; 4] = [Job::Digest(64), Job::Digest(1_024), Job::Digest(16_384), Job::Digest(65_535)];
-    pub const RECORDS: [Job; 3] = [Job::ReadText, Job::NextEntry, Job::WriteText];
+    pub const RECORDS: [Job; 4] = [Job::ReadText, Job::NextEntry, Job::OpenEntry, Job::WriteText];
     /// 2, 16 and 60 KB.
     pub const PRESENTATIONS: [Job; 3] =
         [Job::ReadPresentation(2_048), Job::ReadPresentation(16_384), Job::ReadPresentation(61_440)];
@@ -34,6 +36,7 @@ impl Job {
             Job::Digest(_) => "digest",
             Job::ReadText => "read_text",
             Job::NextEntry => "next_entry",
+            Job::OpenEntry => "open_entry",
             Job::WriteText => "write_text",
             Job::ReadPresentation(_) => "read_presentation",
             Job::DigestFiles(_) => "digest_files",
@@ -46,6 +49,7 @@ impl Job {
             Job::Digest(size) | Job::ReadPresentation(size) | Job::DigestFiles(size) => grouped(size as u64),
             Job::ReadText => "texts read, entries written".into(),
             Job::NextEntry => "entries read".into(),
+            Job::OpenEntry => "entries opened".into(),
             Job::WriteText => "texts written from entries".into(),
         }
     }
@@ -54,7 +58,7 @@ impl Job {
     pub fn size(self) -> usize {
         match self {
             Job::Digest(size) | Job::ReadPresentation(size) | Job::DigestFiles(size) => size,
-            Job::ReadText | Job::NextEntry | Job::WriteText => 0,
+            Job::ReadText | Job::NextEntry | Job::OpenEntry | Job::WriteText => 0,
         }
     }
 

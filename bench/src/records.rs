@@ -4,9 +4,11 @@ use crate::border;
 use crate::contender::Contender;
 use crate::job::{Job, Work};
 use paper::answer::Answer;
+use paper::opened::Opened;
 use paper::{calls, entry, text};
 use shared::records;
 use shared::seeds::Seeds;
+use std::hint::black_box;
 
 const RECORDS: usize = 256;
 
@@ -14,6 +16,7 @@ pub fn of(contender: Contender, job: Job) -> Option<Work> {
     match (contender, job) {
         (Contender::Library, Job::ReadText) => Some(over(texts(), |text, room| border::read_text(1, text, room))),
         (Contender::Library, Job::WriteText) => Some(over(entries(), border::write_text)),
+        (Contender::Library, Job::OpenEntry) => Some(opening(border::open_entry)),
         (Contender::Library, Job::NextEntry) => Some(along(border::next_entry)),
         (Contender::Rust, Job::ReadText) => Some(over(texts(), |text, room| {
             let outcome = calls::read_text(1, text, room.len());
@@ -25,6 +28,7 @@ pub fn of(contender: Contender, job: Job) -> Option<Work> {
             room[..outcome.written.len()].copy_from_slice(&outcome.written);
             outcome.answer
         })),
+        (Contender::Rust, Job::OpenEntry) => Some(opening(calls::open_entry)),
         (Contender::Rust, Job::NextEntry) => Some(along(calls::next_entry)),
         _ => None,
     }
@@ -47,6 +51,11 @@ fn over(lent: Vec<Vec<u8>>, call: impl Fn(&[u8], &mut [u8]) -> Answer + 'static)
         assert_eq!(call(&lent[at], &mut room).number, 0);
         at = (at + 1) % RECORDS;
     })
+}
+
+/// One entry at each turn, and every field of it, which the compiler must not leave out.
+fn opening(call: impl Fn(&[u8]) -> Opened + 'static) -> Work {
+    over(entries(), move |entry, _| Answer { number: black_box(call(entry)).number, value: 0 })
 }
 
 /// The next entry of a run at each turn, and the first one after the last.

@@ -8,7 +8,7 @@ use crate::{digests, presentations, records};
 pub fn of(contender: Contender, job: Job) -> Option<Work> {
     match job {
         Job::Digest(size) => digests::of(contender, size),
-        Job::ReadText | Job::NextEntry | Job::WriteText => records::of(contender, job),
+        Job::ReadText | Job::NextEntry | Job::OpenEntry | Job::WriteText => records::of(contender, job),
         Job::ReadPresentation(_) | Job::DigestFiles(_) => presentations::of(contender, job),
     }
 }

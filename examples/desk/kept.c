@@ -1,14 +1,14 @@
 #include "kept.h"
 
+#include "record.h"
 #include "show.h"
 
 void show_kept(const uint8_t *entry, size_t len)
 {
     uint8_t text[LAMPHUDET_TEXT_MAX];
-    struct record record;
+    lamphudet_record record = lamphudet_open_entry(entry, len);
     lamphudet_answer written = lamphudet_write_text(entry, len, text, sizeof text);
 
-    record_of_entry(&record, entry, len);
     show_record(&record);
     show_hex("entry", entry, len);
     if (written.number == 0) {

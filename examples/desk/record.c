@@ -1,65 +1,49 @@
 #include "record.h"
 
-#include <string.h>
+#include <inttypes.h>
+#include <stdio.h>
 
-struct bits {
-    const uint8_t *octets;
-    size_t len;
-    size_t used;
-};
+/* A field for a format's .*s: it ends in no zero, and is shown whole or up to its length. */
+#define UP_TO(field, len) (int)(len), (const char *)(field)
+#define WHOLE(field) UP_TO(field, sizeof(field))
 
-/* The next bits as a number, the most significant first. Past the end there are zeros. */
-static unsigned take(struct bits *bits, unsigned width)
+static const char *form_name(uint8_t form)
 {
-    unsigned number = 0;
-
-    for (; width > 0; width--, bits->used++) {
-        size_t octet = bits->used / 8;
-        unsigned bit = octet < bits->len ? bits->octets[octet] >> (7 - bits->used % 8) & 1u : 0;
-
-        number = number << 1 | bit;
+    switch (form) {
+    case LAMPHUDET_TD1: return "TD1";
+    case LAMPHUDET_TD2: return "TD2";
+    case LAMPHUDET_TD3: return "TD3";
+    default: return "?";
     }
-    return number;
 }
 
-static void take_characters(struct bits *bits, char *field, size_t count)
+void show_record(const lamphudet_record *record)
 {
-    static const char alphabet[] = "<0123456789ABCDEFGHIJKLMNOPQRSTUVWXYZ";
-    size_t at;
-
-    for (at = 0; at < count; at++) {
-        unsigned code = take(bits, 6);
-
-        field[at] = code < sizeof alphabet - 1 ? alphabet[code] : '?';
-    }
-    field[count] = '\0';
+    printf("  house        %" PRIu32 "\n", record->house);
+    printf("  form         %s\n", form_name(record->form));
+    printf("  code         %.*s\n", WHOLE(record->code));
+    printf("  state        %.*s\n", WHOLE(record->state));
+    printf("  number       %.*s\n", UP_TO(record->document_number, record->document_number_len));
+    printf("  nationality  %.*s\n", WHOLE(record->nationality));
+    printf("  birth        %.*s\n", WHOLE(record->birth));
+    printf("  sex          %c\n", record->sex);
+    printf("  expiry       %.*s\n", WHOLE(record->expiry));
+    printf("  name         %.*s\n", UP_TO(record->name, record->name_len));
 }
 
-static void drop_fillers(char *field)
+/* Columns of one width each, but for the name, which is last. */
+void show_heading(void)
 {
-    size_t len = strlen(field);
-
-    while (len > 0 && field[len - 1] == '<') {
-        len--;
-    }
-    field[len] = '\0';
+    printf("  %6s  %5s  %-4s  %-4s  %-5s  %-22s  %-6s  %-6s  %-3s  %-6s  %s\n", "offset", "house", "form", "code", "state",
+           "number", "nation", "birth", "sex", "expiry", "name");
 }
 
-void record_of_entry(struct record *record, const uint8_t *entry, size_t len)
+void show_row(uint64_t offset, const lamphudet_record *record)
 {
-    static const char *const forms[8] = { "TD1", "TD2", "TD3", "?", "?", "?", "?", "?" };
-    static const char *const sexes[4] = { "<", "F", "M", "?" };
-    struct bits bits = { entry, len, 0 };
-
-    record->house = take(&bits, 15);
-    record->form = forms[take(&bits, 3)];
-    take_characters(&bits, record->state, 3);
-    take_characters(&bits, record->number, 22);
-    drop_fillers(record->number);
-    take_characters(&bits, record->birth, 6);
-    take_characters(&bits, record->expiry, 6);
-    take_characters(&bits, record->code, 2);
-    take_characters(&bits, record->nationality, 3);
-    strcpy(record->sex, sexes[take(&bits, 2)]);
-    take_characters(&bits, record->name, take(&bits, 6));
+    printf("  %6" PRIu64 "  %5" PRIu32 "  %-4s", offset, record->house, form_name(record->form));
+    printf("  %-4.*s  %-5.*s", WHOLE(record->code), WHOLE(record->state));
+    printf("  %-22.*s", UP_TO(record->document_number, record->document_number_len));
+    printf("  %-6.*s  %-6.*s", WHOLE(record->nationality), WHOLE(record->birth));
+    printf("  %-3c  %-6.*s", record->sex, WHOLE(record->expiry));
+    printf("  %.*s\n", UP_TO(record->name, record->name_len));
 }

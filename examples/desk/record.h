@@ -1,25 +1,14 @@
-/* The record that an entry holds, taken from its bits as lamphudet.h lays them out. */
+/* A record as the desk shows it. */
 #ifndef DESK_RECORD_H
 #define DESK_RECORD_H
 
-#include <stddef.h>
-#include <stdint.h>
+#include <lamphudet.h>
 
-/* Each field is a string. Number and name are without the fillers at their ends. */
-struct record {
-    unsigned house;
-    const char *form;
-    char code[2 + 1];
-    char state[3 + 1];
-    char number[22 + 1];
-    char nationality[3 + 1];
-    char birth[6 + 1];
-    char sex[1 + 1];
-    char expiry[6 + 1];
-    char name[63 + 1]; /* six bits for its length */
-};
+/* Field by field. */
+void show_record(const lamphudet_record *record);
 
-/* Of octets that the library has accepted as an entry. */
-void record_of_entry(struct record *record, const uint8_t *entry, size_t len);
+/* In one line, below a heading. */
+void show_heading(void);
+void show_row(uint64_t offset, const lamphudet_record *record);
 
 #endif

@@ -1,5 +1,6 @@
 /* desk run: lists the entries of a run, house and record, up to its end or to the place where it is none. */
 #include "input.h"
+#include "record.h"
 #include "show.h"
 
 #include <stdio.h>
@@ -12,12 +13,11 @@ static enum status list(const uint8_t *run, size_t len)
 
     /* At the end of the run the next offset is 0, which is behind no entry. */
     for (; next.number == 0 && next.value != 0; next = lamphudet_next_entry(run, len, offset)) {
-        struct record record;
+        lamphudet_record record = lamphudet_open_entry(run + offset, (size_t)(next.value - offset));
 
         if (entries == 0) {
             show_heading();
         }
-        record_of_entry(&record, run + offset, (size_t)(next.value - offset));
         show_row(offset, &record);
         offset = next.value;
         entries++;

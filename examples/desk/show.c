@@ -79,38 +79,6 @@ void show_text(const char *label, const uint8_t *text, size_t len)
     }
 }
 
-void show_record(const struct record *record)
-{
-    printf("  house        %u\n", record->house);
-    printf("  form         %s\n", record->form);
-    printf("  code         %s\n", record->code);
-    printf("  state        %s\n", record->state);
-    printf("  number       %s\n", record->number);
-    printf("  nationality  %s\n", record->nationality);
-    printf("  birth        %s\n", record->birth);
-    printf("  sex          %s\n", record->sex);
-    printf("  expiry       %s\n", record->expiry);
-    printf("  name         %s\n", record->name);
-}
-
-#define COLUMNS "  %6s  %5s  %-4s  %-4s  %-5s  %-22s  %-6s  %-6s  %-3s  %-6s  %s\n"
-
-void show_heading(void)
-{
-    printf(COLUMNS, "offset", "house", "form", "code", "state", "number", "nation", "birth", "sex", "expiry", "name");
-}
-
-void show_row(uint64_t offset, const struct record *record)
-{
-    char place[21];
-    char house[6];
-
-    snprintf(place, sizeof place, "%" PRIu64, offset);
-    snprintf(house, sizeof house, "%u", record->house & 0x7fffu);
-    printf(COLUMNS, place, house, record->form, record->code, record->state, record->number, record->nationality,
-           record->birth, record->sex, record->expiry, record->name);
-}
-
 void show_hex(const char *label, const uint8_t *octets, size_t len)
 {
     size_t at;

@@ -2,7 +2,6 @@
 #ifndef DESK_SHOW_H
 #define DESK_SHOW_H
 
-#include "record.h"
 #include "zone.h"
 
 #include <lamphudet.h>
@@ -18,12 +17,6 @@ void show_zone(const struct zone *zone, uint64_t place);
 
 /* A text that the library wrote, by the lines of its form. */
 void show_text(const char *label, const uint8_t *text, size_t len);
-
-void show_record(const struct record *record);
-
-/* The record in one line, below a heading. */
-void show_heading(void);
-void show_row(uint64_t offset, const struct record *record);
 
 void show_hex(const char *label, const uint8_t *octets, size_t len);
 

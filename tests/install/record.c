@@ -1,7 +1,7 @@
 /*
  * A host of the installed library: T3 of document 01 is read to an entry of 43 octets that begins as the paper says, is
- * found again as the only entry of a run, and is written back; and every refusal has words of its own. Exit status 0 where
- * all of that is so.
+ * found again as the only entry of a run, is opened to the fields that the text has, and is written back; what is refused
+ * opens to the blank record; and every refusal has words of its own. Exit status 0 where all of that is so.
  */
 #include <lamphudet.h>
 #include <stdio.h>
@@ -13,6 +13,41 @@ static const char t3[] = "P<UTONORD<<ELIN<<<<<<<<<<<<<<<<<<<<<<<<<<<<<"
 static int is(lamphudet_answer answer, uint32_t number, uint64_t value)
 {
     return answer.number == number && answer.value == value;
+}
+
+/* A field holds these characters, and fillers behind them. */
+static int holds(const uint8_t *field, size_t size, const char *characters)
+{
+    size_t len = strlen(characters);
+    size_t at;
+
+    for (at = 0; at < size; at++) {
+        if (field[at] != (at < len ? (uint8_t)characters[at] : '<')) {
+            return 0;
+        }
+    }
+    return len <= size;
+}
+
+static int is_t3(lamphudet_record record)
+{
+    return record.number == 0 && record.house == 1 && record.form == LAMPHUDET_TD3 && record.sex == 'F'
+        && holds(record.code, sizeof record.code, "P") && holds(record.state, sizeof record.state, "UTO")
+        && holds(record.nationality, sizeof record.nationality, "UTO")
+        && holds(record.birth, sizeof record.birth, "900115") && holds(record.expiry, sizeof record.expiry, "300630")
+        && record.document_number_len == 2 && holds(record.document_number, sizeof record.document_number, "K7")
+        && record.name_len == 10 && holds(record.name, sizeof record.name, "NORD<<ELIN");
+}
+
+static int is_blank(lamphudet_record record)
+{
+    return record.number == LAMPHUDET_REFUSED_ENTRY && record.house == 0 && record.form == LAMPHUDET_TD1
+        && record.sex == '<' && record.document_number_len == 0 && record.name_len == 0
+        && holds(record.code, sizeof record.code, "") && holds(record.state, sizeof record.state, "")
+        && holds(record.nationality, sizeof record.nationality, "")
+        && holds(record.birth, sizeof record.birth, "") && holds(record.expiry, sizeof record.expiry, "")
+        && holds(record.document_number, sizeof record.document_number, "")
+        && holds(record.name, sizeof record.name, "");
 }
 
 static int accepted(void)
@@ -27,6 +62,8 @@ static int accepted(void)
         && memcmp(entry, begins, sizeof begins) == 0
         && is(lamphudet_next_entry(entry, 43, 0), 0, 43)
         && is(lamphudet_next_entry(entry, 43, 43), 0, 0)
+        && is_t3(lamphudet_open_entry(entry, 43))
+        && is_blank(lamphudet_open_entry(entry, 42))
         && is(lamphudet_write_text(entry, 43, text, sizeof text), 0, 88)
         && memcmp(text, given, sizeof given) == 0;
 }
@@ -42,6 +79,8 @@ static int refused(void)
         && is(lamphudet_read_text(1, given, sizeof given, entry, 42), LAMPHUDET_REFUSED_OUTPUT, 0)
         && is(lamphudet_read_text(1, NULL, 0, NULL, 0), LAMPHUDET_REFUSED_LENGTH, 0)
         && is(lamphudet_write_text(NULL, 0, text, sizeof text), LAMPHUDET_REFUSED_ENTRY, 0)
+        && is_blank(lamphudet_open_entry(NULL, 0))
+        && is_blank(lamphudet_open_entry(entry, sizeof entry))
         && is(lamphudet_next_entry(entry, sizeof entry, 65), LAMPHUDET_REFUSED_ENTRY, 65)
         && entry[0] == 0;
 }

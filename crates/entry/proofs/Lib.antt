@@ -4,6 +4,7 @@ pub mod Ink  -- `Wrote`: one writing with a pen after another, a push, and the l
 pub mod Fits  -- what may be entered fits the bits that it has
 pub mod Shifts  -- `bitsAt`: up to sixteen bits are a field of two octets
 pub mod Fields  -- `charactersAt`, and how far a whole entry reaches
+pub mod Lengths  -- the lengths of a record that is read fit an octet
 pub mod FormsAndSexes  -- the codes of forms and sexes tell them
 pub mod BitsOfOctets  -- a range of octets as its bits
 pub mod OctetsOfBits  -- bits gathered by eights

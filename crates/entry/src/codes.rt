@@ -4,7 +4,7 @@ ghost use Prim.Native.Nat.{_<_};
 ghost use Rattle.entry.specs.Codes.{formCode, sexCode};
 use zone::form::Form;
 
-pub(crate) fn form_code(form: Form) -> u8
+pub fn form_code(form: Form) -> u8
     ensures { λ r. ⌜ (r ≡ formCode form) × (r < 8) ⌝ }
 {
     match form {

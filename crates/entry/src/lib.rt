@@ -1,7 +1,7 @@
 // The entry under which a line's session keeps a record: written from a house and a record, and read back from a run of entries.
 mod bits;
 mod characters;
-mod codes;
+pub mod codes;
 mod pen;
 mod places;
 pub mod run;

@@ -1,9 +1,13 @@
-// A record that passes as its entry: what was read is entered under a house, and the one entry that is lent is written as a text.
+// A record that passes as its entry: what was read is entered under a house, and the one entry that is lent is written as a text,
+// or opened.
 ghost use mathlib.Core.Path.{_≡_};
 ghost use Rattle.refusal.specs.Length.{lengthOf};
 ghost use Rattle.refusal.specs.Outcome.{outcomeOf};
 ghost use Rattle.entry.specs.Run.{onwardOf};
 ghost use Rattle.lamphudet.specs.Calls.{enteredAnswer, enteredOut, isOnly, writtenAnswer, writtenOut};
+ghost use Rattle.lamphudet.specs.Opened.{openedInC};
+use crate::RecordInC;
+use crate::border::record_in_c;
 use entry::run::Step;
 use refusal::Cause;
 use refusal::Refusal;
@@ -49,5 +53,21 @@ pub(crate) fn write_only(only: &[u8], out: &mut [u8]) -> Written
         writing::write::write(kept, out)
     } else {
         Written::Refused(NOT_ONE_ENTRY)
+    }
+}
+
+pub(crate) fn open_only(only: &[u8]) -> RecordInC
+    ensures { λ r. ⌜ r ≡ openedInC (now (only .entry)) ⌝ }
+{
+    let standing = entry::run::next(only, 0);
+    let kept = standing.kept;
+    let step = standing.step;
+    if is_only(step, only.len()) {
+        record_in_c(0, standing.house, kept)
+    } else {
+        let cause = NOT_ONE_ENTRY.cause;
+        let number = cause.number();
+        let blank = Record::blank();
+        record_in_c(number, 0, blank)
     }
 }

@@ -1,15 +1,20 @@
-// What C receives of an answer: two numbers.
+// What C receives of an answer: two numbers, or the fields of a record.
 ghost use mathlib.Core.Path.{_≡_};
+ghost use Prim.Native.Nat.{_<_};
 ghost use Rattle.refusal.specs.Length.{lengthOf, refused};
 ghost use Rattle.refusal.specs.Numbers.{numberOf};
 ghost use Rattle.entry.specs.Run.{onwardOf};
 ghost use Rattle.lamphudet.specs.Answer.{inC};
 ghost use Rattle.lamphudet.specs.Calls.{nextInC, stretchInC};
+ghost use Rattle.lamphudet.specs.Opened.{recordInC};
 use crate::AnswerInC;
+use crate::RecordInC;
 use crate::StretchInC;
+use entry::codes::form_code;
 use entry::run::Step;
 use refusal::Refusal;
 use refusal::Written;
+use zone::record::Record;
 
 fn denied(refusal: Refusal) -> AnswerInC
     ensures { λ r. ⌜ r ≡ inC (refused (numberOf (refusal .cause)) (refusal .place)) ⌝ }
@@ -57,5 +62,35 @@ pub fn stretch_in_c(v: tlv::Stretch) -> StretchInC
     StretchInC {
         start: v.from as u64,
         length: length as u64,
+    }
+}
+
+// The lengths of a record that the run reader hands out fit an octet.
+pub(crate) fn record_in_c(number: u32, house: u32, kept: Record) -> RecordInC
+    requires { ⌜ (kept .«number_len» < 256) × (kept .«name_len» < 256) ⌝ }
+    ensures { λ r. ⌜ r ≡ recordInC number house kept ⌝ }
+{
+    let form = kept.form;
+    let code = kept.code;
+    let state = kept.state;
+    let nationality = kept.nationality;
+    let birth = kept.birth;
+    let expiry = kept.expiry;
+    let document_number = kept.number;
+    let name = kept.name;
+    RecordInC {
+        number,
+        house,
+        form: form_code(form),
+        sex: kept.sex,
+        document_number_len: kept.number_len as u8,
+        name_len: kept.name_len as u8,
+        code,
+        state,
+        nationality,
+        birth,
+        expiry,
+        document_number,
+        name,
     }
 }

@@ -1,4 +1,5 @@
-// The calls that a C host makes. A call here decides nothing: it hands the lent ranges on and tells the answer in numbers.
+// The calls that a C host makes. A call here decides nothing: it hands the lent ranges on and tells the answer in numbers,
+// or a record in its fields.
 ghost use mathlib.Core.Path.{_≡_};
 ghost use Rattle.text.specs.Read.{readText};
 ghost use Rattle.chip.specs.Presentation.{readPresentation, groupStretch};
@@ -6,9 +7,11 @@ ghost use Rattle.sha256.specs.Answer.{digestAnswer, digestOut};
 ghost use Rattle.entry.specs.Run.{readEntry};
 ghost use Rattle.lamphudet.specs.Answer.{inC};
 ghost use Rattle.lamphudet.specs.Calls.{readAnswer, readOut, writtenAnswer, writtenOut, nextInC, stretchInC};
+ghost use Rattle.lamphudet.specs.Opened.{openedInC};
 use crate::border::in_c;
 use crate::border::next_in_c;
 use crate::border::stretch_in_c;
+use zone::form::Form;
 
 mod as_entry;
 mod border;
@@ -25,6 +28,24 @@ pub struct AnswerInC {
 pub struct StretchInC {
     pub start: u64,
     pub length: u64,
+}
+
+// What an entry holds: number 0, the house and the record; or 18, house 0 and the blank record. Places past a length are fillers.
+#[repr(C)]
+pub struct RecordInC {
+    pub number: u32,
+    pub house: u32,
+    pub form: u8,
+    pub sex: u8,
+    pub document_number_len: u8,
+    pub name_len: u8,
+    pub code: [u8; Form::CODE],
+    pub state: [u8; Form::STATE],
+    pub nationality: [u8; Form::STATE],
+    pub birth: [u8; Form::DATE],
+    pub expiry: [u8; Form::DATE],
+    pub document_number: [u8; Form::NUMBER],
+    pub name: [u8; Form::NAME],
 }
 
 // A text is read, and its record entered under a house.
@@ -62,6 +83,14 @@ pub extern "C" fn lamphudet_write_text(entry: &[u8], text: &mut [u8]) -> AnswerI
     ensures { λ _. ⌜ now (text .exit) ≡ writtenOut (now (entry .entry)) (now (text .entry)) ⌝ }
 {
     in_c(as_entry::write_only(entry, text))
+}
+
+// The house and the record of exactly one entry.
+#[no_mangle]
+pub extern "C" fn lamphudet_open_entry(entry: &[u8]) -> RecordInC
+    ensures { λ r. ⌜ r ≡ openedInC (now (entry .entry)) ⌝ }
+{
+    as_entry::open_only(entry)
 }
 
 // Where a run of entries goes on.

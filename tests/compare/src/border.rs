@@ -2,6 +2,7 @@
 
 use crate::guard::Lent;
 use paper::answer::{Answer, Stretch};
+use paper::opened::Opened;
 use shared::header;
 
 pub fn digest(input: &mut Lent, output: &mut Lent) -> Answer {
@@ -17,6 +18,11 @@ pub fn read_text(house: u32, text: &mut Lent, entry: &mut Lent) -> Answer {
 pub fn write_text(entry: &mut Lent, text: &mut Lent) -> Answer {
     // As for the digest.
     unsafe { header::lamphudet_write_text(entry.pointer(), entry.length(), text.pointer(), text.length()) }
+}
+
+pub fn open_entry(entry: &mut Lent) -> Opened {
+    // The range is valid for its length.
+    unsafe { header::lamphudet_open_entry(entry.pointer(), entry.length()) }
 }
 
 pub fn next_entry(run: &mut Lent, offset: u64) -> Answer {

@@ -33,6 +33,7 @@ fn counts(seed: u64) -> Vec<(u64, u64)> {
         cases::digest::compare(seed).close(),
         cases::read_text::compare(seed).close(),
         cases::write_text::compare(seed).close(),
+        cases::open_entry::compare(seed).close(),
         cases::next_entry::compare(seed).close(),
         cases::read_presentation::compare(seed).close(),
         cases::group_file::compare(seed).close(),

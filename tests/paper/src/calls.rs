@@ -1,6 +1,7 @@
 //! What each C call answers and writes, from document 01, "What the server lends and gets" and "Refusal numbers".
 
 use crate::answer::{Answer, Outcome};
+use crate::opened::Opened;
 use crate::refusal::LONGEST;
 use crate::sha256::sha256;
 use crate::{entry, presentation, text};
@@ -39,6 +40,14 @@ pub fn write_text(lent: &[u8], room: usize) -> Outcome {
     }
 }
 
+/// 18 with the blank record unless there is exactly one entry; else its house and record.
+pub fn open_entry(lent: &[u8]) -> Opened {
+    match entry::read(lent) {
+        Some((house, record, length)) if length == lent.len() => Opened::of(house, &record),
+        _ => Opened::REFUSED,
+    }
+}
+
 /// The next offset; 0 at the end; 18 at the offset where no entry begins.
 pub fn next_entry(run: &[u8], offset: u64) -> Answer {
     let length = run.len() as u64;
@@ -49,5 +58,25 @@ pub fn next_entry(run: &[u8], offset: u64) -> Answer {
     match found {
         Some((_, _, taken)) => Answer { number: 0, value: offset + taken as u64 },
         None => Answer { number: 18, value: offset },
+    }
+}
+
+#[cfg(test)]
+mod tests {
+    use super::*;
+    use crate::specimens::T3;
+
+    #[test]
+    fn t3_opened() {
+        let kept = read_text(258, T3.as_bytes(), 64).written;
+        let opened = open_entry(&kept);
+        assert_eq!((opened.number, opened.house, opened.form, opened.sex), (0, 258, 2, b'F'));
+        assert_eq!((&opened.code, &opened.state, &opened.nationality), (b"P<", b"UTO", b"UTO"));
+        assert_eq!((&opened.birth, &opened.expiry), (b"900115", b"300630"));
+        assert_eq!((opened.document_number_len, &opened.document_number), (2, b"K7<<<<<<<<<<<<<<<<<<<<"));
+        assert_eq!((opened.name_len, &opened.name), (10, b"NORD<<ELIN<<<<<<<<<<<<<<<<<<<<<<<<<<<<<"));
+        assert_eq!(open_entry(&[]), Opened::REFUSED);
+        assert_eq!(open_entry(&kept[1..]), Opened::REFUSED);
+        assert_eq!(open_entry(&[&kept[..], &kept].concat()), Opened::REFUSED);
     }
 }

@@ -2,6 +2,7 @@
 //! pointer is valid for its length, and the ranges of one call do not overlap.
 
 use paper::answer::{Answer, Stretch};
+use paper::opened::Opened;
 
 extern "C" {
     pub fn lamphudet_digest(input: *const u8, input_length: usize, digest: *mut u8, digest_length: usize) -> Answer;
@@ -13,6 +14,7 @@ extern "C" {
         entry_length: usize,
     ) -> Answer;
     pub fn lamphudet_write_text(entry: *const u8, entry_length: usize, text: *mut u8, text_length: usize) -> Answer;
+    pub fn lamphudet_open_entry(entry: *const u8, entry_length: usize) -> Opened;
     pub fn lamphudet_next_entry(run: *const u8, run_length: usize, offset: u64) -> Answer;
     pub fn lamphudet_read_presentation(
         house: u32,

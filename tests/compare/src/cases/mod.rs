@@ -8,6 +8,7 @@ pub mod group_file;
 pub mod houses;
 pub mod next_entry;
 pub mod octets;
+pub mod open_entry;
 pub mod outside;
 pub mod presentations;
 pub mod read_presentation;

@@ -1,0 +1,49 @@
+-- The lengths of a record that is read, be it an entry's or the blank one: the number's room, and what six bits say.
+use Prim.Native.Nat.{ℕ, _<_, _≤_}
+use mathlib.Core.Bool.{Bool, true, false, cond}
+use mathlib.Core.List.{List}
+use native.Mathlib.Omega.{arith}
+use lib.Dec.{eqb, ltb}
+use lib.ListN.{length, drop}
+use Rattle.zone.specs.declared.form.Form.{Form}
+use Rattle.zone.specs.declared.form.Recognised.{Recognised}
+use Rattle.zone.specs.declared.form.Recognised.the-variants.{As, Unknown}
+use Rattle.zone.specs.declared.record.Record.{Record}
+use Rattle.zone.specs.Rooms.{numberRoom}
+use Rattle.zone.specs.Record.{blank}
+use Rattle.zone.proofs.Padded.{trimmed-le}
+use Rattle.entry.specs.Parts as part
+use Rattle.entry.specs.Parts.{start, width}
+use Rattle.entry.specs.Run.{Standing, charactersIn, nameLength, recordIn, formIn, isEntry, noEntry, entryBy, readEntry}
+use Rattle.entry.proofs.Fields.{length-characters}
+use Rattle.entry.proofs.Shifts.{bits-below}
+
+pub record Short (r : Record) : Type 0 where
+  pub number-short : r .«number_len» ≤ numberRoom
+  pub name-short : r .«name_len» < 64
+
+blank-short : Short blank
+unfolding blank
+blank-short = record { number-short = omega arith; name-short = omega arith }
+
+entry-short : (f : Form) (s : List ℕ) → Short (recordIn f s)
+unfolding recordIn nameLength
+entry-short f s = record {
+  number-short = rw (length-characters s (start part.number) numberRoom) at (trimmed-le (charactersIn s part.number));
+  name-short = bits-below s (start part.nameLength) (width part.nameLength);
+}
+
+either : (b : Bool) (x y : Standing) → Short (x .kept) → Short (y .kept) → Short (cond b x y .kept)
+either true x y p q = p
+either false x y p q = q
+
+short-by : (o : Recognised) (s : List ℕ) (at : ℕ) → Short (entryBy o s at .kept)
+unfolding entryBy noEntry
+short-by (As f) s at = either (isEntry f s) _ (noEntry at) (entry-short f s) blank-short
+short-by Unknown s at = blank-short
+
+pub short-read : (w : List ℕ) (at : ℕ) → Short (readEntry w at .kept)
+unfolding readEntry noEntry
+short-read w at =
+    either (eqb at (length w)) _ _ blank-short
+    (either (ltb (length w) at) (noEntry at) _ blank-short (short-by (formIn (drop at w)) (drop at w) at))
