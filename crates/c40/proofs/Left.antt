@@ -1,0 +1,194 @@
+-- The steps of the two loops: what is read from a place on gives the same as the whole.
+use Prim.Native.Nat.{ℕ, suc, _+_, _-_, _≤_, _<_}
+use mathlib.Core.Path.{_≡_, refl, sym, ap, _∙_}
+use mathlib.Core.Bool.{Bool, true, false}
+use mathlib.Core.List.{List, [], _∷_, _++_}
+use native.Mathlib.Nat.{zero-add, add-zero}
+use native.Mathlib.Omega.{arith}
+use borrow.Author.Tests.{lt-leb, le-leb, leb-true, leb-false}
+use lib.Dec.{leb}
+use lib.ListN.{length, drop, getD, length-append, length-drop, drop-of-length-le}
+use lib.Seq.{drop-cons, drop-drop, getD-drop, sets, sets-eq}
+use Rattle.lent.proofs.Lists.{sets-append}
+use Rattle.c40.specs.declared.pair.Triple.{Triple}
+use Rattle.c40.specs.declared.Decoded.{Decoded}
+use Rattle.c40.specs.declared.Decoded.the-variants.{Characters, Bad}
+use Rattle.c40.specs.Reader.{Reading, characters, noImage, numberOf, valuesOf, isThree, three, isTwo, two, isOne, one}
+use Rattle.c40.specs.Reader.{before, lastPair, readC40}
+use Rattle.c40.specs.Decode.{answered, written}
+use Rattle.c40.specs.Inner.Left.{fitted, textOf, textFrom, valuesAt}
+use Rattle.c40.proofs.Pairs.{Pairs, none, ofOne, ofTwo, ofThree, pairs-read, read-pairs}
+
+-- the pair at a place, and what follows it
+pub pair-at : (s : List ℕ) (i : ℕ) → i + 2 ≤ length s → drop i s ≡ getD s i 0 ∷ getD s (i + 1) 0 ∷ drop (i + 2) s
+pair-at s i h =
+    let e : suc i ≡ i + 1 = omega arith in
+    let f : suc (i + 1) ≡ i + 2 = omega arith in
+    drop-cons s i 0 (omega arith)
+    ∙ ap (λ l. getD s i 0 ∷ l) (rw e (drop-cons s (i + 1) 0 (omega arith) ∙ rw f))
+
+-- three more behind n
+three-fitted : (room n : ℕ) (v : Triple) (r : Reading) → fitted room n (before (three v) r) ≡ fitted room (n + 3) r
+unfolding fitted before three
+three-fitted room n v (characters t) =
+    let e : n + length (three v ++ t) ≡ n + 3 + length t = omega arith in
+    rw e
+three-fitted room n v noImage = refl
+
+none-fitted : (room n : ℕ) (r : Reading) → room < n → fitted room n r ≡ Bad
+unfolding fitted
+none-fitted room n (characters t) h = rw (lt-leb (n + length t) room (omega arith))
+none-fitted room n noImage h = refl
+
+module _ (s : List ℕ) (room i n : ℕ) (left : fitted room n (readC40 (drop i s)) ≡ answered (readC40 s) room) where
+  -- three more
+  pub three-at : i + 2 ≤ length s → isThree (valuesAt s i) ≡ true
+      → fitted room (n + 3) (readC40 (drop (i + 2) s)) ≡ answered (readC40 s) room
+  unfolding readC40 valuesAt
+  three-at h e = sym (three-fitted room n (valuesAt s i) (readC40 (drop (i + 2) s))) ∙ (rw (pair-at s i h, e) at left)
+
+  -- there is no room for three more
+  pub three-full : i + 2 ≤ length s → isThree (valuesAt s i) ≡ true → room < n + 3 → Bad ≡ answered (readC40 s) room
+  three-full h e k = sym (none-fitted room (n + 3) (readC40 (drop (i + 2) s)) k) ∙ three-at h e
+
+  -- another pair that is not the last
+  pub not-last : i + 2 < length s → isThree (valuesAt s i) ≡ false → Bad ≡ answered (readC40 s) room
+  unfolding readC40 lastPair fitted valuesAt
+  not-last h e = rw (pair-at s i (omega arith), e, drop-cons s (i + 2) 0 h) at left
+
+  -- the last pair
+  pub last-at : i + 2 ≡ length s → isThree (valuesAt s i) ≡ false
+      → fitted room n (lastPair (getD s i 0) (getD s (i + 1) 0) []) ≡ answered (readC40 s) room
+  unfolding readC40 valuesAt
+  last-at h e =
+      let k : length s ≤ i + 2 = omega arith in
+      rw (pair-at s i (omega arith), e, drop-of-length-le s k) at left
+
+  -- half a pair
+  pub half-at : i + 1 ≡ length s → Bad ≡ answered (readC40 s) room
+  unfolding readC40 fitted
+  half-at h =
+      let k : length s ≤ suc i = omega arith in
+      rw (drop-cons s i 0 (omega arith), drop-of-length-le s k) at left
+
+  -- none is left
+  pub none-at : length s ≤ i → n ≤ room → Characters n ≡ answered (readC40 s) room
+  unfolding readC40 fitted
+  none-at h k =
+      let fits : leb (n + 0) room ≡ true = le-leb (n + 0) room (omega arith) in
+      rw (drop-of-length-le s h, fits, add-zero n) at left
+
+-- the whole, behind nothing
+pub all-fitted : (s : List ℕ) (room : ℕ) → fitted room 0 (readC40 s) ≡ answered (readC40 s) room
+unfolding fitted answered
+all-fitted s room = go (readC40 s)
+  where
+    go : (r : Reading) → fitted room 0 r ≡ answered r room
+    go (characters t) = rw zero-add
+    go noImage = refl
+
+-- what is left is read pair by pair
+text-pairs : (s : List ℕ) → 1 ≤ length (textOf (readC40 s)) → Pairs s (textOf (readC40 s))
+unfolding textOf
+text-pairs s h = go (readC40 s) refl h
+  where
+    go : (r : Reading) → readC40 s ≡ r → 1 ≤ length (textOf r) → Pairs s (textOf r)
+    go (characters t) q k = read-pairs s t q
+    go noImage q k = absurd (omega arith)
+
+three-left : {s t : List ℕ} → Pairs s t → 3 ≤ length t
+    → (2 ≤ length s) × (t ≡ three (valuesAt s 0) ++ textOf (readC40 (drop 2 s)))
+unfolding one two valuesAt textOf
+three-left none h = absurd (omega arith)
+three-left (ofOne x y p q r) h = absurd (omega arith)
+three-left (ofTwo x y p q) h = absurd (omega arith)
+three-left (ofThree x y p more) h = (omega arith, rw (pairs-read more))
+
+two-left : {s t : List ℕ} → Pairs s t → length t ≡ 2 → (2 ≤ length s) × (t ≡ two (valuesAt s 0))
+unfolding one two three valuesAt
+two-left none h = absurd (omega arith)
+two-left (ofOne x y p q r) h = absurd (omega arith)
+two-left (ofTwo x y p q) h = (omega arith, refl)
+two-left (ofThree x y p more) h = absurd (omega arith)
+
+one-left : {s t : List ℕ} → Pairs s t → length t ≡ 1 → (2 ≤ length s) × (t ≡ one (getD s 1 0))
+unfolding one two three
+one-left none h = absurd (omega arith)
+one-left (ofOne x y p q r) h = (omega arith, refl)
+one-left (ofTwo x y p q) h = absurd (omega arith)
+one-left (ofThree x y p more) h = absurd (omega arith)
+
+-- the same from a place on
+module _ (s : List ℕ) (i : ℕ) where
+  pair-left : 2 ≤ length (drop i s) → i + 2 ≤ length s
+  pair-left h = let k = rw (length-drop i s) at h in omega arith
+
+  values-left : valuesAt (drop i s) 0 ≡ valuesAt s i
+  unfolding valuesAt
+  values-left = rw (getD-drop i s 0 0, getD-drop i s 1 0, add-zero i)
+
+  pub three-from : 3 ≤ length (textFrom s i) → (i + 2 ≤ length s) × (textFrom s i ≡ three (valuesAt s i) ++ textFrom s (i + 2))
+  unfolding textFrom
+  three-from h =
+      let both = three-left (text-pairs (drop i s) (omega arith)) h in
+      (pair-left (both .0), both .1 ∙ rw (values-left, drop-drop 2 i s))
+
+  pub two-from : length (textFrom s i) ≡ 2 → (i + 2 ≤ length s) × (textFrom s i ≡ two (valuesAt s i))
+  unfolding textFrom
+  two-from h =
+      let both = two-left (text-pairs (drop i s) (omega arith)) h in
+      (pair-left (both .0), both .1 ∙ rw values-left)
+
+  pub one-from : length (textFrom s i) ≡ 1 → (i + 2 ≤ length s) × (textFrom s i ≡ one (getD s (i + 1) 0))
+  unfolding textFrom
+  one-from h =
+      let both = one-left (text-pairs (drop i s) (omega arith)) h in
+      (pair-left (both .0), both .1 ∙ rw (getD-drop i s 1 0))
+
+pub none-from : (t : List ℕ) → length t ≡ 0 → t ≡ []
+none-from [] h = refl
+none-from (c ∷ t) h = absurd (omega arith)
+
+-- three more are stored
+module _ (s : List ℕ) (i : ℕ) (there : 3 ≤ length (textFrom s i)) where
+  pub three-shorter : length (textFrom s i) ≡ 3 + length (textFrom s (i + 2))
+  unfolding three
+  three-shorter =
+      let e : length (three (valuesAt s i) ++ textFrom s (i + 2)) ≡ 3 + length (textFrom s (i + 2)) = omega arith in
+      ap length (three-from s i there .1) ∙ e
+
+  pub three-written : (out after whole : List ℕ) (n : ℕ) → after ≡ sets out n (three (valuesAt s i))
+      → sets out n (textFrom s i) ≡ whole → sets after (n + 3) (textFrom s (i + 2)) ≡ whole
+  unfolding three
+  three-written out after whole n e h =
+      rw e (sets-append out n (three (valuesAt s i)) (textFrom s (i + 2)) ∙ ap (sets out n) (sym (three-from s i there .1)) ∙ h)
+
+same-count : (a b : ℕ) → Characters a ≡ Characters b → a ≡ b
+same-count a b e = cc
+
+no-count : (n : ℕ) → Bad ≡ Characters n → ⊥
+no-count n e = let z : _≡_ {A = ℕ} 0 1 = cc in omega arith
+
+-- what was measured decides what is written
+pub fits-written : (r : Reading) (out : List ℕ) (n : ℕ) → answered r (length out) ≡ Characters n
+    → (length (textOf r) ≡ n) × (n ≤ length out) × (sets out 0 (textOf r) ≡ written r out)
+unfolding answered written textOf
+fits-written noImage out n e = absurd (no-count n e)
+fits-written (characters t) out n e = go (leb (length t) (length out)) refl
+  where
+    go : (b : Bool) → leb (length t) (length out) ≡ b
+        → (length t ≡ n) × (n ≤ length out) × (sets out 0 t ≡ written (characters t) out)
+    go true p =
+        let most = leb-true (length t) (length out) p in
+        let same = same-count (length t) n (rw p at e) in
+        (same, omega arith, sets-eq t out 0 (rw zero-add most) ∙ rw (p, zero-add))
+    go false p = absurd (no-count n (rw p at e))
+
+pub bad-written : (r : Reading) (out : List ℕ) → answered r (length out) ≡ Bad → out ≡ written r out
+unfolding answered written
+bad-written noImage out e = refl
+bad-written (characters t) out e = go (leb (length t) (length out)) refl
+  where
+    go : (b : Bool) → leb (length t) (length out) ≡ b → out ≡ written (characters t) out
+    go true p = absurd (no-count (length t) (sym (rw p at e)))
+    go false p = rw p

@@ -1,0 +1,27 @@
+-- What is read from a place on, behind n characters that were read before it.
+use Prim.Native.Nat.{ℕ, _+_}
+use mathlib.Core.Bool.{cond}
+use mathlib.Core.List.{List, []}
+use lib.Dec.{leb}
+use lib.ListN.{length, drop, getD}
+use Rattle.c40.specs.declared.pair.Triple.{Triple}
+use Rattle.c40.specs.declared.Decoded.{Decoded}
+use Rattle.c40.specs.declared.Decoded.the-variants.{Characters, Bad}
+use Rattle.c40.specs.Reader.{Reading, characters, noImage, numberOf, valuesOf, readC40}
+
+-- how many characters that makes, where there is room for them
+unfoldable pub fitted : ℕ → ℕ → Reading → Decoded
+fitted room n (characters t) = cond (leb (n + length t) room) (Characters (n + length t)) Bad
+fitted room n noImage = Bad
+
+-- the characters that were read; none where it is no image
+unfoldable pub textOf : Reading → List ℕ
+textOf (characters t) = t
+textOf noImage = []
+
+unfoldable pub textFrom : List ℕ → ℕ → List ℕ
+textFrom s i = textOf (readC40 (drop i s))
+
+-- the values in the pair at a place
+unfoldable pub valuesAt : List ℕ → ℕ → Triple
+valuesAt s i = valuesOf (numberOf (getD s i 0) (getD s (i + 1) 0))

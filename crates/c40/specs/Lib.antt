@@ -1,0 +1,6 @@
+pub mod Values
+pub mod Image
+pub mod Reader
+pub mod Decode
+pub mod Examples
+pub mod Inner
