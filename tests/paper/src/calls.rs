@@ -1,10 +1,12 @@
-//! What each C call answers and writes, from document 01, "What the server lends and gets" and "Refusal numbers".
+//! What each C call answers and writes, from document 01, "What the server lends and gets" and "Refusal numbers", and
+//! document 02.
 
 use crate::answer::{Answer, Outcome};
 use crate::opened::Opened;
 use crate::refusal::LONGEST;
+use crate::seal::answer::SealAnswer;
 use crate::sha256::sha256;
-use crate::{entry, presentation, text};
+use crate::{entry, presentation, seal, text};
 
 /// Refusals 1, then 16; else 32 octets.
 pub fn digest(input: &[u8], room: usize) -> Outcome {
@@ -29,6 +31,15 @@ pub fn read_presentation(house: u32, lent: &[u8], room: usize) -> Outcome {
         Err(refusal) => Outcome::refused(refusal.number, refusal.place as u64),
         Ok(_) if !entry::is_house(house) => Outcome::refused(17, 0),
         Ok(record) => Outcome::written(entry::write(house, &record), room),
+    }
+}
+
+/// As for a text; with the entry, what the seal says besides.
+pub fn read_seal(house: u32, lent: &[u8], room: usize) -> Outcome<SealAnswer> {
+    match seal::read(lent) {
+        Err(refusal) => Outcome::refused_seal(refusal.number, refusal.place as u64),
+        Ok(_) if !entry::is_house(house) => Outcome::refused_seal(17, 0),
+        Ok(seal) => Outcome::written_seal(&seal, entry::write(house, &seal.record), room),
     }
 }
 

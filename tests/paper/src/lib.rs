@@ -2,11 +2,14 @@
 //! sources, and nothing here knows of the archive.
 //!
 //! From below: `refusal` and `answer`; `form`, `field`, `record` and `text`; `entry` and `opened`; `sha256`; `tlv`, `group`,
-//! `com`, `object` and `presentation`; `calls` on top. `specimens` and `published` are what the papers print.
+//! `com`, `object` and `presentation`; `c40`, `day` and `seal`; `calls` on top. `specimens` and `published` are what the
+//! papers print.
 
 pub mod answer;
+pub mod c40;
 pub mod calls;
 pub mod com;
+pub mod day;
 pub mod entry;
 pub mod field;
 pub mod form;
@@ -17,6 +20,7 @@ pub mod presentation;
 pub mod published;
 pub mod record;
 pub mod refusal;
+pub mod seal;
 pub mod sha256;
 pub mod specimens;
 pub mod text;

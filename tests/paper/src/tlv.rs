@@ -27,6 +27,11 @@ impl<'a> Walk<'a> {
         Walk { lent, at: 0, end: lent.len() }
     }
 
+    /// Over all that stands behind a place.
+    pub fn behind(lent: &'a [u8], place: usize) -> Walk<'a> {
+        Walk { lent, at: place, end: lent.len() }
+    }
+
     pub fn inside(lent: &'a [u8], holder: &Element) -> Walk<'a> {
         Walk { lent, at: holder.content.start, end: holder.content.end }
     }
@@ -52,6 +57,11 @@ impl<'a> Walk<'a> {
             [] => Ok(()),
             _ => Err(Refusal { number: 10, place: self.at }),
         }
+    }
+
+    /// Where the walk stands.
+    pub fn place(&self) -> usize {
+        self.at
     }
 
     /// What was not walked over yet.
