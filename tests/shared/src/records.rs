@@ -28,7 +28,7 @@ pub fn sound_of(seeds: &mut Seeds, form: Form) -> Record {
 }
 
 /// Drawn again until it will do.
-fn until<T>(seeds: &mut Seeds, draw: impl Fn(&mut Seeds) -> T, will_do: impl Fn(&T) -> bool) -> T {
+pub fn until<T>(seeds: &mut Seeds, draw: impl Fn(&mut Seeds) -> T, will_do: impl Fn(&T) -> bool) -> T {
     loop {
         let drawn = draw(seeds);
         if will_do(&drawn) {
@@ -37,7 +37,7 @@ fn until<T>(seeds: &mut Seeds, draw: impl Fn(&mut Seeds) -> T, will_do: impl Fn(
     }
 }
 
-fn state(seeds: &mut Seeds) -> [u8; 3] {
+pub fn state(seeds: &mut Seeds) -> [u8; 3] {
     let letters = 1 + seeds.below(3);
     std::array::from_fn(|at| if at < letters { seeds.pick(LETTERS) } else { FILLER })
 }
