@@ -1,5 +1,5 @@
-//! What comparison and bench share: the C calls of the archive (`header`), sound records, files of groups and seals that
-//! are made from a seed (`seeds`, `records`, `files`, `seals`), and how a number is printed (`grouped`).
+//! What comparison and bench share: the C calls of the archive (`header`), sound records, files of groups and seals
+//! that are made from a seed (`seeds`, `records`, `files`, `seals`), and how a number is printed (`grouped`).
 
 pub mod files;
 pub mod grouped;

@@ -12,7 +12,11 @@ pub mod open_entry;
 pub mod outside;
 pub mod presentations;
 pub mod read_presentation;
+#[cfg(feature = "seals")]
+pub mod read_seal;
 pub mod read_text;
+pub mod seal_damage;
+pub mod seals;
 pub mod trees;
 pub mod trials;
 pub mod write_text;
