@@ -133,7 +133,16 @@ fn reference(sound: &Sound) -> Vec<Damage> {
             [&sound_text[..4], count.as_bytes(), &sound_text[6..]].concat()
         }));
     }
-    all.iter().map(|text| Damage::new(3, c40::write(text), 24)).collect()
+    let images = all.iter().map(|text| c40::write(text)).chain(regrouped(&sound_text));
+    images.map(|image| Damage::new(3, image, 24)).collect()
+}
+
+/// As many characters in as many octets, but with what is left over by three in a pair before the last.
+fn regrouped(text: &[u8]) -> Vec<Vec<u8>> {
+    let (pairs, left) = (text.len() / 3, text.len() % 3);
+    let parts = |pair: usize| [&text[..3 * pair], &text[3 * pair..3 * pair + left], &text[3 * pair + left..]];
+    let image = |pair| parts(pair).map(c40::write).concat();
+    (0..pairs).filter(|_| left > 0).map(image).collect()
 }
 
 /// Counts of one more and one less than there are characters. Where one more has two octets more, these are the issue

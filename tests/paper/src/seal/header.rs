@@ -264,6 +264,9 @@ mod tests {
         assert_eq!((reference(b"UT0104FFAFF"), reference(b"UT0105FFAF")), (Some(4), Some(4)));
         let others = [&b"U001041234"[..], b"UT 1041234", b"UT0104123G", b"UT0104123 ", b"UT0104G234"];
         assert!(others.iter().all(|text| reference(text) == Some(4)));
+        // As many characters in as many octets, but with FE, and with 0 as a third value, before the last pair.
+        let regrouped = |one: &[u8], other: &[u8]| with(&header, 3, &[c40::write(one), c40::write(other)].concat());
+        assert_eq!((regrouped(b"UT01041", b"234"), regrouped(b"UT010512", b"345")), (Some(4), Some(4)));
         // What is left over alone: FE with 00, with a filler, and with a letter that is no hex.
         let alone = |code: u8| with(&header, 3, &[&c40::write(b"UT0104123")[..], &[0xfe, code]].concat());
         assert_eq!(alone(b'4' + 1), None);
