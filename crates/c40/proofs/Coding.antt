@@ -5,7 +5,7 @@ use mathlib.Core.Path.{_≡_, refl}
 use mathlib.Core.Bool.{Bool, true, false, _||_}
 use mathlib.Core.Logic.{_⊎_, inl, inr}
 use native.Mathlib.Omega.{arith}
-use borrow.Author.Tests.{eqb-true, eqb-false, ne-eqb, leb-true, leb-false, le-leb, lt-leb}
+use borrow.Author.Tests.{eqb-true, eqb-false, leb-true, leb-false, le-leb, lt-leb}
 use lib.Dec.{eqb, leb}
 use Rattle.lent.proofs.Bools.{and-both, or-either}
 use Rattle.zone.specs.Alphabet.{isDigit, isLetter}
@@ -22,12 +22,11 @@ letter-value c h k = rw (above-digits c (omega arith), in-letters c h k)
 
 value-digit : (v : ℕ) → 4 ≤ v → v ≤ 13 → characterOf v ≡ v - 4 + code "0"
 unfolding characterOf
-value-digit v h k = rw (ne-eqb v 3 (λ e. omega arith), le-leb 4 v h, le-leb v 13 k)
+value-digit v h k = rw (lt-leb v 3 h, le-leb v 13 k)
 
-value-letter : (v : ℕ) → 14 ≤ v → v ≤ 39 → characterOf v ≡ v - 14 + code "A"
+value-letter : (v : ℕ) → 14 ≤ v → characterOf v ≡ v - 14 + code "A"
 unfolding characterOf
-value-letter v h k =
-    rw (ne-eqb v 3 (λ e. omega arith), le-leb 4 v (omega arith), lt-leb v 13 (omega arith), le-leb 14 v h, le-leb v 39 k)
+value-letter v h = rw (lt-leb v 3 (omega arith), lt-leb v 13 h)
 
 pub value-range : (v : ℕ) → isValue v ≡ true → (3 ≤ v) × (v ≤ 39)
 unfolding isValue
@@ -58,7 +57,7 @@ unfolding isTold
 letter-told c h k =
     let same = letter-value c h k in (
       rw same (in-values (c - code "A" + 14) (omega arith) (omega arith)),
-      rw (same, value-letter (c - code "A" + 14) (omega arith) (omega arith)) (omega arith),
+      rw (same, value-letter (c - code "A" + 14) (omega arith)) (omega arith),
     )
 
 space-told : isTold space
@@ -97,7 +96,7 @@ digit-held v h k =
 letter-held : (v : ℕ) → 14 ≤ v → v ≤ 39 → isHeld v
 unfolding isHeld isC40
 letter-held v h k =
-    let same = value-letter v h k in
+    let same = value-letter v h in
     let c = v - 14 + code "A" in (
       rw (same, above-digits c (omega arith), in-letters c (omega arith) (omega arith)),
       rw (same, letter-value c (omega arith) (omega arith)) (omega arith),
@@ -113,3 +112,16 @@ character-tells v e = go (eqb v 3) refl (leb v 13) refl
     go true p b q = rw (eqb-true v 3 p) space-held
     go false p true q = digit-held v (least p) (leb-true v 13 q)
     go false p false q = letter-held v (leb-false v 13 q) (value-range v e .1)
+
+-- the codes of the characters
+pub c40-range : (c : ℕ) → isC40 c ≡ true → (code " " ≤ c) × (c ≤ code "Z")
+unfolding isC40
+c40-range c e = go (or-either (isDigit c) (isLetter c || eqb c space) e)
+  where
+    other : (isLetter c ≡ true) ⊎ (eqb c space ≡ true) → (code " " ≤ c) × (c ≤ code "Z")
+    other (inl h) = let r = letter-range c h in (omega arith, omega arith)
+    other (inr h) = let r = eqb-true c space h in (omega arith, omega arith)
+
+    go : (isDigit c ≡ true) ⊎ (isLetter c || eqb c space ≡ true) → (code " " ≤ c) × (c ≤ code "Z")
+    go (inl h) = let r = digit-range c h in (omega arith, omega arith)
+    go (inr h) = other (or-either (isLetter c) (eqb c space) h)

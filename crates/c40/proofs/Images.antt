@@ -1,41 +1,26 @@
 -- The reader takes exactly the images, and no two texts share one.
-use Prim.Native.Nat.{ℕ, suc, _+_, _-_, _*_, _/_, _%_, _≤_, _<_}
-use Prim.Native.Char.{code}
+use Prim.Native.Nat.{ℕ, _+_, _-_, _*_, _/_, _%_, _≤_, _<_}
 use mathlib.Core.Path.{_≡_, refl, sym, ap, _∙_}
-use mathlib.Core.Bool.{Bool, true, false, _&&_, _||_}
+use mathlib.Core.Bool.{true, _&&_}
 use mathlib.Core.List.{List, [], _∷_, _++_}
-use mathlib.Core.Logic.{_⊎_, inl, inr, _↔_}
+use mathlib.Core.Logic.{_↔_}
 use native.Mathlib.Nat.{add-div-right, mod-lt, div-lt-iff-lt-mul}
 use native.Mathlib.Omega.{arith}
-use borrow.Author.Tests.{eqb-true, eq-eqb, ltb-true, lt-ltb}
+use borrow.Author.Tests.{eqb-true, ltb-true, lt-ltb}
 use lib.Dec.{eqb}
 use lib.ListN.{length}
-use Rattle.lent.proofs.Bools.{and-both, or-either}
-use Rattle.zone.specs.Alphabet.{isDigit, isLetter, every}
+use Rattle.lent.proofs.Bools.{and-both}
+use Rattle.zone.specs.Alphabet.{every}
 use Rattle.zone.specs.Octets.{isOctet, areOctets}
-use Rattle.zone.proofs.Classes.{digit-range, letter-range}
-use Rattle.c40.specs.Values.{space, isC40, valueOf, isValue, characterOf}
+use Rattle.c40.specs.Values.{isC40, valueOf, isValue}
 use Rattle.c40.specs.Image.{packed, pair, imageOf}
-use Rattle.c40.specs.Reader.{Reading, characters, noImage, numberOf, valuesOf, isThree, three, isTwo, two, isOne, one}
+use Rattle.c40.specs.Reader.{characters, numberOf, valuesOf, isThree, three, isTwo, two, isOne, one}
 use Rattle.c40.specs.Reader.{before, lastPair, readC40}
-use Rattle.c40.proofs.Coding.{isTold, value-tells, isHeld, character-tells, value-range, above-values}
+use Rattle.c40.proofs.Coding.{c40-range, isTold, value-tells, isHeld, character-tells, value-range, above-values}
 use Rattle.c40.proofs.Packing.{packed-values, values-packed, pair-number, number-pair, first-above, some-number}
-use Rattle.c40.proofs.Pairs.{Pairs, none, ofOne, ofTwo, ofThree, pairs-read, read-pairs, same-text}
+use Rattle.c40.proofs.Pairs.{Pairs, none, ofOne, ofTwo, ofThree, read-pairs, same-text}
 
--- the codes of the characters
-c40-range : (c : ℕ) → isC40 c ≡ true → (code " " ≤ c) × (c ≤ code "Z")
-unfolding isC40
-c40-range c e = go (or-either (isDigit c) (isLetter c || eqb c space) e)
-  where
-    other : (isLetter c ≡ true) ⊎ (eqb c space ≡ true) → (code " " ≤ c) × (c ≤ code "Z")
-    other (inl h) = let r = letter-range c h in (omega arith, omega arith)
-    other (inr h) = let r = eqb-true c space h in (omega arith, omega arith)
-
-    go : (isDigit c ≡ true) ⊎ (isLetter c || eqb c space ≡ true) → (code " " ≤ c) × (c ≤ code "Z")
-    go (inl h) = let r = digit-range c h in (omega arith, omega arith)
-    go (inr h) = other (or-either (isLetter c) (eqb c space) h)
-
--- AN IMAGE IS READ AS ITS TEXT
+-- an image is read as its text: pair by pair, and then whole
 
 value-most : (c : ℕ) → isC40 c ≡ true → valueOf c ≤ 39
 unfolding isTold
@@ -83,7 +68,7 @@ image-read (c ∷ d ∷ e ∷ t) h =
     let r = and-both (isC40 e) (every isC40 t) (q .1) in
     three-image c d e (imageOf t) (p .0) (q .0) (r .0) ∙ rw (image-read t (r .1))
 
--- WHAT IS READ IS AN IMAGE
+-- what is read is an image: pair by pair, and then whole
 
 -- the octets of a pair are those of its values
 values-pair : (x y : ℕ) (s : List ℕ) → y < 256 → isValue (valuesOf (numberOf x y) .first) ≡ true
@@ -141,8 +126,6 @@ pairs-image (ofThree x y {s} {t} p more) o =
     let octets = second-octet x y s o in
     let rest = pairs-image more (octets .1) in
     three-read x y s t (octets .0) p (rest .0) (rest .1)
-
--- WHAT IS DEMANDED
 
 -- octets are read as a text exactly when it is one of C40's characters, and they are its image
 pub reads-exactly : (s t : List ℕ) → areOctets s → (readC40 s ≡ characters t) ↔ ((every isC40 t ≡ true) × (imageOf t ≡ s))

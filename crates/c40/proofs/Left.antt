@@ -5,15 +5,14 @@ use mathlib.Core.Bool.{Bool, true, false}
 use mathlib.Core.List.{List, [], _∷_, _++_}
 use native.Mathlib.Nat.{zero-add, add-zero}
 use native.Mathlib.Omega.{arith}
-use borrow.Author.Tests.{lt-leb, le-leb, leb-true, leb-false}
+use borrow.Author.Tests.{lt-leb, le-leb, leb-true}
 use lib.Dec.{leb}
-use lib.ListN.{length, drop, getD, length-append, length-drop, drop-of-length-le}
+use lib.ListN.{length, drop, getD, length-drop, drop-of-length-le}
 use lib.Seq.{drop-cons, drop-drop, getD-drop, sets, sets-eq}
 use Rattle.lent.proofs.Lists.{sets-append}
 use Rattle.c40.specs.declared.pair.Triple.{Triple}
-use Rattle.c40.specs.declared.Decoded.{Decoded}
 use Rattle.c40.specs.declared.Decoded.the-variants.{Characters, Bad}
-use Rattle.c40.specs.Reader.{Reading, characters, noImage, numberOf, valuesOf, isThree, three, isTwo, two, isOne, one}
+use Rattle.c40.specs.Reader.{Reading, characters, noImage, isThree, three, two, one}
 use Rattle.c40.specs.Reader.{before, lastPair, readC40}
 use Rattle.c40.specs.Decode.{answered, written}
 use Rattle.c40.specs.Inner.Left.{fitted, textOf, textFrom, valuesAt}

@@ -1,15 +1,15 @@
 -- Three values in one number and a number in two octets: each tells the other.
 use Prim.Native.Nat.{ℕ, _+_, _-_, _*_, _/_, _%_, _≤_, _<_}
-use mathlib.Core.Path.{_≡_, refl, sym, ap, _∙_}
-use mathlib.Core.Bool.{Bool, true, false}
+use mathlib.Core.Path.{_≡_, _∙_}
+use mathlib.Core.Bool.{true}
 use mathlib.Core.List.{List, _∷_}
 use native.Mathlib.Nat.{mul-add-div, mul-add-mod-self-left, div-eq-of-lt, mod-eq-of-lt, add-zero, div-add-mod, mod-lt}
 use native.Mathlib.Nat.{le-div-iff-mul-le, mul-div-le}
 use native.Mathlib.Omega.{arith}
-use Rattle.c40.specs.declared.pair.Triple.{Triple}
 use Rattle.c40.specs.Values.{isValue}
 use Rattle.c40.specs.Image.{packed, pair}
 use Rattle.c40.specs.Reader.{numberOf, valuesOf}
+use Rattle.c40.specs.Inner.Left.{Small}
 use Rattle.c40.proofs.Coding.{value-range}
 
 -- quotient and remainder of what is made of them
@@ -50,3 +50,14 @@ first-above y = le-div-iff-mul-le {k = 1600} {x = 40} {y = 256 * 0xFE + y - 1} (
 pub some-number : (n : ℕ) → isValue (valuesOf n .first) ≡ true → 1 ≤ n
 unfolding valuesOf
 some-number n e = omega (arith, value-range ((n - 1) / 1600) e .0, mul-div-le (n - 1) 1600)
+
+-- the values of two octets are small
+pub small-values : (n : ℕ) → n ≤ 65535 → Small (record { first = n / 1600; second = n % 1600 / 40; third = n % 1600 % 40 })
+small-values n h =
+    let low : n % 1600 < 1600 = mod-lt n (omega arith) in
+    let last : n % 1600 % 40 < 40 = mod-lt (n % 1600) (omega arith) in
+    record {
+      first = omega (arith, mul-div-le n 1600);
+      second = omega (arith, mul-div-le (n % 1600) 40);
+      third = omega arith;
+    }

@@ -1,4 +1,4 @@
--- The examples of document 02, 2026-08, and of source 002 (3.3.1, and annex C, tables 14 and 15), as one table: a text and its image.
+-- The examples of document 02, 2026-08, and of source 002 (3.3.1; annex C, tables 14 and 15) as one table: a text and its image.
 use Prim.Native.Nat.{ℕ}
 use Prim.Native.Char.{code}
 use Prim.Native.String as text

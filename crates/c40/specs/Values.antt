@@ -20,8 +20,6 @@ valueOf c = cond (isDigit c) (c - code "0" + 4) (cond (isLetter c) (c - code "A"
 unfoldable pub isValue : ℕ → Bool
 isValue v = leb 3 v && leb v 39
 
--- the character of a value; 0, which is none, for any other number
+-- the character of a value
 unfoldable pub characterOf : ℕ → ℕ
-characterOf v =
-    cond (eqb v 3) space
-    (cond (leb 4 v && leb v 13) (v - 4 + code "0") (cond (leb 14 v && leb v 39) (v - 14 + code "A") 0))
+characterOf v = cond (leb v 3) space (cond (leb v 13) (v - 4 + code "0") (v - 14 + code "A"))

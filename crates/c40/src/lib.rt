@@ -1,5 +1,4 @@
 // C40, the encoding of text in seals: three characters of A-Z, 0-9 and space in two octets.
-ghost use mathlib.Core.Path.{_≡_};
 ghost use Rattle.c40.specs.Decode.{Decodes};
 use crate::measure::measured;
 use crate::write::write;

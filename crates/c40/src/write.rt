@@ -4,14 +4,14 @@ ghost use Prim.Native.Nat.{_+_, _≤_, _<_};
 ghost use lib.ListN.{length};
 ghost use lib.Seq.{sets};
 ghost use Rattle.c40.specs.Reader.{three, two};
-ghost use Rattle.c40.specs.Inner.Left.{textFrom};
+ghost use Rattle.c40.specs.Inner.Left.{textFrom, Small};
 use crate::pair::Triple;
 use crate::pair::character_of;
 use crate::pair::less_one;
 use crate::pair::values_at;
 
 fn put_three(out: &mut [u8], n: usize, v: Triple)
-    requires { ⌜ n + 3 ≤ length (now out) ⌝ }
+    requires { ⌜ (n + 3 ≤ length (now out)) × Small v ⌝ }
     ensures { λ _. ⌜ now (out .exit) ≡ sets (now (out .entry)) n (three v) ⌝ }
 {
     out[n] = character_of(v.first);
@@ -20,7 +20,7 @@ fn put_three(out: &mut [u8], n: usize, v: Triple)
 }
 
 fn put_two(out: &mut [u8], n: usize, v: Triple)
-    requires { ⌜ n + 2 ≤ length (now out) ⌝ }
+    requires { ⌜ (n + 2 ≤ length (now out)) × Small v ⌝ }
     ensures { λ _. ⌜ now (out .exit) ≡ sets (now (out .entry)) n (two v) ⌝ }
 {
     out[n] = character_of(v.first);

@@ -1,7 +1,7 @@
 -- Nothing is written before the whole is known to be an image that has room.
 use borrow.Author.Needs.{needs}
 use denote.Ref.{now}
-use mathlib.Core.Path.{_≡_, sym, _∙_}
+use mathlib.Core.Path.{sym, _∙_}
 use Rattle.c40.specs.Reader.{readC40}
 use Rattle.c40.specs.Inner.Left.{textFrom}
 use Rattle.c40.proofs.Left.{fits-written, bad-written}
@@ -33,4 +33,5 @@ decode-spec =
     let a = c .before .before .before .before .before .args in
     let m = c .before .before .measured in
     let told = c .enum-told .given .1 in
-    record { answer = sym told ∙ m .ensures; output = bad-written (readC40 (now (a .s))) (now (a .out)) (sym (m .ensures) ∙ told) }))
+    let kept = bad-written (readC40 (now (a .s))) (now (a .out)) (sym (m .ensures) ∙ told) in
+    record { answer = sym told ∙ m .ensures; output = kept }))

@@ -1,5 +1,5 @@
 -- What is read from a place on, behind n characters that were read before it.
-use Prim.Native.Nat.{ℕ, _+_}
+use Prim.Native.Nat.{ℕ, _+_, _≤_}
 use mathlib.Core.Bool.{cond}
 use mathlib.Core.List.{List, []}
 use lib.Dec.{leb}
@@ -25,3 +25,9 @@ textFrom s i = textOf (readC40 (drop i s))
 -- the values in the pair at a place
 unfoldable pub valuesAt : List ℕ → ℕ → Triple
 valuesAt s i = valuesOf (numberOf (getD s i 0) (getD s (i + 1) 0))
+
+-- no value in two octets is above 40
+pub record Small (v : Triple) : Type 0 where
+  pub first : v .first ≤ 40
+  pub second : v .second ≤ 40
+  pub third : v .third ≤ 40

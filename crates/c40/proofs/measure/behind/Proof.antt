@@ -1,5 +1,5 @@
 -- Each return by the test that led to it.
-use Prim.Native.Nat.{_+_, _≤_, _<_}
+use Prim.Native.Nat.{_+_}
 use borrow.Author.Needs.{needs}
 use borrow.Author.Tests.{le-leb, lt-leb}
 use Rattle.c40.proofs.measure.behind.Statement.{statement}

@@ -1,9 +1,8 @@
 -- What is left from place i, behind n characters, answers the same as the whole.
 use borrow.Author.Needs.{needs}
 use denote.Ref.{now}
-use Prim.Native.Nat.{_≤_, _-_, _+_, _<_}
+use Prim.Native.Nat.{_≤_, _-_}
 use mathlib.Core.Path.{_≡_, _∙_}
-use native.Mathlib.Omega.{arith}
 use lib.ListN.{length, drop}
 use Rattle.c40.specs.Reader.{readC40}
 use Rattle.c40.specs.Decode.{answered}
@@ -34,7 +33,8 @@ measured-spec =
     (λ c.
     let a = c .before .before .before .before .before .before .before .args in
     let l = c .before .before .before .before .before .loop in
-    let isThree = rw (c .before .before .is-three .ensures, c .before .before .before .values-at .ensures) at (c .before .if1 .taken) in
+    let v = c .before .before .before .values-at .ensures .0 in
+    let isThree = rw (c .before .before .is-three .ensures, v) at (c .before .if1 .taken) in
     three-full (now (a .s)) (a .room) (l .i) (l .n) (l .inv .2) (search needs) isThree (search needs))
     (λ c. search needs)
     (λ c. search needs)
@@ -43,7 +43,8 @@ measured-spec =
     (λ c.
     let a = c .before .before .before .before .before .before .before .args in
     let l = c .before .before .before .before .before .loop in
-    let isThree = rw (c .before .before .is-three .ensures, c .before .before .before .values-at .ensures) at (c .before .if1 .taken) in (
+    let v = c .before .before .before .values-at .ensures .0 in
+    let isThree = rw (c .before .before .is-three .ensures, v) at (c .before .if1 .taken) in (
       search needs,
       search needs,
       three-at (now (a .s)) (a .room) (l .i) (l .n) (l .inv .2) (search needs) isThree,
@@ -53,14 +54,15 @@ measured-spec =
     (λ c.
     let a = c .before .before .before .before .before .before .before .args in
     let l = c .before .before .before .before .before .loop in
-    let noThree = rw (c .before .before .is-three .ensures, c .before .before .before .values-at .ensures) at (c .before .if1 .left) in
+    let v = c .before .before .before .values-at .ensures .0 in
+    let noThree = rw (c .before .before .is-three .ensures, v) at (c .before .if1 .left) in
     not-last (now (a .s)) (a .room) (l .i) (l .n) (l .inv .2) (search needs) noThree)
     (λ c κs. search needs)
     -- the last pair
     (λ c.
     let a = c .before .before .before .before .before .before .before .before .args in
     let l = c .before .before .before .before .before .before .loop in
-    let v = c .before .before .before .before .values-at .ensures in
+    let v = c .before .before .before .before .values-at .ensures .0 in
     let noThree = rw (c .before .before .before .is-three .ensures, v) at (c .before .before .if1 .left) in
     c .last .ensures ∙ last-at (now (a .s)) (a .room) (l .i) (l .n) (l .inv .2) (search needs) noThree)
     -- half a pair

@@ -1,10 +1,10 @@
 -- What is left from place i, stored behind n characters, gives the same as the whole.
 use borrow.Author.Needs.{needs}
 use denote.Ref.{now}
-use Prim.Native.Nat.{_≤_, _-_, _+_, _<_}
+use Prim.Native.Nat.{_≤_, _-_}
 use mathlib.Core.Path.{_≡_, refl, _∙_}
 use native.Mathlib.Omega.{arith}
-use lib.ListN.{length, drop}
+use lib.ListN.{length}
 use lib.Seq.{sets}
 use Rattle.c40.specs.Inner.Left.{textFrom}
 use Rattle.c40.proofs.Left.{three-from, three-shorter, three-written}
@@ -47,7 +47,7 @@ write-spec =
     let there : 3 ≤ length (textFrom (now (a .s)) (l .i)) = omega arith in
     let v = c .before .before .before .values-at in
     let p = c .before .before .put-three in
-    let stored = rw (v .ensures) at (p .ensures) in (
+    let stored = rw (v .ensures .0) at (p .ensures) in (
       omega arith,
       search needs,
       omega (arith, three-shorter (now (a .s)) (l .i) there),

@@ -1,7 +1,6 @@
 -- How many are left tells what the last pair holds.
 use borrow.Author.Needs.{needs}
 use denote.Ref.{now}
-use mathlib.Core.Path.{_≡_, _∙_}
 use native.Mathlib.Omega.{arith}
 use Rattle.c40.specs.Reader.{one}
 use Rattle.c40.specs.Inner.Left.{textFrom}
@@ -22,7 +21,7 @@ write-last-spec =
     (λ c.
     let a = c .before .before .before .before .before .before .before .before .args in
     let there = two-from (now (a .s)) (a .i) (search needs) in
-    rw (c .before .before .put-two .ensures, there .1, c .before .before .before .values-at .ensures))
+    rw (c .before .before .put-two .ensures, there .1, c .before .before .before .values-at .ensures .0))
     (λ c.
     let a = c .before .before .before .before .args in
     omega (arith, one-from (now (a .s)) (a .i) (search needs) .0))
