@@ -41,39 +41,39 @@ unfolding isValue
 above-values v h = rw (le-leb 3 v (omega arith), lt-leb v 39 (omega arith))
 
 -- a character has a value, and is the one that the value has
-unfoldable pub isTold : ℕ → Type 0
-isTold c = (isValue (valueOf c) ≡ true) × (characterOf (valueOf c) ≡ c)
+unfoldable pub hasValue : ℕ → Type 0
+hasValue c = (isValue (valueOf c) ≡ true) × (characterOf (valueOf c) ≡ c)
 
-digit-told : (c : ℕ) → code "0" ≤ c → c ≤ code "9" → isTold c
-unfolding isTold
-digit-told c h k =
+digit-valued : (c : ℕ) → code "0" ≤ c → c ≤ code "9" → hasValue c
+unfolding hasValue
+digit-valued c h k =
     let same = digit-value c h k in (
       rw same (in-values (c - code "0" + 4) (omega arith) (omega arith)),
       rw (same, value-digit (c - code "0" + 4) (omega arith) (omega arith)) (omega arith),
     )
 
-letter-told : (c : ℕ) → code "A" ≤ c → c ≤ code "Z" → isTold c
-unfolding isTold
-letter-told c h k =
+letter-valued : (c : ℕ) → code "A" ≤ c → c ≤ code "Z" → hasValue c
+unfolding hasValue
+letter-valued c h k =
     let same = letter-value c h k in (
       rw same (in-values (c - code "A" + 14) (omega arith) (omega arith)),
       rw (same, value-letter (c - code "A" + 14) (omega arith)) (omega arith),
     )
 
-space-told : isTold space
-unfolding isTold valueOf characterOf isValue isDigit isLetter
-space-told = (refl, refl)
+space-valued : hasValue space
+unfolding hasValue valueOf characterOf isValue isDigit isLetter
+space-valued = (refl, refl)
 
-pub value-tells : (c : ℕ) → isC40 c ≡ true → isTold c
+pub value-tells : (c : ℕ) → isC40 c ≡ true → hasValue c
 unfolding isC40
 value-tells c e = go (or-either (isDigit c) (isLetter c || eqb c space) e)
   where
-    other : (isLetter c ≡ true) ⊎ (eqb c space ≡ true) → isTold c
-    other (inl h) = letter-told c (letter-range c h .0) (letter-range c h .1)
-    other (inr h) = rw (eqb-true c space h) space-told
+    other : (isLetter c ≡ true) ⊎ (eqb c space ≡ true) → hasValue c
+    other (inl h) = letter-valued c (letter-range c h .0) (letter-range c h .1)
+    other (inr h) = rw (eqb-true c space h) space-valued
 
-    go : (isDigit c ≡ true) ⊎ (isLetter c || eqb c space ≡ true) → isTold c
-    go (inl h) = digit-told c (digit-range c h .0) (digit-range c h .1)
+    go : (isDigit c ≡ true) ⊎ (isLetter c || eqb c space ≡ true) → hasValue c
+    go (inl h) = digit-valued c (digit-range c h .0) (digit-range c h .1)
     go (inr h) = other (or-either (isLetter c) (eqb c space) h)
 
 -- a value has a character, and is the one that the character has

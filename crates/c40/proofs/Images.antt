@@ -16,14 +16,14 @@ use Rattle.c40.specs.Values.{isC40, valueOf, isValue}
 use Rattle.c40.specs.Image.{packed, pair, imageOf}
 use Rattle.c40.specs.Reader.{characters, numberOf, valuesOf, isThree, three, isTwo, two, isOne, one}
 use Rattle.c40.specs.Reader.{before, lastPair, readC40}
-use Rattle.c40.proofs.Coding.{c40-range, isTold, value-tells, isHeld, character-tells, value-range, above-values}
+use Rattle.c40.proofs.Coding.{c40-range, hasValue, value-tells, isHeld, character-tells, value-range, above-values}
 use Rattle.c40.proofs.Packing.{packed-values, values-packed, pair-number, number-pair, first-above, some-number}
 use Rattle.c40.proofs.Pairs.{Pairs, none, ofOne, ofTwo, ofThree, read-pairs, same-text}
 
 -- an image is read as its text: pair by pair, and then whole
 
 value-most : (c : ℕ) → isC40 c ≡ true → valueOf c ≤ 39
-unfolding isTold
+unfolding hasValue
 value-most c h = value-range (valueOf c) (value-tells c h .0) .1
 
 packed-read : (a b c : ℕ) → b ≤ 39 → c ≤ 39
@@ -32,7 +32,7 @@ packed-read a b c hb hc = ap valuesOf (pair-number (packed a b c)) ∙ packed-va
 
 three-image : (c d e : ℕ) (s : List ℕ) → isC40 c ≡ true → isC40 d ≡ true → isC40 e ≡ true
     → readC40 (pair (packed (valueOf c) (valueOf d) (valueOf e)) s) ≡ before (c ∷ d ∷ e ∷ []) (readC40 s)
-unfolding readC40 pair isThree three isTold
+unfolding readC40 pair isThree three hasValue
 three-image c d e s hc hd he =
     let v = packed-read (valueOf c) (valueOf d) (valueOf e) (value-most d hd) (value-most e he) in
     let tc = value-tells c hc in
@@ -42,7 +42,7 @@ three-image c d e s hc hd he =
 
 two-image : (c d : ℕ) → isC40 c ≡ true → isC40 d ≡ true
     → readC40 (pair (packed (valueOf c) (valueOf d) 0) []) ≡ characters (c ∷ d ∷ [])
-unfolding readC40 pair lastPair isThree isTwo two isValue isTold
+unfolding readC40 pair lastPair isThree isTwo two isValue hasValue
 two-image c d hc hd =
     let v = packed-read (valueOf c) (valueOf d) 0 (value-most d hd) (omega arith) in
     let tc = value-tells c hc in

@@ -144,10 +144,6 @@ module _ (s : List ℕ) (i : ℕ) where
       let both = one-left (text-pairs (drop i s) (omega arith)) h in
       (pair-left (both .0), both .1 ∙ rw (getD-drop i s 1 0))
 
-pub none-from : (t : List ℕ) → length t ≡ 0 → t ≡ []
-none-from [] h = refl
-none-from (c ∷ t) h = absurd (omega arith)
-
 -- three more are stored
 module _ (s : List ℕ) (i : ℕ) (there : 3 ≤ length (textFrom s i)) where
   pub three-shorter : length (textFrom s i) ≡ 3 + length (textFrom s (i + 2))

@@ -6,5 +6,5 @@ pub mod Left  -- the steps of the two loops: what is read from a place on
 -- exactly the images are read (`reads-exactly`), no two texts share one (`image-tells`), and it is octets, two for each three
 -- characters begun (`image-length`, `image-octets`)
 pub mod Images
--- the examples of the papers hold (`examples-hold`)
+-- the examples of the papers hold (`printed-hold`)
 pub mod Printed

@@ -6,9 +6,9 @@ use Rattle.zone.specs.Alphabet.{isDigit, isLetter}
 use Rattle.c40.specs.Values.{isC40, valueOf, isValue, characterOf}
 use Rattle.c40.specs.Image.{packed, pair, imageOf}
 use Rattle.c40.specs.Reader.{numberOf, valuesOf, isThree, three, isTwo, two, isOne, one, before, lastPair, readC40}
-use Rattle.c40.specs.Examples.{octets, isText, isRight, examples, allRight}
+use Rattle.c40.specs.Examples.{octets, isText, isRight, printed, allPrinted}
 
-pub examples-hold : allRight examples ≡ true
-unfolding allRight examples isRight isText octets alike imageOf pair packed valueOf isDigit isLetter readC40 before lastPair
+pub printed-hold : allPrinted printed ≡ true
+unfolding allPrinted printed isRight isText octets alike imageOf pair packed valueOf isDigit isLetter readC40 before lastPair
     isThree three isTwo two isOne one isC40 isValue characterOf valuesOf numberOf
-examples-hold = refl
+printed-hold = refl

@@ -26,13 +26,13 @@ isText t noImage = false
 unfoldable pub isRight : Example → Bool
 isRight e = alike (imageOf (octets (e .text))) (e .image) && isText (octets (e .text)) (readC40 (e .image))
 
-unfoldable pub examples : List Example
-examples =
+unfoldable pub printed : List Example
+printed =
     record { text = "XKCD"; image = 0xEB ∷ 0x11 ∷ 0xFE ∷ 0x45 ∷ [] }
     ∷ record { text = "XK CD"; image = 0xEB ∷ 0x04 ∷ 0x66 ∷ 0xA9 ∷ [] }
     ∷ record { text = "VISA01"; image = 0xDE ∷ 0x51 ∷ 0x58 ∷ 0x26 ∷ [] }
     ∷ []
 
-unfoldable pub allRight : List Example → Bool
-allRight [] = true
-allRight (e ∷ es) = isRight e && allRight es
+unfoldable pub allPrinted : List Example → Bool
+allPrinted [] = true
+allPrinted (e ∷ es) = isRight e && allPrinted es

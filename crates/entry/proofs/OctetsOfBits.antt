@@ -3,10 +3,11 @@ use Prim.Native.Nat.{ℕ, zero, suc, _+_, _-_, _*_, _/_, _%_, _^_, _≤_, _<_}
 use mathlib.Core.Path.{_≡_, refl, ap, sym, _∙_}
 use mathlib.Core.Bool.{Bool, true, false, cond}
 use mathlib.Core.List.{List, [], _∷_, _++_, append-nil}
+use native.Mathlib.Nat.{le-of-eq}
 use native.Mathlib.Omega.{arith}
 use borrow.Author.Tests.{ltb-true, eqb-true, eqb-false, ne-eqb}
 use lib.Dec.{ltb, eqb}
-use lib.ListN.{length, take, drop, replicate, length-drop, take-append-drop}
+use lib.ListN.{length, take, drop, replicate, length-drop, drop-of-length-le, take-append-drop}
 use lib.Pow.{pow-pos}
 use lib.Seq.{take-add}
 use Rattle.lent.proofs.Bools.{and-both}
@@ -31,14 +32,10 @@ first-eight b e h = sym (put-worth 8 b (drop 8 b) e h ∙ take-append-drop 8 b)
 pub octets-first : (b : List ℕ) → every isBit b ≡ true → 8 ≤ length b → octets b ≡ worth 8 b ∷ octets (drop 8 b)
 octets-first b e h = ap octets (first-eight b e h) ∙ gathered-eight (worth 8 b) (drop 8 b) (worth-lt 8 b e)
 
-no-bits : (b : List ℕ) → length b ≡ 0 → b ≡ []
-no-bits [] e = refl
-no-bits (c ∷ b) e = absurd (omega arith)
-
 -- the bits of whole octets are those that were gathered
 pub bits-octets : (q : ℕ) (b : List ℕ) → every isBit b ≡ true → length b ≡ 8 * q → bitsOf (octets b) ≡ b
 unfolding octets gathered bitsOf
-bits-octets zero b e h = rw (no-bits b h)
+bits-octets zero b e h = let none : b ≡ [] = drop-of-length-le b {i = 0} (le-of-eq h) in rw none
 bits-octets (suc q) b e h =
     let left : length (drop 8 b) ≡ 8 * q = rw (length-drop 8 b) (omega arith) in
     ap bitsOf (octets-first b e (omega arith))

@@ -1,10 +1,13 @@
 -- How many are left tells what the last pair holds.
 use borrow.Author.Needs.{needs}
 use denote.Ref.{now}
+use mathlib.Core.Path.{_≡_}
+use mathlib.Core.List.{[]}
 use native.Mathlib.Omega.{arith}
+use lib.ListN.{drop-of-length-le}
 use Rattle.c40.specs.Reader.{one}
 use Rattle.c40.specs.Inner.Left.{textFrom}
-use Rattle.c40.proofs.Left.{two-from, one-from, none-from}
+use Rattle.c40.proofs.Left.{two-from, one-from}
 use Rattle.c40.proofs.write.write_last.Statement.{statement}
 use Rattle.c40.proofs.write.write_last.Tie as tie
 
@@ -36,4 +39,6 @@ write-last-spec =
     rw (one-from (now (a .s)) (a .i) (search needs) .1, c .less-one .ensures))
     (λ c.
     let a = c .before .before .before .before .args in
-    rw (none-from (textFrom (now (a .s)) (a .i)) (omega arith))))
+    let none : textFrom (now (a .s)) (a .i) ≡ [] =
+    drop-of-length-le (textFrom (now (a .s)) (a .i)) {i = 0} (omega arith) in
+    rw none))
