@@ -4,7 +4,7 @@ use denote.Ref.{now}
 use mathlib.Core.Path.{sym, _∙_}
 use Rattle.c40.specs.Reader.{readC40}
 use Rattle.c40.specs.Inner.Left.{textFrom}
-use Rattle.c40.proofs.Left.{fits-written, bad-written}
+use Rattle.c40.proofs.Storing.{fits-written, bad-written}
 use Rattle.c40.proofs.decode.Statement.{statement}
 use Rattle.c40.proofs.decode.Tie as tie
 

@@ -7,7 +7,7 @@ use native.Mathlib.Omega.{arith}
 use lib.ListN.{length}
 use lib.Seq.{sets}
 use Rattle.c40.specs.Inner.Left.{textFrom}
-use Rattle.c40.proofs.Left.{three-from, three-shorter, three-written}
+use Rattle.c40.proofs.Storing.{three-from, three-shorter, three-written}
 use Rattle.c40.proofs.write.write.Statement.{statement}
 use Rattle.c40.proofs.write.write.Tie as tie
 

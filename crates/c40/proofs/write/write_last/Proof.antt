@@ -7,7 +7,7 @@ use native.Mathlib.Omega.{arith}
 use lib.ListN.{drop-of-length-le}
 use Rattle.c40.specs.Reader.{one}
 use Rattle.c40.specs.Inner.Left.{textFrom}
-use Rattle.c40.proofs.Left.{two-from, one-from}
+use Rattle.c40.proofs.Storing.{two-from, one-from}
 use Rattle.c40.proofs.write.write_last.Statement.{statement}
 use Rattle.c40.proofs.write.write_last.Tie as tie
 

@@ -1,0 +1,86 @@
+-- Counting the characters: what is read from a place on, behind n others, answers the same as the whole.
+use Prim.Native.Nat.{ℕ, suc, _+_, _-_, _≤_, _<_}
+use mathlib.Core.Path.{_≡_, refl, sym, ap, _∙_}
+use mathlib.Core.Bool.{true, false}
+use mathlib.Core.List.{List, [], _∷_, _++_}
+use native.Mathlib.Nat.{zero-add, add-zero}
+use native.Mathlib.Omega.{arith}
+use borrow.Author.Tests.{lt-leb, le-leb}
+use lib.Dec.{leb}
+use lib.ListN.{length, drop, getD, drop-of-length-le}
+use lib.Seq.{drop-cons}
+use Rattle.c40.specs.declared.pair.Triple.{Triple}
+use Rattle.c40.specs.declared.Decoded.the-variants.{Characters, Bad}
+use Rattle.c40.specs.Reader.{Reading, characters, noImage, isThree, three}
+use Rattle.c40.specs.Reader.{before, lastPair, readC40}
+use Rattle.c40.specs.Decode.{answered}
+use Rattle.c40.specs.Inner.Left.{fitted, valuesAt}
+use Rattle.c40.proofs.Pairs.{none}
+
+-- the pair at a place, and what follows it
+pub pair-at : (s : List ℕ) (i : ℕ) → i + 2 ≤ length s → drop i s ≡ getD s i 0 ∷ getD s (i + 1) 0 ∷ drop (i + 2) s
+pair-at s i h =
+    let e : suc i ≡ i + 1 = omega arith in
+    let f : suc (i + 1) ≡ i + 2 = omega arith in
+    drop-cons s i 0 (omega arith)
+    ∙ ap (λ l. getD s i 0 ∷ l) (rw e (drop-cons s (i + 1) 0 (omega arith) ∙ rw f))
+
+-- three more behind n
+three-fitted : (room n : ℕ) (v : Triple) (r : Reading) → fitted room n (before (three v) r) ≡ fitted room (n + 3) r
+unfolding fitted before three
+three-fitted room n v (characters t) =
+    let e : n + length (three v ++ t) ≡ n + 3 + length t = omega arith in
+    rw e
+three-fitted room n v noImage = refl
+
+none-fitted : (room n : ℕ) (r : Reading) → room < n → fitted room n r ≡ Bad
+unfolding fitted
+none-fitted room n (characters t) h = rw (lt-leb (n + length t) room (omega arith))
+none-fitted room n noImage h = refl
+
+module _ (s : List ℕ) (room i n : ℕ) (left : fitted room n (readC40 (drop i s)) ≡ answered (readC40 s) room) where
+  -- three more
+  pub three-at : i + 2 ≤ length s → isThree (valuesAt s i) ≡ true
+      → fitted room (n + 3) (readC40 (drop (i + 2) s)) ≡ answered (readC40 s) room
+  unfolding readC40 valuesAt
+  three-at h e = sym (three-fitted room n (valuesAt s i) (readC40 (drop (i + 2) s))) ∙ (rw (pair-at s i h, e) at left)
+
+  -- there is no room for three more
+  pub three-full : i + 2 ≤ length s → isThree (valuesAt s i) ≡ true → room < n + 3 → Bad ≡ answered (readC40 s) room
+  three-full h e k = sym (none-fitted room (n + 3) (readC40 (drop (i + 2) s)) k) ∙ three-at h e
+
+  -- another pair that is not the last
+  pub not-last : i + 2 < length s → isThree (valuesAt s i) ≡ false → Bad ≡ answered (readC40 s) room
+  unfolding readC40 lastPair fitted valuesAt
+  not-last h e = rw (pair-at s i (omega arith), e, drop-cons s (i + 2) 0 h) at left
+
+  -- the last pair
+  pub last-at : i + 2 ≡ length s → isThree (valuesAt s i) ≡ false
+      → fitted room n (lastPair (getD s i 0) (getD s (i + 1) 0) []) ≡ answered (readC40 s) room
+  unfolding readC40 valuesAt
+  last-at h e =
+      let k : length s ≤ i + 2 = omega arith in
+      rw (pair-at s i (omega arith), e, drop-of-length-le s k) at left
+
+  -- half a pair
+  pub half-at : i + 1 ≡ length s → Bad ≡ answered (readC40 s) room
+  unfolding readC40 fitted
+  half-at h =
+      let k : length s ≤ suc i = omega arith in
+      rw (drop-cons s i 0 (omega arith), drop-of-length-le s k) at left
+
+  -- none is left
+  pub none-at : length s ≤ i → n ≤ room → Characters n ≡ answered (readC40 s) room
+  unfolding readC40 fitted
+  none-at h k =
+      let fits : leb (n + 0) room ≡ true = le-leb (n + 0) room (omega arith) in
+      rw (drop-of-length-le s h, fits, add-zero n) at left
+
+-- the whole, behind nothing
+pub all-fitted : (s : List ℕ) (room : ℕ) → fitted room 0 (readC40 s) ≡ answered (readC40 s) room
+unfolding fitted answered
+all-fitted s room = go (readC40 s)
+  where
+    go : (r : Reading) → fitted room 0 r ≡ answered r room
+    go (characters t) = rw zero-add
+    go noImage = refl
