@@ -14,11 +14,11 @@ use Rattle.zone.specs.Alphabet.{every}
 use Rattle.zone.specs.Octets.{isOctet, areOctets}
 use Rattle.c40.specs.Values.{isC40, valueOf, isValue}
 use Rattle.c40.specs.Image.{packed, pair, imageOf}
-use Rattle.c40.specs.Reader.{characters, numberOf, valuesOf, isThree, three, isTwo, two, isOne, one}
+use Rattle.c40.specs.Reader.{Reading, characters, noImage, numberOf, valuesOf, isThree, three, isTwo, two, isOne, one}
 use Rattle.c40.specs.Reader.{before, lastPair, readC40}
 use Rattle.c40.proofs.Coding.{c40-range, hasValue, value-tells, isHeld, character-tells, value-range, above-values}
 use Rattle.c40.proofs.Packing.{packed-values, values-packed, pair-number, number-pair, first-above, some-number}
-use Rattle.c40.proofs.Pairs.{Pairs, none, ofOne, ofTwo, ofThree, read-pairs, same-text}
+use Rattle.c40.proofs.Pairs.{Pairs, none, ofOne, ofTwo, ofThree, read-pairs, same-text, no-text}
 
 -- an image is read as its text: pair by pair, and then whole
 
@@ -130,6 +130,15 @@ pairs-image (ofThree x y {s} {t} p more) o =
 -- octets are read as a text exactly when it is one of C40's characters, and they are its image
 pub reads-exactly : (s t : List ℕ) → areOctets s → (readC40 s ≡ characters t) ↔ ((every isC40 t ≡ true) × (imageOf t ≡ s))
 reads-exactly s t o = (λ e. pairs-image (read-pairs s t e) o, λ w. ap readC40 (sym (w .1)) ∙ image-read t (w .0))
+
+-- and they are refused exactly when they are no such text's image
+pub refuses-exactly : (s : List ℕ) → areOctets s
+    → (readC40 s ≡ noImage) ↔ ((t : List ℕ) → every isC40 t ≡ true → imageOf t ≡ s → ⊥)
+refuses-exactly s o = (λ e t p q. no-text t (sym e ∙ reads-exactly s t o .1 (p, q)), go (readC40 s) refl)
+  where
+    go : (r : Reading) → readC40 s ≡ r → ((t : List ℕ) → every isC40 t ≡ true → imageOf t ≡ s → ⊥) → readC40 s ≡ noImage
+    go (characters t) e h = let w = reads-exactly s t o .0 e in absurd (h t (w .0) (w .1))
+    go noImage e h = e
 
 -- no two texts share an image
 pub image-tells : (t u : List ℕ) → every isC40 t ≡ true → every isC40 u ≡ true → imageOf t ≡ imageOf u → t ≡ u

@@ -4,8 +4,8 @@ pub mod Packing  -- three values in one number, and a number in two octets
 pub mod Pairs  -- a reading pair by pair
 pub mod Counting  -- the steps of the loop that counts the characters
 pub mod Storing  -- the steps of the loop that stores them, and what was counted decides
--- exactly the images are read (`reads-exactly`), no two texts share one (`image-tells`), and it is octets, two for each three
--- characters begun (`image-length`, `image-octets`)
+-- exactly the images are read (`reads-exactly`, `refuses-exactly`), no two texts share one (`image-tells`), and it is octets, two
+-- for each three characters begun (`image-length`, `image-octets`)
 pub mod Images
 -- the examples of the papers hold (`printed-hold`)
 pub mod Printed

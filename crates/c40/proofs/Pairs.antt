@@ -20,7 +20,7 @@ pub data Pairs : List ℕ → List ℕ → Type 0 where
 pub same-text : (t u : List ℕ) → characters t ≡ characters u → t ≡ u
 same-text t u e = cc
 
-no-text : (t : List ℕ) → noImage ≡ characters t → ⊥
+pub no-text : (t : List ℕ) → noImage ≡ characters t → ⊥
 no-text t e = let z : _≡_ {A = ℕ} 0 1 = cc in omega arith
 
 -- what is read is read so
