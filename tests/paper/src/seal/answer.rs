@@ -83,11 +83,10 @@ impl Outcome<SealAnswer> {
 
 impl fmt::Display for SealAnswer {
     fn fmt(&self, to: &mut fmt::Formatter) -> fmt::Result {
-        let text = String::from_utf8_lossy;
         write!(to, "number {}, value {}, signature at {}", self.number, self.value, self.signature)?;
         write!(to, ", version {}, definition {}, category {}", self.version, self.definition, self.category)?;
-        write!(to, ", country {}, signer {}", text(&self.country), text(&self.signer))?;
-        write!(to, ", reference {} of {}", text(&self.reference), self.reference_len)?;
+        write!(to, ", country {}, signer {}", self.country.escape_ascii(), self.signer.escape_ascii())?;
+        write!(to, ", reference {} of {}", self.reference.escape_ascii(), self.reference_len)?;
         write!(to, ", issued {:?}, signed on {:?}", self.issued, self.signed_on)
     }
 }
