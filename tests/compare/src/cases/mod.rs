@@ -15,7 +15,6 @@ pub mod read_presentation;
 #[cfg(feature = "seals")]
 pub mod read_seal;
 pub mod read_text;
-pub mod seal_damage;
 pub mod seals;
 pub mod trees;
 pub mod trials;

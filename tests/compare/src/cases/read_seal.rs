@@ -3,7 +3,7 @@
 use crate::border;
 use crate::cases::houses::{house, HOUSES};
 use crate::cases::octets;
-use crate::cases::seal_damage::{self, filled};
+use crate::cases::seals::damage::{self, filled};
 use crate::cases::seals::Pieces;
 use crate::cases::trials::{self, Call, Trials};
 use crate::guard::{Lent, Side};
@@ -127,7 +127,7 @@ impl Trials<ReadSeal> {
     fn limit(&mut self) {
         for size in [65_000, LONGEST - 1, LONGEST, LONGEST + 1, LONGEST + 2, LONGEST + 3] {
             for version in VERSIONS {
-                let sample = seal_damage::sample(&mut self.seeds, version);
+                let sample = damage::sample(&mut self.seeds, version);
                 filled(&sample, size).iter().for_each(|lent| self.plain(lent));
             }
         }
@@ -141,9 +141,9 @@ impl Trials<ReadSeal> {
     /// Each kind of damage to each of its places, and each house with it.
     fn damage(&mut self) {
         for sample in VERSIONS.into_iter().flat_map(|version| [version; 20]) {
-            let sample = seal_damage::sample(&mut self.seeds, sample);
+            let sample = damage::sample(&mut self.seeds, sample);
             let pieces = Pieces::of(&sample);
-            for damage in seal_damage::all(&sample) {
+            for damage in damage::all(&sample) {
                 let (lent, _) = damage.alone(&pieces);
                 self.together(|trials| {
                     HOUSES.iter().for_each(|house| trials.with_room(*house, &lent, ROOM));
@@ -156,8 +156,8 @@ impl Trials<ReadSeal> {
     /// Any two of them. One with all those before it is one case.
     fn pairs(&mut self) {
         for version in VERSIONS {
-            let sample = seal_damage::sample(&mut self.seeds, version);
-            let (pieces, all) = (Pieces::of(&sample), seal_damage::all(&sample));
+            let sample = damage::sample(&mut self.seeds, version);
+            let (pieces, all) = (Pieces::of(&sample), damage::all(&sample));
             for (at, one) in all.iter().enumerate() {
                 let both = all[..at].iter().filter_map(|other| one.with(other, &pieces));
                 self.together(|trials| both.for_each(|(lent, _)| trials.plain(&lent)));
@@ -167,7 +167,7 @@ impl Trials<ReadSeal> {
 
     fn cut(&mut self) {
         for version in VERSIONS {
-            let lent = seal_damage::sample(&mut self.seeds, version).octets();
+            let lent = damage::sample(&mut self.seeds, version).octets();
             for length in 0..lent.len() {
                 self.together(|trials| {
                     trials.case(&lent[..length]);
@@ -234,7 +234,7 @@ impl Trials<ReadSeal> {
 
     /// Nothing is read past either end, wherever a seal is cut, nor the pointer of an empty range.
     fn fenced(&mut self) {
-        let samples = VERSIONS.map(|version| seal_damage::sample(&mut self.seeds, version));
+        let samples = VERSIONS.map(|version| damage::sample(&mut self.seeds, version));
         let longest = filled(&samples[0], LONGEST);
         for side in Side::BOTH {
             for lent in samples.iter().map(|sample| sample.octets()) {

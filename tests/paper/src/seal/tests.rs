@@ -67,11 +67,11 @@ fn the_seal_of_the_papers() {
 #[test]
 fn it_is_written_as_it_is_printed() {
     let header = read(&printed::signed()).unwrap().header;
-    let text = Feature::of_text(ERIKSSON_TD2.as_bytes());
-    assert_eq!(write(&header, &[text.clone()], &[7; 64]), printed::signed());
+    let features = [Feature::of_text(ERIKSSON_TD2.as_bytes())];
+    assert_eq!(write(&header, &features, &[7; 64]), printed::signed());
     // In version octet 03 the reference is UT0, 105, FFA, FF: it says its length, and has two octets more.
     let later = Header { version: 0x03, ..header };
-    let lent = write(&later, &[text], &[7; 64]);
+    let lent = write(&later, &features, &[7; 64]);
     assert_eq!(lent[..12], [0xdc, 0x03, 0xd9, 0xc5, 0xd9, 0xad, 0x1f, 0xea, 0x79, 0xc7, 0x79, 0xb9]);
     assert_eq!(read(&lent), Ok(Seal { header: later, record: record(), signature: 72..136 }));
 }

@@ -1,6 +1,11 @@
 //! A seal in pieces, of which any can be spoilt while all others stand: the eight fields of its header, its features,
 //! its signature zone.
 
+pub mod damage;
+mod fields;
+#[cfg(test)]
+mod tests;
+
 use paper::refusal::Refusal;
 use paper::seal::{header, Feature, MARKER, TEXT};
 use paper::tlv::tlv;
@@ -52,26 +57,5 @@ impl Pieces {
             _ => 27,
         };
         Refusal { number, place }
-    }
-}
-
-#[cfg(test)]
-mod tests {
-    use super::*;
-    use paper::seal;
-    use shared::seals::sound;
-    use shared::seeds::Seeds;
-
-    /// Every prefix of many seals.
-    #[test]
-    fn cut_off() {
-        let mut seeds = Seeds::new(1);
-        for _ in 0..100 {
-            let sound = sound(&mut seeds);
-            let (pieces, lent) = (Pieces::of(&sound), sound.octets());
-            assert_eq!(pieces.octets(), lent);
-            assert!(seal::read(&lent).is_ok());
-            (0..lent.len()).for_each(|length| assert_eq!(seal::read(&lent[..length]), Err(pieces.cut(length))));
-        }
     }
 }

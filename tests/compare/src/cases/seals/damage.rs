@@ -1,13 +1,12 @@
 //! Every kind of damage to a seal, with the refusal that it is meant to give: each number at each of its places, to be
 //! taken alone and in pairs.
 
-use crate::cases::seals::{Pieces, FIELDS};
-use paper::day::Day;
+use crate::cases::seals::{fields, Pieces, FIELDS};
 use paper::form::Form;
 use paper::refusal::Refusal;
 use paper::seal::{Feature, MARKER, TEXT};
+use paper::text;
 use paper::tlv::tlv;
-use paper::{c40, day, text};
 use shared::records::until;
 use shared::seals::{sound, Sound};
 use shared::seeds::Seeds;
@@ -17,15 +16,15 @@ use shared::seeds::Seeds;
 pub struct Damage {
     piece: usize,
     octets: Vec<u8>,
-    number: u32,
+    pub number: u32,
     /// The piece at which it is told.
-    told: usize,
+    pub told: usize,
     /// Whether there is a feature with a text more, or less.
     counts: bool,
 }
 
 impl Damage {
-    fn new(piece: usize, octets: Vec<u8>, number: u32) -> Damage {
+    pub fn new(piece: usize, octets: Vec<u8>, number: u32) -> Damage {
         Damage { piece, octets, number, told: piece, counts: false }
     }
 
@@ -68,89 +67,17 @@ pub fn sample(seeds: &mut Seeds, version: u8) -> Sound {
 /// Every kind of damage to this seal.
 pub fn all(sound: &Sound) -> Vec<Damage> {
     let pieces = Pieces::of(sound);
-    [header(&pieces), reference(sound), coded(&pieces), counted(&pieces), values(&pieces), zone(&pieces), texts(sound)]
-        .concat()
-}
-
-/// Fields of one octet, the country and the days.
-fn header(pieces: &Pieces) -> Vec<Damage> {
-    let octets: [(usize, &[u8]); 4] = [
-        (0, &[0x00, 0xdb, 0xdd, 0xff]),
-        (1, &[0x00, 0x01, 0x04, 0x12, 0xff]),
-        (6, &[0x00, 0x5d, 0x5f, 0xfb, 0xff]),
-        (7, &[0x00, 0x01, 0x02, 0x04, 0xfd, 0xff]),
-    ];
-    let octets = octets.iter().flat_map(|(field, octets)| octets.iter().map(|octet| (*field, vec![*octet])));
-    let countries: [&[u8]; 7] = [b"   ", b" UT", b"D D", b"UT0", b"0  ", b"UT", b"D"];
-    let countries = countries.iter().map(|text| (2, c40::write(text)));
-    let days = [4, 5].into_iter().flat_map(|field| no_days().into_iter().map(move |day| (field, day)));
-    let pairs = [2, 3].into_iter().flat_map(|field| {
-        let image = &pieces.pieces[field];
-        let bad = (0..image.len() / 2).flat_map(|pair| with_bad_pairs(image, pair));
-        bad.map(move |octets| (field, octets))
-    });
-    octets.chain(countries).chain(days).chain(pairs).map(|(field, octets)| Damage::new(field, octets, 24)).collect()
-}
-
-/// Three octets that are no day of the calendar.
-fn no_days() -> Vec<Vec<u8>> {
-    let leap = [(1900, 2, 29), (2100, 2, 29), (2001, 2, 29), (2000, 2, 30)];
-    let edges = [(0, 1, 1), (0, 2, 29), (2000, 13, 1), (2000, 0, 1), (2000, 1, 0), (2000, 1, 32), (2000, 4, 31)];
-    let day = |(year, month, day)| day::write(Day { year, month, day }).to_vec();
-    leap.into_iter().chain(edges).map(day).chain([vec![0x00; 3], vec![0xff; 3]]).collect()
+    [fields::all(sound), coded(&pieces), counted(&pieces), values(&pieces), zone(&pieces), texts(sound)].concat()
 }
 
 /// C40 with one of its pairs replaced by each that cannot stand there: values 0, 1, 2 and 40, FE with what is no
 /// character, and FE or 0 as a third value, which in the last pair leave fewer characters, none of them of a reference.
-fn with_bad_pairs(image: &[u8], pair: usize) -> Vec<Vec<u8>> {
+pub fn with_bad_pairs(image: &[u8], pair: usize) -> Vec<Vec<u8>> {
     let joined = |a: u16, b: u16, c: u16| (1600 * a + 40 * b + c + 1).to_be_bytes();
     let values = (0..3).flat_map(|value| [joined(value, 30, 30), joined(30, value, 30), joined(30, 30, value)]);
     let others = [[0x00, 0x00], [0xfa, 0x01], [0xff, 0xff], [0xfe, 0x00], [0xfe, b'<' + 1], [0xfe, b'Q' + 1]];
     let with = |octets: [u8; 2]| [&image[..2 * pair], &octets, &image[2 * pair + 2..]].concat();
     values.chain(others).map(with).collect()
-}
-
-/// A reference with a character that its place does not allow, and one whose count is another than it has.
-fn reference(sound: &Sound) -> Vec<Damage> {
-    let image = Pieces::of(sound).pieces[3].clone();
-    let sound_text = c40::read(&image).expect("the reference of a sound seal");
-    let mut all = Vec::new();
-    for place in 0..sound_text.len() {
-        let others: &[u8] = match place {
-            0 | 1 => b" 09",
-            2 | 3 => b" ",
-            _ => b" GZ",
-        };
-        all.extend(others.iter().map(|character| {
-            let mut text = sound_text.clone();
-            text[place] = *character;
-            text
-        }));
-    }
-    if sound.header.version == 0x03 {
-        all.extend(miscounted(sound.header.reference.len()).map(|count| {
-            let count = format!("{count:02X}");
-            [&sound_text[..4], count.as_bytes(), &sound_text[6..]].concat()
-        }));
-    }
-    let images = all.iter().map(|text| c40::write(text)).chain(regrouped(&sound_text));
-    images.map(|image| Damage::new(3, image, 24)).collect()
-}
-
-/// As many characters in as many octets, but with what is left over by three in a pair before the last.
-fn regrouped(text: &[u8]) -> Vec<Vec<u8>> {
-    let (pairs, left) = (text.len() / 3, text.len() % 3);
-    let parts = |pair: usize| [&text[..3 * pair], &text[3 * pair..3 * pair + left], &text[3 * pair + left..]];
-    let image = |pair| parts(pair).map(c40::write).concat();
-    (0..pairs).filter(|_| left > 0).map(image).collect()
-}
-
-/// Counts of one more and one less than there are characters. Where one more has two octets more, these are the issue
-/// date's and begin with no FE; where one less has two octets less, the date would be told and not the reference.
-fn miscounted(length: usize) -> impl Iterator<Item = usize> {
-    let more = Some(length + 1).filter(|count| *count <= 255);
-    let less = length.checked_sub(1).filter(|_| length % 3 != 1);
-    more.into_iter().chain(less)
 }
 
 /// Features whose length is wrongly coded, or more than there is, before every feature and before FF; and the text's.
@@ -264,91 +191,4 @@ pub fn filled(sound: &Sound, size: usize) -> [Vec<u8>; 2] {
     featured.features.insert(0, long(1_000));
     featured.features[0] = long(size - (featured.octets().len() - 1_000));
     [signed.octets(), featured.octets()]
-}
-
-#[cfg(test)]
-mod tests {
-    use super::*;
-    use paper::seal;
-    use shared::seals::{sound_of_kind, VERSIONS};
-    use std::collections::BTreeSet;
-
-    /// Of both versions, with references of every remainder by three.
-    fn samples() -> Vec<Sound> {
-        let mut seeds = Seeds::new(1);
-        let lengths = [0, 1, 2, 3, 5, 7, 254, 255];
-        let later = lengths.map(|length| sound_of_kind(&mut seeds, 0x03, length));
-        let earlier = [5; 8].map(|length| sound_of_kind(&mut seeds, 0x02, length));
-        later.into_iter().chain(earlier).collect()
-    }
-
-    #[test]
-    fn each_gives_the_refusal_that_it_is_meant_to() {
-        for sound in samples() {
-            let pieces = Pieces::of(&sound);
-            for damage in all(&sound) {
-                let (lent, refusal) = damage.alone(&pieces);
-                assert_eq!(seal::read(&lent), Err(refusal));
-            }
-        }
-    }
-
-    #[test]
-    fn of_two_the_first_in_order_is_given() {
-        for version in VERSIONS {
-            let sound = sample(&mut Seeds::new(1), version);
-            let (pieces, all) = (Pieces::of(&sound), all(&sound));
-            for (at, one) in all.iter().enumerate() {
-                for (lent, refusal) in all[..at].iter().filter_map(|other| one.with(other, &pieces)) {
-                    assert_eq!(seal::read(&lent), Err(refusal));
-                }
-            }
-        }
-    }
-
-    #[derive(Clone, Copy, Debug, PartialEq, Eq, PartialOrd, Ord)]
-    enum Spot {
-        Field(usize),
-        FeatureBefore,
-        Text,
-        FeatureBehind,
-        Zone,
-    }
-
-    /// Each number of a seal, and where it is told.
-    fn told(sound: &Sound) -> Vec<(u32, Spot)> {
-        let pieces = Pieces::of(sound);
-        let spot = |piece: usize| match piece {
-            0..=7 => Spot::Field(piece),
-            _ if piece < pieces.text => Spot::FeatureBefore,
-            _ if piece == pieces.text => Spot::Text,
-            _ if piece < pieces.zone() => Spot::FeatureBehind,
-            _ => Spot::Zone,
-        };
-        all(sound).into_iter().map(|damage| (damage.number, spot(damage.told))).collect()
-    }
-
-    #[test]
-    fn every_number_at_each_of_its_places() {
-        for version in VERSIONS {
-            let drawn = samples().into_iter().filter(|sound| sound.header.version == version);
-            let all: BTreeSet<(u32, Spot)> = drawn.flat_map(|sound| told(&sound)).collect();
-            let header = (0..FIELDS).map(|field| (24, Spot::Field(field)));
-            let features = [Spot::FeatureBefore, Spot::Text, Spot::FeatureBehind, Spot::Zone].map(|spot| (25, spot));
-            let texts = [26, 3, 4, 5, 6, 7, 8, 9].map(|number| (number, Spot::Text));
-            assert_eq!(all, header.chain(features).chain(texts).chain([(27, Spot::Zone)]).collect());
-        }
-    }
-
-    #[test]
-    fn as_long_as_wanted() {
-        for sound in samples() {
-            for lent in filled(&sound, 65_535) {
-                assert_eq!(lent.len(), 65_535);
-                assert_eq!(seal::read(&lent).map(|seal| seal.record), Ok(sound.record.clone()));
-            }
-            let over = Err(Refusal { number: 1, place: 0 });
-            assert!(filled(&sound, 65_536).iter().all(|lent| seal::read(lent) == over));
-        }
-    }
 }
