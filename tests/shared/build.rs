@@ -13,10 +13,4 @@ fn main() {
     println!("cargo:rerun-if-changed={}", archive.display());
     println!("cargo:rustc-link-search=native={}", archive.parent().unwrap().display());
     println!("cargo:rustc-link-lib=static=lamphudet");
-    // The seals' archive stands beside it.
-    #[cfg(feature = "seals")]
-    {
-        println!("cargo:rerun-if-changed={}", archive.with_file_name("liblamphudet_seals.a").display());
-        println!("cargo:rustc-link-lib=static=lamphudet_seals");
-    }
 }

@@ -3,8 +3,6 @@
 use crate::guard::Lent;
 use paper::answer::{Answer, Stretch};
 use paper::opened::Opened;
-#[cfg(feature = "seals")]
-use paper::seal::answer::SealAnswer;
 use shared::header;
 
 pub fn digest(input: &mut Lent, output: &mut Lent) -> Answer {
@@ -42,10 +40,4 @@ pub fn read_presentation(house: u32, lent: &mut Lent, entry: &mut Lent) -> Answe
 pub fn group_file(lent: &mut Lent, group: u32) -> Stretch {
     // The range is valid for its length.
     unsafe { header::lamphudet_group_file(lent.pointer(), lent.length(), group) }
-}
-
-#[cfg(feature = "seals")]
-pub fn read_seal(house: u32, lent: &mut Lent, entry: &mut Lent) -> SealAnswer {
-    // As for the digest.
-    unsafe { header::lamphudet_read_seal(house, lent.pointer(), lent.length(), entry.pointer(), entry.length()) }
 }

@@ -37,7 +37,5 @@ fn counts(seed: u64) -> Vec<(u64, u64)> {
         cases::next_entry::compare(seed).close(),
         cases::read_presentation::compare(seed).close(),
         cases::group_file::compare(seed).close(),
-        #[cfg(feature = "seals")]
-        cases::read_seal::compare(seed).close(),
     ]
 }

@@ -3,8 +3,6 @@
 
 use paper::answer::{Answer, Stretch};
 use paper::opened::Opened;
-#[cfg(feature = "seals")]
-use paper::seal::answer::SealAnswer;
 
 extern "C" {
     pub fn lamphudet_digest(input: *const u8, input_length: usize, digest: *mut u8, digest_length: usize) -> Answer;
@@ -26,15 +24,4 @@ extern "C" {
         entry_length: usize,
     ) -> Answer;
     pub fn lamphudet_group_file(presentation: *const u8, presentation_length: usize, group: u32) -> Stretch;
-}
-
-#[cfg(feature = "seals")]
-extern "C" {
-    pub fn lamphudet_read_seal(
-        house: u32,
-        seal: *const u8,
-        seal_length: usize,
-        entry: *mut u8,
-        entry_length: usize,
-    ) -> SealAnswer;
 }

@@ -12,8 +12,6 @@ pub mod open_entry;
 pub mod outside;
 pub mod presentations;
 pub mod read_presentation;
-#[cfg(feature = "seals")]
-pub mod read_seal;
 pub mod read_text;
 pub mod seals;
 pub mod trees;
