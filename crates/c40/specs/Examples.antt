@@ -1,22 +1,15 @@
 -- The examples of document 02, 2026-08, and of source 002 (3.3.1; annex C, tables 14 and 15) as one table: a text and its image.
 use Prim.Native.Nat.{ℕ}
-use Prim.Native.Char.{code}
-use Prim.Native.String as text
 use Prim.Native.String.{String}
 use mathlib.Core.Bool.{Bool, true, false, _&&_}
 use mathlib.Core.List.{List, [], _∷_}
-use Rattle.lent.specs.Octets.{alike}
+use Rattle.lent.specs.Octets.{alike, octets}
 use Rattle.c40.specs.Image.{imageOf}
 use Rattle.c40.specs.Reader.{Reading, characters, noImage, readC40}
 
 pub record Example : Type 0 where
   pub text : String
   pub image : List ℕ
-
--- the characters of a text
-unfoldable pub octets : String → List ℕ
-octets text.[] = []
-octets (text._∷_ c s) = code c ∷ octets s
 
 unfoldable pub isText : List ℕ → Reading → Bool
 isText t (characters u) = alike t u

@@ -17,8 +17,8 @@ use Rattle.entry.specs.Codes.{formCode, sexCode}
 use Rattle.zone.specs.Codes.{codeOf}
 use Rattle.entry.specs.Entry.{puts, putKey, putRest, entryOf}
 use Rattle.tlv.specs.Element.{element, tagAt, tagWidth, sizeAt, sizeOf, sized, endsWithin}
-use Rattle.lent.specs.Octets.{alike}
-use Rattle.demands.specs.Examples.{octets, told, isRead, isRefused, isDigitAt, isRight, T3, examples, allRight}
+use Rattle.lent.specs.Octets.{alike, octets}
+use Rattle.demands.specs.Examples.{told, isRead, isRefused, isDigitAt, isRight, T3, examples, allRight}
 
 pub starred : allRight examples ≡ true
 unfolding allRight examples isRight isDigitAt T3 octets checkOf sumFrom value weight isDigit isLetter isFiller birthRule

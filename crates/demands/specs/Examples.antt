@@ -1,7 +1,6 @@
 -- The starred examples of document 01, "Examples", as one table: each row is an example, and `isRight` says what it claims.
 use Prim.Native.Nat.{ℕ, _+_}
 use Prim.Native.Char.{code}
-use Prim.Native.String as text
 use Prim.Native.String.{String}
 use mathlib.Core.Bool.{Bool, true, false, not, _&&_}
 use mathlib.Core.List.{List, [], _∷_, _++_}
@@ -19,12 +18,7 @@ use Rattle.tlv.specs.declared.Stretch.{Stretch}
 use Rattle.tlv.specs.Read.{Read, value, refusal}
 use Rattle.tlv.specs.Element.{element}
 use Rattle.tlv.specs.Tags.{octetString}
-use Rattle.lent.specs.Octets.{alike}
-
--- the octets of a text
-unfoldable pub octets : String → List ℕ
-octets text.[] = []
-octets (text._∷_ c s) = code c ∷ octets s
+use Rattle.lent.specs.Octets.{alike, octets}
 
 pub data Example : Type 0 where
   -- a field has this check

@@ -1,5 +1,8 @@
--- Octets that are compared, and an octet among others.
+-- Octets that are compared, an octet among others, and the octets of what is printed.
 use Prim.Native.Nat.{ℕ}
+use Prim.Native.Char.{code}
+use Prim.Native.String as text
+use Prim.Native.String.{String}
 use mathlib.Core.Bool.{Bool, true, false, _&&_, _||_}
 use mathlib.Core.List.{List, [], _∷_}
 use lib.Dec.{eqb}
@@ -15,3 +18,8 @@ alike (c ∷ s) (d ∷ t) = eqb c d && alike s t
 unfoldable pub stands : ℕ → List ℕ → Bool
 stands c [] = false
 stands c (d ∷ t) = eqb c d || stands c t
+
+-- the octets of a text as the papers print it
+unfoldable pub octets : String → List ℕ
+octets text.[] = []
+octets (text._∷_ c s) = code c ∷ octets s
