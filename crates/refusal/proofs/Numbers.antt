@@ -7,7 +7,7 @@ use native.Mathlib.Omega.{arith}
 use Rattle.refusal.specs.declared.Cause.{Cause}
 use Rattle.refusal.specs.declared.Cause.the-variants.{Length, Character, Code, State, Number, Date, Sex, Name, Digit}
 use Rattle.refusal.specs.declared.Cause.the-variants.{Encoding, EfCom, SecurityObject, Algorithm, Group, Digest, Output}
-use Rattle.refusal.specs.declared.Cause.the-variants.{Unsound, Entry}
+use Rattle.refusal.specs.declared.Cause.the-variants.{Unsound, Entry, SealHeader, SealFeature, SealText, SealSignature}
 use Rattle.refusal.specs.declared.Refusal.{Refusal}
 use Rattle.refusal.specs.declared.Verdict.{Verdict}
 use Rattle.refusal.specs.declared.Verdict.the-variants.{Passed, Refused}
@@ -20,9 +20,10 @@ use Rattle.refusal.specs.Length.{Length as Answered, written, refused as
 -- the cause of a number
 causes : List Cause
 causes =
-    Length ∷ Length ∷ Character ∷ Code ∷ State ∷ Number ∷ Date ∷ Sex ∷ Name ∷ Digit ∷ Encoding ∷ EfCom ∷ SecurityObject
-    ∷ Algorithm ∷ Group
-    ∷ Digest ∷ Output ∷ Unsound ∷ Entry ∷ []
+    Length ∷ Length ∷ Character ∷ Code ∷ State ∷ Number ∷ Date ∷ Sex ∷ Name ∷ Digit
+    ∷ Encoding ∷ EfCom ∷ SecurityObject ∷ Algorithm ∷ Group ∷ Digest ∷ Output ∷ Unsound ∷ Entry
+    -- 19 to 23 are no number yet
+    ∷ Length ∷ Length ∷ Length ∷ Length ∷ Length ∷ SealHeader ∷ SealFeature ∷ SealText ∷ SealSignature ∷ []
 
 cause-of : (c : Cause) → getD causes (numberOf c) Length ≡ c
 unfolding causes
@@ -44,6 +45,10 @@ cause-of Digest = refl
 cause-of Output = refl
 cause-of Unsound = refl
 cause-of Entry = refl
+cause-of SealHeader = refl
+cause-of SealFeature = refl
+cause-of SealText = refl
+cause-of SealSignature = refl
 
 pub number-tells : (c d : Cause) → numberOf c ≡ numberOf d → c ≡ d
 number-tells c d e = sym (cause-of c) ∙ (ap (λ (n : ℕ). getD causes n Length) e ∙ cause-of d)

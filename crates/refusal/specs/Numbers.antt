@@ -1,4 +1,4 @@
--- The paper's number of each cause: document 01, "Refusal numbers".
+-- The paper's number of each cause: 1 to 18 in document 01, "Refusal numbers"; 24 to 27 in document 02, 2026-08.
 use Prim.Native.Nat.{ℕ}
 use Rattle.refusal.specs.declared.Cause.{Cause}
 use Rattle.refusal.specs.declared.Cause.the-variants
@@ -22,3 +22,7 @@ numberOf Cause.Digest = 15
 numberOf Cause.Output = 16
 numberOf Cause.Unsound = 17
 numberOf Cause.Entry = 18
+numberOf Cause.SealHeader = 24
+numberOf Cause.SealFeature = 25
+numberOf Cause.SealText = 26
+numberOf Cause.SealSignature = 27

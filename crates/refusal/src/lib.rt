@@ -3,7 +3,7 @@ ghost use mathlib.Core.Path.{_≡_};
 ghost use Rattle.refusal.specs.Numbers.{numberOf};
 ghost use Rattle.refusal.specs.Outcome.{outcomeOf, orElse, unless};
 
-// The causes of document 01, "Refusal numbers", in the order of their numbers 1 to 18.
+// The causes in the order of their numbers: 1 to 18 of document 01, "Refusal numbers", 24 to 27 of document 02, 2026-08.
 pub enum Cause {
     Length,
     Character,
@@ -23,6 +23,10 @@ pub enum Cause {
     Output,
     Unsound,
     Entry,
+    SealHeader,
+    SealFeature,
+    SealText,
+    SealSignature,
 }
 
 impl Cause {
@@ -49,6 +53,10 @@ impl Cause {
             Cause::Output => 16,
             Cause::Unsound => 17,
             Cause::Entry => 18,
+            Cause::SealHeader => 24,
+            Cause::SealFeature => 25,
+            Cause::SealText => 26,
+            Cause::SealSignature => 27,
         }
     }
 }
