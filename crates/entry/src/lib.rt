@@ -2,6 +2,7 @@
 mod bits;
 mod characters;
 pub mod codes;
+pub mod enter;
 mod pen;
 mod places;
 pub mod run;

@@ -4,27 +4,16 @@ use mathlib.Core.Bool.{Bool, false, cond}
 use mathlib.Core.List.{List}
 use lib.Dec.{eqb}
 use lib.ListN.{length}
-use Rattle.refusal.specs.Outcome as outcome
 use Rattle.refusal.specs.Length.{Length, refused}
-use Rattle.zone.specs.declared.record.Record.{Record}
 use Rattle.text.specs.Read as reading
 use Rattle.writing.specs.Answer.{textAnswer, textOut}
-use Rattle.entry.specs.Entry.{entryAnswer, entryOut}
+use Rattle.entry.specs.Entered.{enteredAnswer, enteredOut}
 use Rattle.entry.specs.Run as run
 use Rattle.tlv.specs.declared.Stretch as tlv
 use Rattle.lamphudet.specs.declared.AnswerInC.{AnswerInC}
 use Rattle.lamphudet.specs.declared.StretchInC.{StretchInC}
 
--- a call that reads is given a house too and tests 17, then 16, after all the reader's refusals
-unfoldable pub enteredAnswer : outcome.Outcome → ℕ → Record → List ℕ → Length
-enteredAnswer outcome.passed house r out = entryAnswer house r out
-enteredAnswer (outcome.refused number place) house r out = refused number place
-
-unfoldable pub enteredOut : outcome.Outcome → ℕ → Record → List ℕ → List ℕ
-enteredOut outcome.passed house r out = entryOut house r out
-enteredOut (outcome.refused number place) house r out = out
-
--- the same of whatever was read
+-- what was read is entered under the house
 unfoldable pub readAnswer : ℕ → reading.Answer → List ℕ → Length
 readAnswer house a out = enteredAnswer (a .outcome) house (a .kept) out
 

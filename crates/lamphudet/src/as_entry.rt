@@ -1,17 +1,14 @@
-// A record that passes as its entry: what was read is entered under a house, and the one entry that is lent is written as a text,
-// or opened.
+// A record that passes as its entry: the one entry that is lent is written as a text, or opened.
 ghost use mathlib.Core.Path.{_≡_};
 ghost use Rattle.refusal.specs.Length.{lengthOf};
-ghost use Rattle.refusal.specs.Outcome.{outcomeOf};
 ghost use Rattle.entry.specs.Run.{onwardOf};
-ghost use Rattle.lamphudet.specs.Calls.{enteredAnswer, enteredOut, isOnly, writtenAnswer, writtenOut};
+ghost use Rattle.lamphudet.specs.Calls.{isOnly, writtenAnswer, writtenOut};
 ghost use Rattle.lamphudet.specs.Opened.{openedInC};
 use crate::RecordInC;
 use crate::border::record_in_c;
 use entry::run::Step;
 use refusal::Cause;
 use refusal::Refusal;
-use refusal::Verdict;
 use refusal::Written;
 use zone::record::Record;
 
@@ -19,17 +16,6 @@ const NOT_ONE_ENTRY: Refusal = Refusal {
     cause: Cause::Entry,
     place: 0,
 };
-
-// What a reader passed is entered; its refusals are handed on.
-pub(crate) fn enter(verdict: Verdict, kept: Record, house: u32, out: &mut [u8]) -> Written
-    ensures { λ w. ⌜ lengthOf w ≡ enteredAnswer (outcomeOf verdict) house kept (now (out .entry)) ⌝ }
-    ensures { λ _. ⌜ now (out .exit) ≡ enteredOut (outcomeOf verdict) house kept (now (out .entry)) ⌝ }
-{
-    match verdict {
-        Verdict::Passed => entry::write::write(house, kept, out),
-        Verdict::Refused(refusal) => Written::Refused(refusal),
-    }
-}
 
 // Whether a run of n octets is one entry: it goes on at its own end.
 fn is_only(step: Step, n: usize) -> bool

@@ -57,7 +57,7 @@ pub extern "C" fn lamphudet_read_text(house: u32, text: &[u8], entry: &mut [u8])
     let reading = text::read::read(text);
     let verdict = reading.verdict;
     let record = reading.kept;
-    in_c(as_entry::enter(verdict, record, house, entry))
+    in_c(entry::enter::enter(verdict, record, house, entry))
 }
 
 // A presentation is read, and its record entered under a house.
@@ -73,7 +73,7 @@ pub extern "C" fn lamphudet_read_presentation(
     let reading = chip::presentation::read(presentation);
     let verdict = reading.verdict;
     let record = reading.kept;
-    in_c(as_entry::enter(verdict, record, house, entry))
+    in_c(entry::enter::enter(verdict, record, house, entry))
 }
 
 // The record of exactly one entry is written as a text.
