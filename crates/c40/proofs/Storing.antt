@@ -3,18 +3,19 @@
 use Prim.Native.Nat.{ℕ, _+_, _-_, _≤_}
 use mathlib.Core.Path.{_≡_, refl, sym, ap, _∙_}
 use mathlib.Core.Bool.{Bool, true, false}
-use mathlib.Core.List.{List, [], _∷_, _++_}
+use mathlib.Core.List.{List, [], _∷_, _++_, append-nil}
 use native.Mathlib.Nat.{zero-add, add-zero}
 use native.Mathlib.Omega.{arith}
-use borrow.Author.Tests.{leb-true}
+use borrow.Author.Tests.{leb-true, le-leb, eq-eqb, ne-eqb}
 use lib.Dec.{leb}
 use lib.ListN.{length, drop, getD, length-drop}
-use lib.Seq.{drop-drop, getD-drop, sets, sets-eq}
+use lib.Seq.{drop-drop, drop-length, getD-drop, sets, sets-eq}
 use Rattle.lent.proofs.Lists.{sets-append}
 use Rattle.c40.specs.declared.Decoded.the-variants.{Characters, Bad}
 use Rattle.c40.specs.Reader.{Reading, characters, noImage, three, two, one}
 use Rattle.c40.specs.Reader.{readC40}
 use Rattle.c40.specs.Decode.{answered, written}
+use Rattle.c40.specs.Field.{isOf, exactly}
 use Rattle.c40.specs.Inner.Left.{textOf, textFrom, valuesAt}
 use Rattle.c40.proofs.Pairs.{Pairs, none, ofOne, ofTwo, ofThree, pairs-read, read-pairs}
 
@@ -119,3 +120,28 @@ bad-written (characters t) out e = go (leb (length t) (length out)) refl
     go : (b : Bool) → leb (length t) (length out) ≡ b → out ≡ written (characters t) out
     go true p = absurd (no-count (length t) (sym (rw p at e)))
     go false p = rw p
+
+-- a field of as many characters as there is room for: what was measured decides whether it is one, and what is written
+pub field-written : (r : Reading) (out : List ℕ) (n : ℕ) → answered r (length out) ≡ Characters n → n ≡ length out
+    → (isOf (length out) r ≡ true) × (sets out 0 (textOf r) ≡ exactly (length out) r)
+unfolding isOf exactly textOf answered
+field-written noImage out n e h = absurd (no-count n e)
+field-written (characters t) out n e h =
+    let fits = fits-written (characters t) out n e in
+    let same : length t ≡ length out = fits .0 ∙ h in
+    let all : sets out 0 t ≡ t = sets-eq t out 0 (rw (zero-add, same) (omega arith)) ∙ rw (zero-add, same, drop-length) (append-nil t) in
+    (rw (eq-eqb (length t) (length out) same), all ∙ rw (eq-eqb (length t) (length out) same))
+
+pub other-field : (r : Reading) (out : List ℕ) (n : ℕ) → answered r (length out) ≡ Characters n → (n ≡ length out → ⊥)
+    → isOf (length out) r ≡ false
+unfolding isOf textOf
+other-field noImage out n e h = refl
+other-field (characters t) out n e h =
+    ne-eqb (length t) (length out) (λ q. h (sym (fits-written (characters t) out n e .0) ∙ q))
+
+pub bad-field : (r : Reading) (out : List ℕ) → answered r (length out) ≡ Bad → isOf (length out) r ≡ false
+unfolding isOf answered
+bad-field noImage out e = refl
+bad-field (characters t) out e = ne-eqb (length t) (length out) (λ q.
+    let fits : leb (length t) (length out) ≡ true = le-leb (length t) (length out) (omega arith) in
+    no-count (length t) (sym (rw fits at e)))

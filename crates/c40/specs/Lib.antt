@@ -2,5 +2,6 @@ pub mod Values
 pub mod Image
 pub mod Reader
 pub mod Decode
+pub mod Field
 pub mod Examples
 pub mod Inner

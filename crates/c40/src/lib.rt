@@ -3,6 +3,7 @@ ghost use Rattle.c40.specs.Decode.{Decodes};
 use crate::measure::measured;
 use crate::write::write;
 
+pub mod field;
 mod measure;
 mod pair;
 mod write;
