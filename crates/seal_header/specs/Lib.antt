@@ -1,0 +1,6 @@
+-- a calendar day in three octets
+pub mod Day
+-- the signer and the certificate reference
+pub mod Reference
+-- the header's fields, and their checks in order
+pub mod Header
