@@ -1,0 +1,23 @@
+-- What was read is entered, told in numbers.
+use borrow.Author.Needs.{needs}
+use Rattle.seal.specs.Seal.{answerOf}
+use Rattle.lamphudet_seals.specs.Answer.{readInC, readOut}
+use Rattle.lamphudet_seals.proofs.lamphudet_read_seal.Statement.{statement}
+use Rattle.lamphudet_seals.proofs.lamphudet_read_seal.Tie as tie
+
+returns : tie.Need-returns
+unfolding answerOf readInC readOut
+returns c =
+    let read = c .before .before .before .before .before .before .before .before .read .ensures in
+    let w = c .before .before .before .enter .ensures in
+    (rw (c .seal-in-c .ensures, w .0, ← read), rw (w .1, ← read))
+
+pub lamphudet-read-seal-spec : {M : Type 1} → statement M
+lamphudet-read-seal-spec =
+    tie.close
+    (tie.spec
+    (λ c κs. search needs)
+    (λ c κs. search needs)
+    (λ c κs. search needs)
+    (λ c. search needs)
+    returns)
