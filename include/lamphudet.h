@@ -66,7 +66,8 @@ typedef struct lamphudet_record {
  * The refusals. These numbers stay what they are.
  *
  *   No.  Cause                                                            Place
- *    1   text not 72, 88 or 90; presentation or digest input over 65,535  start of the text; 0
+ *    1   text not 72, 88 or 90; presentation, digest input or seal over   start of the text; 0
+ *        65,535
  *    2   character not A-Z, 0-9, <                                        the first such
  *    3   document code                                                    field start
  *    4   state or nationality                                             field start
@@ -87,6 +88,12 @@ typedef struct lamphudet_record {
  *   16   lent output too short                                            0
  *   17   house or record not sound                                        0
  *   18   not an entry                                                     start of that entry
+ *   24   header field of a seal                                           field start
+ *   25   feature wrongly coded or cut off; feature 02 absent, repeated    its tag; where absent FF,
+ *        or not 48 octets                                                 or the seal's length
+ *   26   C40 of feature 02                                                its tag
+ *   27   signature zone missing, wrongly coded, cut off or followed by    FF, or the seal's length
+ *        anything
  */
 enum lamphudet_refusal {
     LAMPHUDET_REFUSED_LENGTH = 1,
@@ -106,7 +113,11 @@ enum lamphudet_refusal {
     LAMPHUDET_REFUSED_DIGEST = 15,
     LAMPHUDET_REFUSED_OUTPUT = 16,
     LAMPHUDET_REFUSED_UNSOUND = 17,
-    LAMPHUDET_REFUSED_ENTRY = 18
+    LAMPHUDET_REFUSED_ENTRY = 18,
+    LAMPHUDET_REFUSED_SEAL_HEADER = 24,
+    LAMPHUDET_REFUSED_SEAL_FEATURE = 25,
+    LAMPHUDET_REFUSED_SEAL_TEXT = 26,
+    LAMPHUDET_REFUSED_SEAL_SIGNATURE = 27
 };
 
 /* An answer's number in words. They end in no full stop, and live as long as the program. */
@@ -114,7 +125,7 @@ static inline const char *lamphudet_words(uint32_t number)
 {
     switch (number) {
     case 0: return "not refused";
-    case LAMPHUDET_REFUSED_LENGTH: return "text not 72, 88 or 90; presentation or digest input over 65,535";
+    case LAMPHUDET_REFUSED_LENGTH: return "text not 72, 88 or 90; presentation, digest input or seal over 65,535";
     case LAMPHUDET_REFUSED_CHARACTER: return "character not A-Z, 0-9, <";
     case LAMPHUDET_REFUSED_CODE: return "document code";
     case LAMPHUDET_REFUSED_STATE: return "state or nationality";
@@ -132,6 +143,12 @@ static inline const char *lamphudet_words(uint32_t number)
     case LAMPHUDET_REFUSED_OUTPUT: return "lent output too short";
     case LAMPHUDET_REFUSED_UNSOUND: return "house or record not sound";
     case LAMPHUDET_REFUSED_ENTRY: return "not an entry";
+    case LAMPHUDET_REFUSED_SEAL_HEADER: return "header field of a seal";
+    case LAMPHUDET_REFUSED_SEAL_FEATURE:
+        return "feature wrongly coded or cut off; feature 02 absent, repeated or not 48 octets";
+    case LAMPHUDET_REFUSED_SEAL_TEXT: return "C40 of feature 02";
+    case LAMPHUDET_REFUSED_SEAL_SIGNATURE:
+        return "signature zone missing, wrongly coded, cut off or followed by anything";
     default: return "not a refusal's number";
     }
 }
