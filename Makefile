@@ -1,4 +1,4 @@
-# Lamphudet. `make` builds the archive for C hosts; README.md says what each of the other commands does.
+# Lamphudet. `make` builds the archives for C hosts; README.md says what each of the other commands does.
 
 PREFIX ?= /usr/local
 DESTDIR ?=
@@ -6,12 +6,12 @@ VERSION = 0.1.0
 # The seed of the compared cases; empty for the one that the gate takes.
 SEED ?=
 
-.PHONY: all archive desk demo test units compare bench install format clean
+.PHONY: all archive seals-archive desk demo test units compare bench install format clean
 
-all: archive
+all: archive seals-archive
 
-# The archive that desk, install, compare and bench take. Where LAMPHUDET_ARCHIVE names one, that is taken as it is and
-# nothing is built.
+# The archives that desk, install, compare and bench take. Where LAMPHUDET_ARCHIVE names one, that is taken as it is and not
+# built; likewise LAMPHUDET_SEALS_ARCHIVE, for seals.
 ifdef LAMPHUDET_ARCHIVE
 ARCHIVE := $(abspath $(LAMPHUDET_ARCHIVE))
 archive:
@@ -20,6 +20,17 @@ else
 ARCHIVE := $(CURDIR)/target/staticlib/liblamphudet.a
 archive: | rt-found
 	rt staticlib lamphudet
+endif
+
+# The first archive goes before it: the two are built from one folder.
+ifdef LAMPHUDET_SEALS_ARCHIVE
+SEALS_ARCHIVE := $(abspath $(LAMPHUDET_SEALS_ARCHIVE))
+seals-archive: archive
+	@test -f '$(SEALS_ARCHIVE)' || { echo 'there is no archive $(SEALS_ARCHIVE)'; exit 1; }
+else
+SEALS_ARCHIVE := $(CURDIR)/target/staticlib/liblamphudet_seals.a
+seals-archive: archive | rt-found
+	rt staticlib lamphudet_seals
 endif
 
 # The desk: a C host over the header and the archive alone.
@@ -58,12 +69,16 @@ bench: archive | cargo-found
 	@$(CARGO) run $(CARGO_FLAGS) --manifest-path bench/Cargo.toml -- docs/FIGURES.md
 
 PLACE = $(DESTDIR)$(abspath $(PREFIX))
-install: archive
+install: seals-archive
 	install -d '$(PLACE)/include' '$(PLACE)/lib/pkgconfig'
-	install -m 644 include/lamphudet.h '$(PLACE)/include/lamphudet.h'
+	install -m 644 include/lamphudet.h include/lamphudet_seals.h '$(PLACE)/include'
 	install -m 644 '$(ARCHIVE)' '$(PLACE)/lib/liblamphudet.a'
-	sed 's|@PREFIX@|$(abspath $(PREFIX))|; s|@VERSION@|$(VERSION)|' lamphudet.pc.in > '$(PLACE)/lib/pkgconfig/lamphudet.pc'
-	chmod 644 '$(PLACE)/lib/pkgconfig/lamphudet.pc'
+	install -m 644 '$(SEALS_ARCHIVE)' '$(PLACE)/lib/liblamphudet_seals.a'
+	for name in lamphudet lamphudet_seals; do \
+	    sed 's|@PREFIX@|$(abspath $(PREFIX))|; s|@VERSION@|$(VERSION)|' $$name.pc.in \
+	        > '$(PLACE)/lib/pkgconfig/'$$name.pc || exit 1; \
+	    chmod 644 '$(PLACE)/lib/pkgconfig/'$$name.pc || exit 1; \
+	done
 
 format: | rt-found cargo-found
 	rt fmt
