@@ -36,10 +36,11 @@ endif
 # The desk: a C host over the header and the archive alone.
 CC ?= cc
 CFLAGS ?= -O2
+C99 = $(CC) -std=c99 -Wall -Wextra -Wpedantic $(CFLAGS) -Iinclude -Iexamples/shared
 DESK ?= target/desk
 desk: archive | cc-found
 	@mkdir -p '$(dir $(DESK))'
-	@$(CC) -std=c99 -Wall -Wextra -Wpedantic $(CFLAGS) -Iinclude -o '$(DESK)' examples/desk/*.c '$(ARCHIVE)'
+	@$(C99) -o '$(DESK)' examples/desk/*.c examples/shared/*.c '$(ARCHIVE)'
 
 # The desk on its samples, sound and refused. The library is proved before it is run.
 demo: | cc-found

@@ -2,10 +2,9 @@
 #ifndef DESK_COMMAND_H
 #define DESK_COMMAND_H
 
-#include <stdint.h>
+#include "status.h"
 
-/* The exit status. Of several inputs the worst one counts, which is the greatest. */
-enum status { ALL_ACCEPTED = 0, SOME_REFUSED = 1, NOT_DONE = 2 };
+#include <stdint.h>
 
 /*
  * The command line behind the command's name. Of a file, a file of hex and operands at most one is

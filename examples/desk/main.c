@@ -4,6 +4,7 @@
  * This file takes the command line apart. A new command is a row of the table and a line of the usage.
  */
 #include "command.h"
+#include "number.h"
 
 #include <stdio.h>
 #include <string.h>
@@ -48,19 +49,6 @@ static int misused(const char *about, const char *word)
     return NOT_DONE;
 }
 
-/* Any number that the library can be asked about, also one that is no house or no group. 0 where the word is none. */
-static int number_of(const char *word, uint32_t *number)
-{
-    uint64_t so_far = 0;
-    const char *at = word;
-
-    for (; *at >= '0' && *at <= '9' && so_far <= UINT32_MAX; at++) {
-        so_far = 10 * so_far + (uint64_t)(*at - '0');
-    }
-    *number = (uint32_t)so_far;
-    return at != word && *at == '\0' && so_far <= UINT32_MAX;
-}
-
 static int takes(const struct command *command, const char *name)
 {
     const char *found = strstr(command->options, name);
@@ -101,15 +89,6 @@ static const char *understand(struct order *order, const struct command *command
         return order->hex;
     }
     return (order->file != NULL || order->hex != NULL) && order->operand_count > 0 ? order->operands[0] : NULL;
-}
-
-static int done(enum status status)
-{
-    if (fflush(stdout) != 0 || ferror(stdout)) {
-        perror("desk: standard output");
-        return NOT_DONE;
-    }
-    return (int)status;
 }
 
 int main(int count, char **words)

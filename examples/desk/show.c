@@ -6,9 +6,6 @@
 /* How much of a line, and how many lines, are shown of a text that is of no form. No form's line is longer. */
 #define WIDEST 60
 #define MOST_LINES 4
-/* How many octets are shown before a place, and from it on. */
-#define BEFORE 8
-#define FROM 8
 
 /* 0 for a length that no form has. */
 static size_t line_width(size_t len)
@@ -19,21 +16,6 @@ static size_t line_width(size_t len)
     case 88: return 44;
     default: return 0;
     }
-}
-
-/* One character for each octet, so that a caret below stands where it should, and nothing that would steer a terminal. */
-static void put_characters(const uint8_t *text, size_t len)
-{
-    size_t at;
-
-    for (at = 0; at < len; at++) {
-        putchar(text[at] >= ' ' && text[at] <= '~' ? text[at] : '?');
-    }
-}
-
-static void put_caret(uint64_t column)
-{
-    printf("    %*s^\n", (int)column, "");
 }
 
 static void show_line(const struct zone *zone, size_t start, size_t end, uint64_t place)
@@ -79,45 +61,7 @@ void show_text(const char *label, const uint8_t *text, size_t len)
     }
 }
 
-void show_hex(const char *label, const uint8_t *octets, size_t len)
-{
-    size_t at;
-
-    printf("  %-13s", label);
-    for (at = 0; at < len; at++) {
-        printf("%02x", (unsigned)octets[at]);
-    }
-    putchar('\n');
-}
-
-void show_octets(const uint8_t *octets, size_t len, uint64_t place)
-{
-    uint64_t start = place < BEFORE ? 0 : place - BEFORE;
-    uint64_t at;
-
-    if (place > len || len == 0) {
-        return;
-    }
-    printf("    octets from %" PRIu64 "\n   ", start);
-    for (at = start; at < len && at < place + FROM; at++) {
-        printf(" %02x", (unsigned)octets[at]);
-    }
-    putchar('\n');
-    put_caret(3 * (place - start));
-}
-
 void show_file(uint32_t group, lamphudet_stretch file)
 {
     printf("  group %-6" PRIu32 " %" PRIu64 " octets from %" PRIu64 "\n", group, file.length, file.start);
-}
-
-void show_remark(const char *line, size_t len)
-{
-    put_characters((const uint8_t *)line, len > 0 && line[len - 1] == '\r' ? len - 1 : len);
-    putchar('\n');
-}
-
-void show_refusal(lamphudet_answer answer)
-{
-    printf("  refused, %" PRIu32 " at place %" PRIu64 ": %s\n", answer.number, answer.value, lamphudet_words(answer.number));
 }

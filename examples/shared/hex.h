@@ -1,6 +1,6 @@
 /* Octets written in hex. */
-#ifndef DESK_HEX_H
-#define DESK_HEX_H
+#ifndef SHARED_HEX_H
+#define SHARED_HEX_H
 
 #include "octets.h"
 

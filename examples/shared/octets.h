@@ -1,6 +1,6 @@
-/* Octets that the desk holds, and how they come in. */
-#ifndef DESK_OCTETS_H
-#define DESK_OCTETS_H
+/* Octets that a host holds, and how they come in. */
+#ifndef SHARED_OCTETS_H
+#define SHARED_OCTETS_H
 
 #include <stddef.h>
 #include <stdint.h>

@@ -1,6 +1,6 @@
-/* A record as the desk shows it. */
-#ifndef DESK_RECORD_H
-#define DESK_RECORD_H
+/* A record as a host shows it. */
+#ifndef SHARED_RECORD_H
+#define SHARED_RECORD_H
 
 #include <lamphudet.h>
 
