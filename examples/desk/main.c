@@ -5,9 +5,12 @@
  */
 #include "command.h"
 #include "number.h"
+#include "program.h"
 
 #include <stdio.h>
 #include <string.h>
+
+const char program[] = "desk";
 
 static const char usage[] =
     "usage: desk text [--house HOUSE] [--file FILE | TEXT ..]\n"
@@ -45,7 +48,7 @@ static const struct command {
 
 static int misused(const char *about, const char *word)
 {
-    fprintf(stderr, "desk: %s %s\n%s", about, word, usage);
+    fprintf(stderr, "%s: %s %s\n%s", program, about, word, usage);
     return NOT_DONE;
 }
 

@@ -1,5 +1,7 @@
 #include "hex.h"
 
+#include "program.h"
+
 #include <stdio.h>
 #include <string.h>
 
@@ -26,7 +28,8 @@ int hex_read(struct octets *octets, const char *hex, size_t len)
         int found = digit(hex[at]);
 
         if (found < 0 && !is_between(hex[at])) {
-            fprintf(stderr, "desk: character %lu of the hex is no hex digit\n", (unsigned long)(at + 1));
+            fprintf(stderr, "%s: character %lu of the hex is no hex digit\n", program,
+                    (unsigned long)(at + 1));
             return 0;
         }
         if (found >= 0 && first >= 0) {
@@ -41,7 +44,7 @@ int hex_read(struct octets *octets, const char *hex, size_t len)
         }
     }
     if (first >= 0) {
-        fputs("desk: the hex ends in half an octet\n", stderr);
+        fprintf(stderr, "%s: the hex ends in half an octet\n", program);
     }
     return first < 0;
 }

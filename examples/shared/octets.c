@@ -1,5 +1,7 @@
 #include "octets.h"
 
+#include "program.h"
+
 #include <errno.h>
 #include <stdio.h>
 #include <stdlib.h>
@@ -12,7 +14,7 @@ int octets_add(struct octets *octets, const void *more, size_t len)
         uint8_t *at = realloc(octets->at, room);
 
         if (at == NULL) {
-            fputs("desk: no memory is left\n", stderr);
+            fprintf(stderr, "%s: no memory is left\n", program);
             return 0;
         }
         octets->at = at;
@@ -36,7 +38,7 @@ static int read_on(struct octets *octets, FILE *stream)
         }
     }
     if (ferror(stream)) {
-        fprintf(stderr, "desk: the input cannot be read: %s\n", strerror(errno));
+        fprintf(stderr, "%s: the input cannot be read: %s\n", program, strerror(errno));
         return 0;
     }
     return 1;
@@ -52,7 +54,7 @@ int octets_read(struct octets *octets, const char *file)
     }
     stream = fopen(file, "rb");
     if (stream == NULL) {
-        fprintf(stderr, "desk: %s: %s\n", file, strerror(errno));
+        fprintf(stderr, "%s: %s: %s\n", program, file, strerror(errno));
         return 0;
     }
     whole = read_on(octets, stream);
@@ -69,7 +71,7 @@ int octets_write(const char *file, const uint8_t *octets, size_t len)
         written = 0;
     }
     if (!written) {
-        fprintf(stderr, "desk: %s: %s\n", file == NULL ? "standard output" : file, strerror(errno));
+        fprintf(stderr, "%s: %s: %s\n", program, file == NULL ? "standard output" : file, strerror(errno));
     }
     return written;
 }
