@@ -6,11 +6,11 @@ VERSION = 0.1.0
 # The seed of the compared cases; empty for the one that the gate takes.
 SEED ?=
 
-.PHONY: all archive seals-archive desk demo test units compare bench install format clean
+.PHONY: all archive seals-archive desk scanner demo test units compare bench install format clean
 
 all: archive seals-archive
 
-# The archives that desk, install, compare and bench take. Where LAMPHUDET_ARCHIVE names one, that is taken as it is and not
+# The archives that desk, scanner, install, compare and bench take. Where LAMPHUDET_ARCHIVE names one, that is taken as it is and not
 # built; likewise LAMPHUDET_SEALS_ARCHIVE, for seals.
 ifdef LAMPHUDET_ARCHIVE
 ARCHIVE := $(abspath $(LAMPHUDET_ARCHIVE))
@@ -41,6 +41,12 @@ DESK ?= target/desk
 desk: archive | cc-found
 	@mkdir -p '$(dir $(DESK))'
 	@$(C99) -o '$(DESK)' examples/desk/*.c examples/shared/*.c '$(ARCHIVE)'
+
+# The scanner: another, over both.
+SCANNER ?= target/scanner
+scanner: seals-archive | cc-found
+	@mkdir -p '$(dir $(SCANNER))'
+	@$(C99) -o '$(SCANNER)' examples/scanner/*.c examples/shared/*.c '$(SEALS_ARCHIVE)' '$(ARCHIVE)'
 
 # The desk on its samples, sound and refused. The library is proved before it is run.
 demo: | cc-found
@@ -99,4 +105,4 @@ cargo-found:
 	$(call found,cargo,it builds the independent Rust implementation (on Debian: apt install cargo))
 
 cc-found:
-	$(call found,$(firstword $(CC)),a C compiler builds the desk (on Debian: apt install gcc))
+	$(call found,$(firstword $(CC)),a C compiler builds desk and scanner (on Debian: apt install gcc))
