@@ -6,7 +6,7 @@ VERSION = 0.1.0
 # The seed of the compared cases; empty for the one that the gate takes.
 SEED ?=
 
-.PHONY: all archive seals-archive desk scanner demo test units compare bench install format clean
+.PHONY: all archive seals-archive desk scanner demo test units compare samples bench install format clean
 
 all: archive seals-archive
 
@@ -64,12 +64,16 @@ CARGO_FLAGS := --quiet --release --locked --offline
 # The Rust crates' own tests, lowest first: the independent implementation is held to what the papers publish before anything
 # is held to it.
 units: archive | cargo-found
-	@for crate in tests/paper tests/shared tests/compare bench; do \
+	@for crate in tests/paper tests/scanner tests/shared tests/compare bench; do \
 	    $(CARGO) test $(CARGO_FLAGS) --manifest-path $$crate/Cargo.toml --tests || exit 1; \
 	done
 
 compare: units
 	@$(CARGO) run $(CARGO_FLAGS) --manifest-path tests/compare/Cargo.toml -- $(SEED)
+
+# Makes the scanner's samples again.
+samples: | cargo-found
+	@cargo run $(CARGO_FLAGS) --manifest-path tests/scanner/Cargo.toml -- examples/scanner/samples
 
 # Writes docs/FIGURES.md.
 bench: archive | cargo-found
