@@ -48,12 +48,13 @@ scanner: seals-archive | cc-found
 	@mkdir -p '$(dir $(SCANNER))'
 	@$(C99) -o '$(SCANNER)' examples/scanner/*.c examples/shared/*.c '$(SEALS_ARCHIVE)' '$(ARCHIVE)'
 
-# The desk on its samples, sound and refused. The library is proved before it is run.
+# Desk and scanner on their samples, sound and refused. The library is proved before it is run.
 demo: | cc-found
 	@mkdir -p target
-	@echo 'building the library and the desk (some minutes the first time: the library is proved) ..'
-	@$(MAKE) --no-print-directory desk > target/demo.log 2>&1 || { tail -n 20 target/demo.log; exit 1; }
+	@echo 'building the library, the desk and the scanner (some minutes the first time: the library is proved) ..'
+	@$(MAKE) --no-print-directory desk scanner > target/demo.log 2>&1 || { tail -n 20 target/demo.log; exit 1; }
 	@examples/desk/demo '$(DESK)'
+	@examples/scanner/demo '$(SCANNER)'
 
 test: | rt-found
 	@.ci/run
