@@ -59,12 +59,12 @@ demo: | cc-found
 test: | rt-found
 	@.ci/run
 
-CARGO := LAMPHUDET_ARCHIVE='$(ARCHIVE)' cargo
+CARGO := LAMPHUDET_ARCHIVE='$(ARCHIVE)' LAMPHUDET_SEALS_ARCHIVE='$(SEALS_ARCHIVE)' cargo
 CARGO_FLAGS := --quiet --release --locked --offline
 
 # The Rust crates' own tests, lowest first: the independent implementation is held to what the papers publish before anything
 # is held to it.
-units: archive | cargo-found
+units: seals-archive | cargo-found
 	@for crate in tests/paper tests/scanner tests/shared tests/compare bench; do \
 	    $(CARGO) test $(CARGO_FLAGS) --manifest-path $$crate/Cargo.toml --tests || exit 1; \
 	done
@@ -77,7 +77,7 @@ samples: | cargo-found
 	@cargo run $(CARGO_FLAGS) --manifest-path tests/scanner/Cargo.toml -- examples/scanner/samples
 
 # Writes docs/FIGURES.md.
-bench: archive | cargo-found
+bench: seals-archive | cargo-found
 	@$(CARGO) run $(CARGO_FLAGS) --manifest-path bench/Cargo.toml -- docs/FIGURES.md
 
 PLACE = $(DESTDIR)$(abspath $(PREFIX))

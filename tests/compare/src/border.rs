@@ -1,8 +1,9 @@
-//! The calls of the archive over ranges between guards.
+//! The calls of the archives over ranges between guards.
 
 use crate::guard::Lent;
 use paper::answer::{Answer, Stretch};
 use paper::opened::Opened;
+use paper::seal::answer::SealAnswer;
 use shared::header;
 
 pub fn digest(input: &mut Lent, output: &mut Lent) -> Answer {
@@ -40,4 +41,9 @@ pub fn read_presentation(house: u32, lent: &mut Lent, entry: &mut Lent) -> Answe
 pub fn group_file(lent: &mut Lent, group: u32) -> Stretch {
     // The range is valid for its length.
     unsafe { header::lamphudet_group_file(lent.pointer(), lent.length(), group) }
+}
+
+pub fn read_seal(house: u32, lent: &mut Lent, entry: &mut Lent) -> SealAnswer {
+    // As for the digest.
+    unsafe { header::lamphudet_read_seal(house, lent.pointer(), lent.length(), entry.pointer(), entry.length()) }
 }

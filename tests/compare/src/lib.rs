@@ -1,4 +1,4 @@
-//! The cases (`cases`) that hold the C calls of the archive (`border`) to the papers as the crate `paper` has them. Nothing
+//! The cases (`cases`) that hold the C calls of the archives (`border`) to the papers as the crate `paper` has them. Nothing
 //! here is taken from the proved sources: the two meet in the C declarations alone.
 
 pub mod border;

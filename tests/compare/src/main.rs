@@ -1,4 +1,4 @@
-//! Holds the archive to the independent implementation, call by call.
+//! Holds the archives to the independent implementation, call by call.
 //!
 //!     compare [SEED]
 //!
@@ -37,5 +37,6 @@ fn counts(seed: u64) -> Vec<(u64, u64)> {
         cases::next_entry::compare(seed).close(),
         cases::read_presentation::compare(seed).close(),
         cases::group_file::compare(seed).close(),
+        cases::read_seal::compare(seed).close(),
     ]
 }

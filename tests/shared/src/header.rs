@@ -1,8 +1,9 @@
-//! The calls of `include/lamphudet.h`, declared as C has them. Whoever makes one keeps to what the header asks of a host: each
-//! pointer is valid for its length, and the ranges of one call do not overlap.
+//! The calls of `include/lamphudet.h` and `include/lamphudet_seals.h`, declared as C has them. Whoever makes one keeps to what
+//! the first asks of a host: each pointer is valid for its length, and the ranges of one call do not overlap.
 
 use paper::answer::{Answer, Stretch};
 use paper::opened::Opened;
+use paper::seal::answer::SealAnswer;
 
 extern "C" {
     pub fn lamphudet_digest(input: *const u8, input_length: usize, digest: *mut u8, digest_length: usize) -> Answer;
@@ -24,4 +25,11 @@ extern "C" {
         entry_length: usize,
     ) -> Answer;
     pub fn lamphudet_group_file(presentation: *const u8, presentation_length: usize, group: u32) -> Stretch;
+    pub fn lamphudet_read_seal(
+        house: u32,
+        seal: *const u8,
+        seal_length: usize,
+        entry: *mut u8,
+        entry_length: usize,
+    ) -> SealAnswer;
 }

@@ -1,4 +1,4 @@
-//! What comparison and bench share: the C calls of the archive (`header`), sound records, files of groups and seals
+//! What comparison and bench share: the C calls of the archives (`header`), sound records, files of groups and seals
 //! that are made from a seed (`seeds`, `records`, `files`, `seals`), and how a number is printed (`grouped`).
 
 pub mod files;

@@ -12,6 +12,7 @@ pub mod open_entry;
 pub mod outside;
 pub mod presentations;
 pub mod read_presentation;
+pub mod read_seal;
 pub mod read_text;
 pub mod seals;
 pub mod trees;
