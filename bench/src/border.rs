@@ -1,7 +1,8 @@
-//! The calls of the archive over bare ranges, with nothing around them that would be measured too.
+//! The calls of the archives over bare ranges, with nothing around them that would be measured too.
 
 use paper::answer::Answer;
 use paper::opened::Opened;
+use paper::seal::answer::SealAnswer;
 use shared::header;
 
 pub fn digest(input: &[u8], output: &mut [u8]) -> Answer {
@@ -32,4 +33,9 @@ pub fn next_entry(run: &[u8], offset: u64) -> Answer {
 pub fn read_presentation(house: u32, lent: &[u8], entry: &mut [u8]) -> Answer {
     // As for the digest.
     unsafe { header::lamphudet_read_presentation(house, lent.as_ptr(), lent.len(), entry.as_mut_ptr(), entry.len()) }
+}
+
+pub fn read_seal(house: u32, seal: &[u8], entry: &mut [u8]) -> SealAnswer {
+    // As for the digest.
+    unsafe { header::lamphudet_read_seal(house, seal.as_ptr(), seal.len(), entry.as_mut_ptr(), entry.len()) }
 }

@@ -21,6 +21,10 @@ pub enum Job {
     ReadPresentation(usize),
     /// The digests of that presentation's group files, and nothing else.
     DigestFiles(usize),
+    /// One seal read, and its entry written.
+    ReadSeal,
+    /// The text of that seal read alone, and the same entry written.
+    ReadSealText,
 }
 
 impl Job {
@@ -30,6 +34,7 @@ impl Job {
     /// 2, 16 and 60 KB.
     pub const PRESENTATIONS: [Job; 3] =
         [Job::ReadPresentation(2_048), Job::ReadPresentation(16_384), Job::ReadPresentation(61_440)];
+    pub const SEALS: [Job; 2] = [Job::ReadSeal, Job::ReadSealText];
 
     pub fn kind(self) -> &'static str {
         match self {
@@ -40,6 +45,8 @@ impl Job {
             Job::WriteText => "write_text",
             Job::ReadPresentation(_) => "read_presentation",
             Job::DigestFiles(_) => "digest_files",
+            Job::ReadSeal => "read_seal",
+            Job::ReadSealText => "read_seal_text",
         }
     }
 
@@ -51,6 +58,8 @@ impl Job {
             Job::NextEntry => "entries read".into(),
             Job::OpenEntry => "entries opened".into(),
             Job::WriteText => "texts written from entries".into(),
+            Job::ReadSeal => "seal of 134 octets read, entry written".into(),
+            Job::ReadSealText => "its text of 72 characters read, entry written".into(),
         }
     }
 
@@ -58,14 +67,15 @@ impl Job {
     pub fn size(self) -> usize {
         match self {
             Job::Digest(size) | Job::ReadPresentation(size) | Job::DigestFiles(size) => size,
-            Job::ReadText | Job::NextEntry | Job::OpenEntry | Job::WriteText => 0,
+            _ => 0,
         }
     }
 
     pub fn named(kind: &str, size: &str) -> Job {
         let size = size.parse().expect("a size");
         let digested = Job::PRESENTATIONS.map(|job| Job::DigestFiles(job.size()));
-        let mut jobs = Job::DIGESTS.into_iter().chain(Job::RECORDS).chain(Job::PRESENTATIONS).chain(digested);
+        let mut jobs =
+            Job::DIGESTS.into_iter().chain(Job::RECORDS).chain(Job::PRESENTATIONS).chain(digested).chain(Job::SEALS);
         let found = jobs.find(|job| job.kind() == kind && job.size() == size);
         found.expect("the name of a job")
     }

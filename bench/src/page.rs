@@ -3,15 +3,17 @@
 use crate::contender::Contender;
 use crate::figures::{Kind, Unit};
 use crate::job::Job;
+use crate::ratio;
 use crate::share;
 use crate::table::Table;
 
 const WORDS: &str = include_str!("page.md");
 const BOTH: [Contender; 2] = [Contender::Library, Contender::Rust];
-const KINDS: [(&str, Kind); 3] = [
+const KINDS: [(&str, Kind); 4] = [
     ("digest", Kind { title: "octets", unit: Unit::Nanoseconds, contenders: &Contender::ALL, jobs: &Job::DIGESTS }),
     ("record", Kind { title: "call", unit: Unit::ASecond, contenders: &BOTH, jobs: &Job::RECORDS }),
     ("presentation", Kind { title: "octets", unit: Unit::ASecond, contenders: &BOTH, jobs: &Job::PRESENTATIONS }),
+    ("seal", Kind { title: "call", unit: Unit::ASecond, contenders: &BOTH, jobs: &Job::SEALS }),
 ];
 
 /// Measures everything, which takes a while, so each table is told of when it is begun.
@@ -21,7 +23,8 @@ pub fn page() -> String {
         page = with(page, &format!("{name} times"), || kind.times());
         page = with(page, &format!("{name} instructions"), || kind.instructions());
     }
-    with(page, "presentation share", share::table)
+    page = with(page, "presentation share", share::table);
+    with(page, "seal ratio", ratio::table)
 }
 
 fn with(page: String, name: &str, table: impl Fn() -> Table) -> String {
@@ -42,7 +45,8 @@ mod tests {
             page = with(page, &format!("{name} instructions"), table);
         }
         page = with(page, "presentation share", table);
+        page = with(page, "seal ratio", table);
         assert!(!page.contains('{'));
-        assert_eq!(page.matches("| call |").count(), 7);
+        assert_eq!(page.matches("| call |").count(), 10);
     }
 }

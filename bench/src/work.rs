@@ -2,7 +2,7 @@
 
 use crate::contender::Contender;
 use crate::job::{Job, Work};
-use crate::{digests, presentations, records};
+use crate::{digests, presentations, records, seals};
 
 /// None where the contender is not installed, or does not do such work.
 pub fn of(contender: Contender, job: Job) -> Option<Work> {
@@ -10,5 +10,6 @@ pub fn of(contender: Contender, job: Job) -> Option<Work> {
         Job::Digest(size) => digests::of(contender, size),
         Job::ReadText | Job::NextEntry | Job::OpenEntry | Job::WriteText => records::of(contender, job),
         Job::ReadPresentation(_) | Job::DigestFiles(_) => presentations::of(contender, job),
+        Job::ReadSeal | Job::ReadSealText => seals::of(contender, job),
     }
 }

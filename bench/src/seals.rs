@@ -1,0 +1,42 @@
+//! The work on seals: the one that the papers print, and its text alone.
+
+use crate::border;
+use crate::contender::Contender;
+use crate::job::{Job, Work};
+use paper::answer::Answer;
+use paper::calls;
+use paper::seal::answer::SealAnswer;
+use paper::seal::printed;
+use paper::specimens::ERIKSSON_TD2;
+use std::hint::black_box;
+
+pub fn of(contender: Contender, job: Job) -> Option<Work> {
+    match (contender, job) {
+        (Contender::Library, Job::ReadSeal) => Some(sealed(|seal, room| border::read_seal(1, seal, room))),
+        (Contender::Library, Job::ReadSealText) => Some(text(|text, room| border::read_text(1, text, room))),
+        (Contender::Rust, Job::ReadSeal) => Some(sealed(|seal, room| {
+            let outcome = calls::read_seal(1, seal, room.len());
+            room[..outcome.written.len()].copy_from_slice(&outcome.written);
+            outcome.answer
+        })),
+        (Contender::Rust, Job::ReadSealText) => Some(text(|text, room| {
+            let outcome = calls::read_text(1, text, room.len());
+            room[..outcome.written.len()].copy_from_slice(&outcome.written);
+            outcome.answer
+        })),
+        _ => None,
+    }
+}
+
+/// With every field of the answer, which the compiler must not leave out. A refusal would be quicker than the work, so none
+/// may come.
+fn sealed(call: impl Fn(&[u8], &mut [u8]) -> SealAnswer + 'static) -> Work {
+    let (lent, mut room) = (printed::signed(), [0; 64]);
+    Box::new(move || assert_eq!(black_box(call(&lent, &mut room)).number, 0))
+}
+
+/// As for the seal.
+fn text(call: impl Fn(&[u8], &mut [u8]) -> Answer + 'static) -> Work {
+    let mut room = [0; 64];
+    Box::new(move || assert_eq!(black_box(call(ERIKSSON_TD2.as_bytes(), &mut room)).number, 0))
+}
