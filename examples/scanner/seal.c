@@ -39,7 +39,6 @@ static struct reading lend_piped(const uint8_t *octets, size_t len, uint32_t hou
         struct reading without = lend(octets, len - 1, house);
 
         if (without.seal.number < LAMPHUDET_REFUSED_SEAL_HEADER) {
-            puts("  line end     behind the seal, left out");
             return without;
         }
     }
@@ -77,6 +76,9 @@ enum status read_seal(const struct octets *given, uint32_t house, int piped)
     struct reading reading = (piped ? lend_piped : lend)(given->at, given->len, house);
 
     printf("  octets       %lu\n", (unsigned long)reading.len);
+    if (reading.len < given->len) {
+        puts("  line end     behind the seal, left out");
+    }
     if (reading.seal.number == 0) {
         show_accepted(&reading);
     } else {
