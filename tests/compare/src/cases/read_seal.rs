@@ -208,14 +208,16 @@ impl Trials<ReadSeal> {
         }
     }
 
-    /// Every month to 16 and day to 40 in years at the edges, in both places.
+    /// Every month to 16 and day to 40 in years at the edges, in both places, which each version has elsewhere.
     fn days(&mut self) {
+        let later = sound_of_kind(&mut self.seeds, 0x03, 5).octets();
+        let places = [(printed::signed(), 10), (printed::signed(), 13), (later.clone(), 12), (later, 15)];
         let years = [0, 1, 4, 100, 400, 1900, 1999, 2000, 2001, 2004, 2100, 9999];
         for (year, month) in years.into_iter().flat_map(|year| (0..=16).map(move |month| (year, month))) {
             self.together(|trials| {
-                for (day, place) in (0..=40).flat_map(|day| [10, 13].map(|place| (day, place))) {
-                    let mut lent = printed::signed();
-                    lent[place..place + 3].copy_from_slice(&day::write(Day { year, month, day }));
+                for (day, (sample, place)) in (0..=40).flat_map(|day| places.iter().map(move |place| (day, place))) {
+                    let mut lent = sample.clone();
+                    lent[*place..place + 3].copy_from_slice(&day::write(Day { year, month, day }));
                     trials.plain(&lent);
                 }
             });
