@@ -1,5 +1,6 @@
--- The signer and the certificate reference: source 002, table 1; document 02, 2026-08, "Version octets 02 and 03 are kept, laid out
--- as in source 002 and Doc 9303-13". 02: nine characters. 03: six, of which the last two say in hexadecimal how many more follow.
+-- The signer and the certificate reference: source 002, table 1; document 02, 2026-08, "Version octets 02 and 03 are kept, laid
+-- out as in source 002 and Doc 9303-13". 02: nine characters. 03: six, of which the last two say in hexadecimal how many more
+-- follow.
 use Prim.Native.Nat.{ℕ, _+_, _-_, _*_}
 use Prim.Native.Char.{code}
 use mathlib.Core.Bool.{Bool, cond, _&&_, _||_}

@@ -23,7 +23,8 @@ header-by-spec =
     (λ c κs. search needs)
     (λ c.
     let part = c .before .before .before .part in
-    let fits : length (now (part .result)) < 256 = rw (part .ensures, length-take, length-drop, c .before .before .before .before .before2 .ensures) (omega arith) in
+    let from = c .before .before .before .before .before2 .ensures in
+    let fits : length (now (part .result)) < 256 = rw (part .ensures, length-take, length-drop, from) (omega arith) in
     search (needs, fits))
     (λ c. search needs)
     (λ c κs. search needs)

@@ -25,6 +25,12 @@ read-spec =
     (λ c κs.
     let s = now (c .before .before .before .before .before .before .before .args .s) in
     let count = c .before .before .before .before .before .length .result in
-    let bound : length (now (c .part .result)) ≤ count = rw (c .part .ensures, c .before .before .before .read .ensures) (field-bound s 4 count) in
+    let text = c .before .before .before .read .ensures in
+    let bound : length (now (c .part .result)) ≤ count = rw (c .part .ensures, text) (field-bound s 4 count) in
     (search needs, omega (arith, c .before .before .before .before .before .length .ensures .0 .1)))
-    (λ c. rw (c .before .part .ensures, c .before .before .before .before .read .ensures, c .before .before .before .before .before .before .length .ensures .0 .0) at (c .read-by .ensures)))
+    (λ c.
+    rw (
+      c .before .part .ensures,
+      c .before .before .before .before .read .ensures,
+      c .before .before .before .before .before .before .length .ensures .0 .0,
+    ) at (c .read-by .ensures)))

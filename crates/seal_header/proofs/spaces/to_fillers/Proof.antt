@@ -1,5 +1,5 @@
 -- What is passed, and what is left with its spaces filled, are the whole with its spaces filled.
-use Prim.Native.Nat.{_≤_, _<_, _-_, _+_}
+use Prim.Native.Nat.{_≤_, _<_, _-_}
 use mathlib.Core.Path.{_≡_, refl, _∙_}
 use mathlib.Core.List.{_++_}
 use native.Mathlib.Omega.{arith}
@@ -11,7 +11,8 @@ use Rattle.seal_header.proofs.spaces.to_fillers.Statement.{statement}
 use Rattle.seal_header.proofs.spaces.to_fillers.Tie as tie
 
 abbrev Inv-loop : tie.InvT-loop
-Inv-loop text₀ i₀ text i = (i ≤ length text₀) × (length text ≡ length text₀) × (take i text ++ filled (drop i text) ≡ filled text₀)
+Inv-loop text₀ i₀ text i =
+    (i ≤ length text₀) × (length text ≡ length text₀) × (take i text ++ filled (drop i text) ≡ filled text₀)
 
 abbrev μ-loop : tie.MeasureT-loop
 μ-loop text₀ i₀ text i = length text₀ - i
@@ -32,7 +33,8 @@ to-fillers-spec =
     (λ c.
     let l = c .before .before .before .loop in
     let h : l .i < length (l .text) = omega arith in
-    (search needs, simp length-set (search needs), rw (c .filler-for-space .ensures) (filled-step (l .text) (l .i) h ∙ l .inv .2)))
+    let step = filled-step (l .text) (l .i) h ∙ l .inv .2 in
+    (search needs, simp length-set (search needs), rw (c .filler-for-space .ensures) step))
     (λ c. search needs)
     -- the end
     (λ c.
