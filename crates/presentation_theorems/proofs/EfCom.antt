@@ -26,10 +26,9 @@ use Rattle.zone.specs.Octets.{areOctets}
 use Rattle.presentation_theorems.specs.Presented.{isOnce, commonInside}
 use Rattle.refusal.proofs.Outcomes.{refused-not-passed, both-passed, unless-kept, kept-unless}
 use Rattle.presentation_theorems.proofs.NoneTwice.{onceAfter, once-none, none-once}
-use Rattle.presentation_theorems.proofs.Elements.{octets-before, take-most, read-element, element-read, last-read}
-use Rattle.presentation_theorems.proofs.Elements.{cut-there}
-use Rattle.presentation_theorems.proofs.Elements.{has-octets, octets-had, place-behind, followed-by, nothing-left}
-use Rattle.presentation_theorems.proofs.Elements.{left-nothing, alike-same, same-alike, cut-before}
+use Rattle.tlv.proofs.Standing.{element-read, last-read, cut-there, has-octets, octets-had, place-behind, followed-by}
+use Rattle.presentation_theorems.proofs.Elements.{octets-before, take-most, read-element, nothing-left, left-nothing}
+use Rattle.presentation_theorems.proofs.Elements.{alike-same, same-alike, cut-before}
 
 -- ---- the tag list
 

@@ -23,7 +23,7 @@ use Rattle.chip.specs.Outer.{File, fileAt, filesFrom, files, walked}
 use Rattle.chip.specs.Presentation.{firstFile, fileOrNone, groupStretch}
 use Rattle.zone.specs.Octets.{areOctets}
 use Rattle.presentation_theorems.specs.Presented.{Lent, fileOf, allLent, isIn, Outside, NoFile, FirstFile, placeOf}
-use Rattle.presentation_theorems.proofs.Elements.{to-behind}
+use Rattle.tlv.proofs.Standing.{to-behind}
 use Rattle.presentation_theorems.proofs.GroupFiles.{lentAt, lentIn, FileStands, EachGroup, some-file, read-file}
 use Rattle.presentation_theorems.proofs.GroupFiles.{behind-file}
 use Rattle.presentation_theorems.proofs.OuterWalk.{Walked, walked-parts, parts-walked}

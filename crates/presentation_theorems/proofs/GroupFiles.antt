@@ -19,7 +19,8 @@ use Rattle.chip.specs.Outer.{File, fileAt, filesFrom}
 use Rattle.chip.specs.Files.{fileOctets}
 use Rattle.zone.specs.Octets.{areOctets}
 use Rattle.presentation_theorems.specs.Presented.{Lent, fileOf, allLent, isIn}
-use Rattle.presentation_theorems.proofs.Elements.{read-element, element-read, cut-there, place-behind, whole-there}
+use Rattle.tlv.proofs.Standing.{element-read, cut-there, place-behind, whole-there}
+use Rattle.presentation_theorems.proofs.Elements.{read-element}
 
 -- ---- group tags
 

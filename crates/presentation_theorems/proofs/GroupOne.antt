@@ -26,9 +26,8 @@ use Rattle.chip.specs.Presentation.{firstFile, moved, textAt, groupOne}
 use Rattle.zone.specs.Octets.{areOctets}
 use Rattle.presentation_theorems.specs.Presented.{Lent, isIn, isOnce, tagsOf}
 use Rattle.presentation_theorems.proofs.NoneTwice.{stands-later}
-use Rattle.presentation_theorems.proofs.Elements.{octets-before, take-most, read-element, last-read, cut-there}
-use Rattle.presentation_theorems.proofs.Elements.{place-behind}
-use Rattle.presentation_theorems.proofs.Elements.{nothing-left, left-nothing}
+use Rattle.tlv.proofs.Standing.{last-read, cut-there, place-behind}
+use Rattle.presentation_theorems.proofs.Elements.{octets-before, take-most, read-element, nothing-left, left-nothing}
 use Rattle.presentation_theorems.proofs.GroupFiles.{lentAt, lentIn, FileStands, EachStands}
 
 -- ---- the tag of group 1

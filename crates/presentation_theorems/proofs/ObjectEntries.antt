@@ -24,8 +24,8 @@ use Rattle.zone.specs.Octets.{areOctets}
 use Rattle.presentation_theorems.specs.Presented.{Signed, signedOf, allSigned, isIn, isOnce, numbers, EntryKept}
 use Rattle.refusal.proofs.Outcomes.{refused-not-passed, both-passed, unless-kept}
 use Rattle.presentation_theorems.proofs.NoneTwice.{onceAfter, once-none, none-once}
-use Rattle.presentation_theorems.proofs.Elements.{octets-before, take-most, read-element, last-read, place-behind}
-use Rattle.presentation_theorems.proofs.Elements.{nothing-left, left-nothing}
+use Rattle.tlv.proofs.Standing.{last-read, place-behind}
+use Rattle.presentation_theorems.proofs.Elements.{octets-before, take-most, read-element, nothing-left, left-nothing}
 use Rattle.presentation_theorems.proofs.ObjectEntry.{signedAt, signedIn, heldIn, signed-before, held-more, EntryRead}
 use Rattle.presentation_theorems.proofs.ObjectEntry.{entry-read, read-entry}
 

@@ -20,9 +20,9 @@ use Rattle.object.specs.Object.{GroupHash, isGroupNumber, digestAt, numberAt, e
 use Rattle.zone.specs.Octets.{areOctets}
 use Rattle.presentation_theorems.specs.Presented.{Signed, signedOf, EntryKept}
 use Rattle.refusal.proofs.Outcomes.{unless-kept, kept-unless}
-use Rattle.presentation_theorems.proofs.Elements.{octets-before, take-most, read-element, element-read, last-read}
-use Rattle.presentation_theorems.proofs.Elements.{has-octets, octets-had, place-behind, one-octet, followed-by}
-use Rattle.presentation_theorems.proofs.Elements.{nothing-left, left-nothing, end-there, cut-before}
+use Rattle.tlv.proofs.Standing.{element-read, last-read, has-octets, octets-had, place-behind, one-octet, followed-by}
+use Rattle.presentation_theorems.proofs.Elements.{octets-before, take-most, read-element, nothing-left, left-nothing}
+use Rattle.presentation_theorems.proofs.Elements.{end-there, cut-before}
 use Rattle.lent.proofs.Lists.{head-same}
 
 -- ---- the entry that was read

@@ -19,7 +19,8 @@ use Rattle.chip.specs.Outer.{sizeCheck, File, files, outer, walked}
 use Rattle.zone.specs.Octets.{areOctets}
 use Rattle.presentation_theorems.specs.Presented.{Lent, allLent}
 use Rattle.refusal.proofs.Outcomes.{unless-kept, kept-unless}
-use Rattle.presentation_theorems.proofs.Elements.{read-element, element-read, place-behind, followed-by}
+use Rattle.tlv.proofs.Standing.{element-read, place-behind, followed-by}
+use Rattle.presentation_theorems.proofs.Elements.{read-element}
 use Rattle.presentation_theorems.proofs.GroupFiles.{lentIn, EachStands, EachGroup, files-read, read-files}
 
 -- the parts of walked bytes: what EF.COM and the object hold, and the files

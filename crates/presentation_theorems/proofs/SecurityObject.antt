@@ -22,8 +22,8 @@ use Rattle.zone.specs.Octets.{areOctets}
 use Rattle.presentation_theorems.specs.Presented.{Signed, allSigned, algorithmOf, objectInside}
 use Rattle.refusal.proofs.Outcomes.{unless-kept, kept-unless}
 use Rattle.tlv.proofs.Joined.{first-value, value-then, checked-value, value-checked}
-use Rattle.presentation_theorems.proofs.Elements.{octets-before, take-most, read-element, element-read, cut-there}
-use Rattle.presentation_theorems.proofs.Elements.{has-octets, octets-had, one-octet, followed-by, alike-same, same-alike}
+use Rattle.tlv.proofs.Standing.{element-read, cut-there, has-octets, octets-had, one-octet, followed-by}
+use Rattle.presentation_theorems.proofs.Elements.{octets-before, take-most, read-element, alike-same, same-alike}
 use Rattle.presentation_theorems.proofs.ObjectEntry.{signedIn, heldIn, signed-before, held-more}
 use Rattle.presentation_theorems.proofs.ObjectEntries.{SignedKept, list-of-entries, entries-listed}
 use Rattle.lent.proofs.Lists.{head-same}

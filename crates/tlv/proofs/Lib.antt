@@ -6,5 +6,7 @@ pub mod Past
 pub mod Steps
 -- the reader takes exactly what the encoder gives (`reads`, `back`, `prefix-free`)
 pub mod Encoded
+-- an element that stands at a place: read there, its parts and places
+pub mod Standing
 -- stretches
 pub mod Stretches

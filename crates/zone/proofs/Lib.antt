@@ -10,3 +10,4 @@ pub mod Padded  -- `padded`: copies over fillers, and trailing fillers that make
 pub mod Trimmed  -- `trimmedLength`: one character more, its bound, and lists joined and cut
 pub mod Fields  -- the characters of a text found in its fields
 pub mod FormByLength  -- the form that a length tells
+pub mod Octets  -- lent octets are below 256
