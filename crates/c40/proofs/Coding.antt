@@ -125,3 +125,11 @@ c40-range c e = go (or-either (isDigit c) (isLetter c || eqb c space) e)
     go : (isDigit c ≡ true) ⊎ (isLetter c || eqb c space ≡ true) → (code " " ≤ c) × (c ≤ code "Z")
     go (inl h) = let r = digit-range c h in (omega arith, omega arith)
     go (inr h) = other (or-either (isLetter c) (eqb c space) h)
+
+pub digit-c40 : (c : ℕ) → isDigit c ≡ true → isC40 c ≡ true
+unfolding isC40
+digit-c40 c e = rw e
+
+pub letter-c40 : (c : ℕ) → isLetter c ≡ true → isC40 c ≡ true
+unfolding isC40
+letter-c40 c e = let h = letter-range c e in rw (above-digits c (omega arith), e)

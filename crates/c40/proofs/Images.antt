@@ -1,5 +1,5 @@
 -- The reader takes exactly the images, and no two texts share one.
-use Prim.Native.Nat.{ℕ, _+_, _-_, _*_, _/_, _%_, _≤_, _<_}
+use Prim.Native.Nat.{ℕ, zero, suc, _+_, _-_, _*_, _/_, _%_, _≤_, _<_}
 use mathlib.Core.Path.{_≡_, refl, sym, ap, _∙_}
 use mathlib.Core.Bool.{true, _&&_}
 use mathlib.Core.List.{List, [], _∷_, _++_}
@@ -143,6 +143,16 @@ refuses-exactly s o = (λ e t p q. no-text t (sym e ∙ reads-exactly s t o .1 (
 -- no two texts share an image
 pub image-tells : (t u : List ℕ) → every isC40 t ≡ true → every isC40 u ≡ true → imageOf t ≡ imageOf u → t ≡ u
 image-tells t u p q e = same-text t u (sym (image-read t p) ∙ ap readC40 e ∙ image-read u q)
+
+-- texts joined behind whole pairs
+pub images-joined : (k : ℕ) (t u : List ℕ) → length t ≡ 3 * k → imageOf (t ++ u) ≡ imageOf t ++ imageOf u
+unfolding imageOf pair
+images-joined zero [] u e = refl
+images-joined zero (c ∷ t) u e = absurd (omega arith)
+images-joined (suc k) [] u e = absurd (omega arith)
+images-joined (suc k) (c ∷ []) u e = absurd (omega arith)
+images-joined (suc k) (c ∷ d ∷ []) u e = absurd (omega arith)
+images-joined (suc k) (c ∷ d ∷ e ∷ t) u h = rw (images-joined k t u (omega arith))
 
 -- an image has two octets for each three characters that are begun
 pub image-length : (t : List ℕ) → length (imageOf t) ≡ 2 * ((length t + 2) / 3)

@@ -8,5 +8,7 @@ pub mod Exactly  -- a field has as many characters as were asked for, or none
 -- exactly the images are read (`reads-exactly`, `refuses-exactly`), no two texts share one (`image-tells`), and it is octets, two
 -- for each three characters begun (`image-length`, `image-octets`)
 pub mod Images
+-- a field of so many characters is read exactly where such a text's image stands (`field-read`, `read-field`)
+pub mod Fields
 -- the examples of the papers hold (`printed-hold`)
 pub mod Printed

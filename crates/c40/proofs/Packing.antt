@@ -13,7 +13,7 @@ use Rattle.c40.specs.Inner.Left.{Small}
 use Rattle.c40.proofs.Coding.{value-range}
 
 -- quotient and remainder of what is made of them
-split : (d q r : ℕ) → r < d → ((d * q + r) / d ≡ q) × ((d * q + r) % d ≡ r)
+pub split : (d q r : ℕ) → r < d → ((d * q + r) / d ≡ q) × ((d * q + r) % d ≡ r)
 split d q r h =
     (mul-add-div (omega arith) q r ∙ rw (div-eq-of-lt h) (add-zero q), mul-add-mod-self-left d q r ∙ mod-eq-of-lt h)
 

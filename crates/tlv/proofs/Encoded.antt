@@ -30,12 +30,12 @@ two-low a b h = mul-add-mod-self-right a 256 b ∙ mod-eq-of-lt h
 
 -- ---- an octet, and what is left
 
-next-octet : (s : List ℕ) (at : ℕ) → at < length s → drop at s ≡ getD s at 0 ∷ drop (at + 1) s
+pub next-octet : (s : List ℕ) (at : ℕ) → at < length s → drop at s ≡ getD s at 0 ∷ drop (at + 1) s
 next-octet s at h = rw (add-one at) (drop-cons s at 0 h)
 
 -- what stands first where a list is known
 module _ (s : List ℕ) (at : ℕ) where
-  first-there : (a : ℕ) (q : List ℕ) → drop at s ≡ a ∷ q → (getD s at 0 ≡ a) × (drop (at + 1) s ≡ q)
+  pub first-there : (a : ℕ) (q : List ℕ) → drop at s ≡ a ∷ q → (getD s at 0 ≡ a) × (drop (at + 1) s ≡ q)
   first-there a q e = (
     ap (λ (n : ℕ). getD s n 0) (sym (add-zero at)) ∙ sym (getD-drop at s 0 0) ∙ ap (λ (l : List ℕ). getD l 0 0) e,
     sym (drop-drop 1 at s) ∙ ap (drop 1) e,
