@@ -1,0 +1,20 @@
+-- what stands at a place, and what behind it; lists of three and of four
+pub mod Places
+-- a day and its three octets tell each other
+pub mod Days
+-- a number and its two hexadecimal characters tell each other
+pub mod Hexadecimal
+-- the signer and the certificate reference
+pub mod References
+-- the header passes its checks exactly where its encoding stands in front (`header-exactly`)
+pub mod HeadRead
+-- the features are walked exactly where their joined encodings stand
+pub mod FeatureWalk
+-- feature 02 is the image of its text
+pub mod TextFeature
+-- the signature zone is read exactly where its encoding stands last
+pub mod SignatureRead
+-- what each stage gave where a seal was accepted
+pub mod Stages
+-- accepted exactly when it is the encodings of what keeps every rule (`sealed-exactly`), and what is answered (`sealed-answer`)
+pub mod Acceptance

@@ -1,0 +1,2 @@
+-- what a sound seal is, said with encoders
+pub mod Sealed
