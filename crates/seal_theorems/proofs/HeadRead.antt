@@ -115,7 +115,7 @@ head-then : (h : Head) (r : List ℕ)
 unfolding headOctets
 head-then h r = simp append-assoc
 
-filled-length : (t : List ℕ) → length (filled t) ≡ length t
+pub filled-length : (t : List ℕ) → length (filled t) ≡ length t
 unfolding filled
 filled-length t = length-map t _
 

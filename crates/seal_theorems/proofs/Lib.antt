@@ -18,3 +18,9 @@ pub mod SignatureRead
 pub mod Stages
 -- accepted exactly when it is the encodings of what keeps every rule (`sealed-exactly`), and what is answered (`sealed-answer`)
 pub mod Acceptance
+-- the record of an accepted seal is that of an accepted text, and sound (`seal-held`, `seal-sound`); its key (`seal-key`)
+pub mod SealRecord
+-- no second answer (`only-seal`), and what every refusal gives (`seal-blank`)
+pub mod OneAnswer
+-- a text that begins with V is 3 (`text-leading-v`, `seal-leading-v`)
+pub mod LeadingV

@@ -1,0 +1,39 @@
+-- NO SECOND ANSWER meets the promise of reading a seal (`only-seal`), and every refusal gives the blank header, the blank record and
+-- no signature (`seal-blank`).
+use Prim.Native.Nat.{ℕ}
+use mathlib.Core.Path.{_≡_, ap, sym, _∙_}
+use mathlib.Core.List.{List}
+use Rattle.refusal.specs.Outcome.{refused}
+use Rattle.refusal.proofs.Outcomes.{refused-not-passed}
+use Rattle.refusal.proofs.Numbers.{outcome-tells}
+use Rattle.zone.specs.Record.{blank}
+use Rattle.tlv.specs.Read.{Read, value, refusal}
+use Rattle.seal_header.specs.Header.{blankHeader}
+use Rattle.seal.specs.declared.Seal.{Seal}
+use Rattle.seal.specs.Seal.{Contents, contents, SealAnswer, answerBy, readSeal, answerOf}
+
+-- the paper's number and values of an answer tell the answer
+seal-tells : (r q : Seal) → answerOf r ≡ answerOf q → r ≡ q
+unfolding answerOf
+seal-tells r q e =
+    let a : r .verdict ≡ q .verdict = outcome-tells (r .verdict) (q .verdict) (ap (λ (x : SealAnswer). x .outcome) e) in
+    let b : r .header ≡ q .header = ap (λ (x : SealAnswer). x .header) e in
+    let c : r .kept ≡ q .kept = ap (λ (x : SealAnswer). x .kept) e in
+    let d : r .signature ≡ q .signature = ap (λ (x : SealAnswer). x .signature) e in
+    λ i. record { verdict = a i; header = b i; kept = c i; signature = d i }
+
+pub only-seal : (s : List ℕ) (r q : Seal) → answerOf r ≡ readSeal s → answerOf q ≡ readSeal s → r ≡ q
+only-seal s r q e f = seal-tells r q (e ∙ sym f)
+
+pub seal-blank : (s : List ℕ) (n p : ℕ) → readSeal s .outcome ≡ refused n p
+    → readSeal s
+    ≡ record { outcome = refused n p; header = blankHeader; kept = blank; signature = record { from = 0; to = 0 } }
+unfolding readSeal answerBy
+seal-blank s n p e = go (contents s) e
+  where
+    go : (m : Read Contents) → answerBy m .outcome ≡ refused n p
+        → answerBy m
+        ≡ record { outcome = refused n p; header = blankHeader; kept = blank; signature = record { from = 0; to = 0 } }
+    go (value c) h = absurd (refused-not-passed (sym h))
+    go (refusal k q) h =
+        λ i. record { outcome = h i; header = blankHeader; kept = blank; signature = record { from = 0; to = 0 } }
