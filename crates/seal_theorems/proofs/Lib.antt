@@ -24,3 +24,5 @@ pub mod SealRecord
 pub mod OneAnswer
 -- a text that begins with V is 3 (`text-leading-v`, `seal-leading-v`)
 pub mod LeadingV
+-- the answer is the first failing check (`seal-refused-exactly`)
+pub mod FirstFailing

@@ -31,7 +31,7 @@ unfoldable pub firstOf : List Outcome → Outcome
 firstOf [] = passed
 firstOf (o ∷ os) = orElse o (firstOf os)
 
-first-append : (a b : List Outcome) → firstOf (a ++ b) ≡ orElse (firstOf a) (firstOf b)
+pub first-append : (a b : List Outcome) → firstOf (a ++ b) ≡ orElse (firstOf a) (firstOf b)
 unfolding firstOf
 first-append [] b = refl
 first-append (passed ∷ a) b = first-append a b
@@ -67,7 +67,7 @@ pub read-first : (t : List ℕ) → readText t .outcome ≡ firstOf (checksOf t)
 unfolding readText checksOf
 read-first t = read-first-by (formOf (length t)) t
 
-first-failing : (os : List Outcome) (n p : ℕ) → firstOf os ≡ refused n p → FirstFailing os n p
+pub first-failing : (os : List Outcome) (n p : ℕ) → firstOf os ≡ refused n p → FirstFailing os n p
 unfolding firstOf
 first-failing [] n p e = absurd (never n p e)
 first-failing (passed ∷ os) n p e = later (first-failing os n p e)
@@ -79,7 +79,7 @@ first-failing (refused m q ∷ os) n p e = rw (sym same-number, sym same-place) 
     same-place : q ≡ p
     same-place = cc
 
-failing-first : (os : List Outcome) (n p : ℕ) → FirstFailing os n p → firstOf os ≡ refused n p
+pub failing-first : (os : List Outcome) (n p : ℕ) → FirstFailing os n p → firstOf os ≡ refused n p
 unfolding firstOf
 failing-first (refused m q ∷ os) n p here = refl
 failing-first (passed ∷ os) n p (later h) = failing-first os n p h

@@ -3,7 +3,7 @@ use Prim.Native.Nat.{ℕ}
 use mathlib.Core.Path.{_≡_, refl, ap, sym}
 use mathlib.Core.Bool.{Bool, true, false, cond}
 use native.Mathlib.Omega.{arith}
-use Rattle.refusal.specs.Outcome.{Outcome, passed, refused}
+use Rattle.refusal.specs.Outcome.{Outcome, passed, refused, orElse}
 use Rattle.refusal.proofs.Outcomes.{refused-not-passed}
 use Rattle.tlv.specs.Read.{Read, value, refusal, andThen, checked, outcomeIn}
 
@@ -64,3 +64,23 @@ one-value m a b e f = cc
 pub value-checked : {A : Type 0} (o : Outcome) (m r : Read A) → o ≡ passed → m ≡ r → checked o m ≡ r
 unfolding checked
 value-checked o m r e f = rw e f
+
+-- ---- what joined steps decide
+
+pub checked-outcome : {A : Type 0} (o : Outcome) (m : Read A) → outcomeIn (checked o m) ≡ orElse o (outcomeIn m)
+unfolding outcomeIn checked
+checked-outcome passed m = refl
+checked-outcome (refused n p) m = refl
+
+-- a value that is checked, and then what goes on from it
+pub then-outcome : {A B : Type 0} (o : Outcome) (a : A) (next : A → Read B)
+    → outcomeIn (andThen (checked o (value a)) next) ≡ orElse o (outcomeIn (next a))
+unfolding outcomeIn checked andThen
+then-outcome passed a next = refl
+then-outcome (refused n p) a next = refl
+
+pub then-then : {A B C : Type 0} (m : Read A) (f : A → Read B) (g : B → Read C)
+    → andThen (andThen m f) g ≡ andThen m (λ a. andThen (f a) g)
+unfolding andThen
+then-then (value a) f g = refl
+then-then (refusal n p) f g = refl

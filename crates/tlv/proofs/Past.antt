@@ -10,7 +10,7 @@ use lib.ListN.{length}
 use Rattle.tlv.specs.declared.Stretch.{Stretch}
 use Rattle.tlv.specs.declared.Size.{Size}
 use Rattle.tlv.specs.declared.Size.the-variants.{Of, Unknown}
-use Rattle.tlv.specs.Read.{value, refusal}
+use Rattle.tlv.specs.Read.{Read, value, refusal}
 use Rattle.tlv.proofs.Joined.{never-value, same-value, kept-value}
 use Rattle.tlv.specs.Element.{sized, sizeAt, endsWithin, tagAt, tagWidth, element}
 
@@ -58,3 +58,24 @@ value-within s at tag v e =
     let p = at + tagWidth tag in
     let k = sized-within s at p (sizeAt s p) v (kept-value (eqb (tagAt s at tag) tag) (sized s at p (sizeAt s p)) 10 at v e .1) in
     (omega (arith, some-tag tag, k .0), k .1, k .2)
+
+-- what is refused is refused at its place
+place-told : {A : Type 0} {n m p q : ℕ} → _≡_ {A = Read A} (refusal n p) (refusal m q) → p ≡ q
+place-told e = cc
+
+value-or-refused : {A : Type 0} (b : Bool) (a : A) (at n p : ℕ) → cond b (value a) (refusal 10 at) ≡ refusal n p → p ≡ at
+value-or-refused true a at n p e = absurd (never-value n p a (sym e))
+value-or-refused false a at n p e = sym (place-told e)
+
+sized-refused : (s : List ℕ) (at place : ℕ) (z : Size) (n p : ℕ) → sized s at place z ≡ refusal n p → p ≡ at
+unfolding sized endsWithin
+sized-refused s at place Unknown n p e = sym (place-told e)
+sized-refused s at place (Of z) n p e = value-or-refused (leb (place + z .told + z .count) (length s)) _ at n p e
+
+pub refused-there : (s : List ℕ) (at tag n p : ℕ) → element s at tag ≡ refusal n p → p ≡ at
+unfolding element
+refused-there s at tag n p e = go (eqb (tagAt s at tag) tag) e
+  where
+    go : (b : Bool) → cond b (sized s at (at + tagWidth tag) (sizeAt s (at + tagWidth tag))) (refusal 10 at) ≡ refusal n p → p ≡ at
+    go true f = sized-refused s at (at + tagWidth tag) (sizeAt s (at + tagWidth tag)) n p f
+    go false f = sym (place-told f)
