@@ -2,7 +2,7 @@
 use Prim.Native.Nat.{ℕ}
 use mathlib.Core.Path.{_≡_, refl, ap, _∙_}
 use mathlib.Core.Bool.{true, false, false≢true}
-use mathlib.Core.List.{List, []}
+use mathlib.Core.List.{List}
 use borrow.Author.Tests.{eqb-true, eq-eqb}
 use lib.ListN.{length, take, drop}
 use Rattle.zone.specs.Alphabet.{every}
@@ -40,12 +40,3 @@ module _ (s : List ℕ) (at m : ℕ) where
       let e : imageAt s at m ≡ characters t = ap readC40 (h .field-image) ∙ image-read t (h .field-c40) in
       let same = eq-eqb (length t) m (h .field-length) in
       (rw (e, same), rw (e, same))
-
-  -- where there is none, no characters are read
-  pub no-field : isField s at m ≡ false → fieldAt s at m ≡ []
-  unfolding isField fieldAt isOf exactly
-  no-field e = go (imageAt s at m) e
-    where
-      go : (r : Reading) → isOf m r ≡ false → exactly m r ≡ []
-      go (characters t) q = rw q
-      go noImage q = refl

@@ -129,7 +129,8 @@ field-written noImage out n e h = absurd (no-count n e)
 field-written (characters t) out n e h =
     let fits = fits-written (characters t) out n e in
     let same : length t ≡ length out = fits .0 ∙ h in
-    let all : sets out 0 t ≡ t = sets-eq t out 0 (rw (zero-add, same) (omega arith)) ∙ rw (zero-add, same, drop-length) (append-nil t) in
+    let all : sets out 0 t ≡ t =
+    sets-eq t out 0 (rw (zero-add, same) (omega arith)) ∙ rw (zero-add, same, drop-length) (append-nil t) in
     (rw (eq-eqb (length t) (length out) same), all ∙ rw (eq-eqb (length t) (length out) same))
 
 pub other-field : (r : Reading) (out : List ℕ) (n : ℕ) → answered r (length out) ≡ Characters n → (n ≡ length out → ⊥)

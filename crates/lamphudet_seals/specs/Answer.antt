@@ -1,5 +1,5 @@
--- What C receives of a seal: document 02, 2026-08, "The answer is header fields, record and signature". The record passes as its entry
--- (document 01, "What the server lends and gets"); after the seal's own refusals come 17 and 16, as for a text.
+-- What C receives of a seal: document 02, 2026-08, "The answer is header fields, record and signature". The record passes as its
+-- entry (document 01, "What the server lends and gets"); after the seal's own refusals come 17 and 16, as for a text.
 use Prim.Native.Nat.{ℕ, _-_}
 use mathlib.Core.List.{List}
 use Rattle.refusal.specs.Length.{Length, written, refused}

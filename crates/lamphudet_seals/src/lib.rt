@@ -20,8 +20,8 @@ pub struct StretchInC {
     pub length: u64,
 }
 
-// What C receives: number 0, how many octets of entry were written, and what the seal says; or the refusal's number and its place,
-// over blank fields.
+// What C receives: number 0, how many octets of entry were written, and what the seal says; or the refusal's number and its
+// place, over blank fields.
 #[repr(C)]
 pub struct SealInC {
     pub number: u32,

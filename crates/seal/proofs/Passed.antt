@@ -1,5 +1,5 @@
--- The walk over the features: each ends behind its place and within the seal, so that any number of steps that is enough gives the
--- same; and what one step of it does.
+-- The walk over the features: each ends behind its place and within the seal, so that any number of steps that is enough gives
+-- the same; and what one step of it does.
 use Prim.Native.Nat.{ℕ, zero, suc, _+_, _≤_, _<_}
 use mathlib.Core.Path.{_≡_, refl, ap, sym, _∙_, subst}
 use mathlib.Core.Bool.{Bool, true, false, _||_}

@@ -1,5 +1,5 @@
--- The features of a seal: document 02, 2026-08, "then features of tag, length and value", lengths as in document 01. "25, a feature
--- wrongly coded or cut off, or feature 02 of another length or a second time, at it".
+-- The features of a seal: document 02, 2026-08, "then features of tag, length and value", lengths as in document 01. "25, a
+-- feature wrongly coded or cut off, or feature 02 of another length or a second time, at it".
 use Prim.Native.Nat.{ℕ, zero, suc}
 use mathlib.Core.Bool.{Bool, true, cond, _&&_, _||_}
 use mathlib.Core.List.{List}

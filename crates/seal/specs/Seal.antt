@@ -1,6 +1,6 @@
--- A seal of an emergency document: document 02, 2026-08. "The answer is header fields, record and signature. Refusals, in this order:
--- 1, over 65,535 octets, at 0; 24, a header field; 25, a feature; 26, the C40 of feature 02; 27, signature zone; then those of the
--- text, at the feature's first octet."
+-- A seal of an emergency document: document 02, 2026-08. "The answer is header fields, record and signature. Refusals, in this
+-- order: 1, over 65,535 octets, at 0; 24, a header field, ..; 25, a feature ..; 26, the C40 of feature 02 ..; 27, signature zone
+-- ..; then those of the text, at the feature's first octet."
 use Prim.Native.Nat.{ℕ}
 use mathlib.Core.Bool.{not}
 use mathlib.Core.List.{List}

@@ -1,5 +1,5 @@
--- The signature zone: document 02, 2026-08, "then FF, a length and the signature". "27, signature zone missing, wrongly coded, cut
--- off or followed by anything, at FF or the end".
+-- The signature zone: document 02, 2026-08, "then FF, a length and the signature". "27, signature zone missing, wrongly coded,
+-- cut off or followed by anything, at FF or the end".
 use Prim.Native.Nat.{ℕ}
 use mathlib.Core.List.{List}
 use lib.Dec.{eqb}

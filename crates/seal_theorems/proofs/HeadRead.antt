@@ -22,7 +22,8 @@ use Rattle.tlv.proofs.Encoded.{first-there}
 use Rattle.c40.specs.Image.{imageOf}
 use Rattle.c40.specs.Field.{octetsFor, isField, fieldAt}
 use Rattle.c40.proofs.Images.{image-length}
-use Rattle.c40.proofs.Fields.{FieldStands, field-read, read-field, no-field}
+use Rattle.c40.proofs.Exactly.{no-field}
+use Rattle.c40.proofs.Fields.{FieldStands, field-read, read-field}
 use Rattle.seal_header.specs.declared.day.Day.{Day}
 use Rattle.seal_header.specs.Day.{isDay, dayAt, dayOf, numberIn}
 use Rattle.seal_header.specs.Reference.{version, referenceLength, width, reference, isReference, before}

@@ -9,7 +9,7 @@ use Rattle.refusal.proofs.Numbers.{outcome-tells}
 use Rattle.zone.specs.Record.{blank}
 use Rattle.tlv.specs.Read.{Read, value, refusal}
 use Rattle.seal_header.specs.Header.{blankHeader}
-use Rattle.seal.specs.declared.Seal.{Seal}
+use Rattle.seal.specs.declared.read.Seal.{Seal}
 use Rattle.seal.specs.Seal.{Contents, contents, SealAnswer, answerBy, readSeal, answerOf}
 
 -- the paper's number and values of an answer tell the answer

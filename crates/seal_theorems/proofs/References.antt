@@ -18,7 +18,8 @@ use Rattle.c40.specs.Field.{octetsFor, isField, fieldAt}
 use Rattle.c40.proofs.Coding.{digit-c40, letter-c40}
 use Rattle.c40.proofs.Counting.{pair-at}
 use Rattle.c40.proofs.Images.{images-joined, image-length}
-use Rattle.c40.proofs.Fields.{FieldStands, field-read, read-field, no-field}
+use Rattle.c40.proofs.Exactly.{no-field}
+use Rattle.c40.proofs.Fields.{FieldStands, field-read, read-field}
 use Rattle.seal_header.specs.Reference.{version, isHex, hexOf, moreBy, referenceLength, width, reference, isLetterOrDigit}
 use Rattle.seal_header.specs.Reference.{isReference, before}
 use Rattle.seal_theorems.specs.Sealed.{Head, hexDigit, hexadecimal, countOf, referenceOf, HeadKept}

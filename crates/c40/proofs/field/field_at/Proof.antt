@@ -20,7 +20,8 @@ counted c κs =
     let a = c .before .before .before .before .before .before .before .before .before .args in
     let m = c .before .before .before .before .before .measured in
     let n = c .before .before .before .n .given in
-    let fits = fits-written (readC40 (now (c .before .before .before .before .before .before .part .result))) (now (a .out)) (n .0 .0) (sym (m .ensures) ∙ n .1) in
+    let image = now (c .before .before .before .before .before .before .part .result) in
+    let fits = fits-written (readC40 image) (now (a .out)) (n .0 .0) (sym (m .ensures) ∙ n .1) in
     (fits .0 ∙ c .before .if1 .taken, omega arith)
 
 returns : tie.Need-returns
@@ -33,7 +34,8 @@ returns c =
     let r = imageAt (now (a .s)) (a .at) (length (now (a .out))) in
     let e = ap (λ (x : Reading). answered x (length (now (a .out)))) (ap readC40 (sym (p .ensures))) ∙ sym (m .ensures) ∙ n .1 in
     let w = field-written r (now (a .out)) (n .0 .0) e (c .before .before .before .before .if1 .taken) in
-    record { answer = sym (w .0); output = rw (w .0) (c .before .before .write .ensures ∙ ap (sets (now (a .out)) 0) (ap textOf (ap readC40 (p .ensures))) ∙ w .1) }
+    let stored = ap (sets (now (a .out)) 0) (ap textOf (ap readC40 (p .ensures))) in
+    record { answer = sym (w .0); output = rw (w .0) (c .before .before .write .ensures ∙ stored ∙ w .1) }
 
 returns-2 : tie.Need-returns-2
 unfolding isField fieldAt imageAt octetsFor
@@ -54,7 +56,8 @@ returns-3 c =
     let m = c .before .before .measured in
     let p = c .before .before .before .part in
     let r = imageAt (now (a .s)) (a .at) (length (now (a .out))) in
-    let e = ap (λ (x : Reading). answered x (length (now (a .out)))) (ap readC40 (sym (p .ensures))) ∙ sym (m .ensures) ∙ c .enum-told .given .1 in
+    let e = ap (λ (x : Reading). answered x (length (now (a .out)))) (ap readC40 (sym (p .ensures)))
+    ∙ sym (m .ensures) ∙ c .enum-told .given .1 in
     let w = bad-field r (now (a .out)) e in
     record { answer = sym w; output = rw w }
 

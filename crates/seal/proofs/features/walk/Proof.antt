@@ -42,7 +42,8 @@ loop-again c =
     let l = c .before .before .before .before .before .before .before .loop in
     let v = c .before .before .v .given in
     let e = sym (c .before .before .before .before .feature-at .ensures) ∙ ap takenOf (v .1) in
-    let more = sym (c .before .before .before .before .before .before .is-end .ensures) ∙ c .before .before .before .before .before .if1 .left in
+    let left = c .before .before .before .before .before .if1 .left in
+    let more = sym (c .before .before .before .before .before .before .is-end .ensures) ∙ left in
     ap (leftFrom s (v .0 .0 .to)) (c .text-place .ensures) ∙ left-next s (l .at) (l .text) (v .0 .0) more e ∙ l .inv
 
 returns-2 : tie.Need-returns-2 Inv-loop μ-loop
