@@ -10,3 +10,5 @@ pub mod BitsOfOctets  -- a range of octets as its bits
 pub mod OctetsOfBits  -- bits gathered by eights
 pub mod FieldBits  -- numbers and characters in bits, put and read
 pub mod EntryBits  -- the bits of an entry
+-- what was read is entered exactly when it passed, house and record are sound and there is room (`entered`, `entered-only`)
+pub mod Entered
