@@ -26,3 +26,5 @@ pub mod OneAnswer
 pub mod LeadingV
 -- the answer is the first failing check (`seal-refused-exactly`)
 pub mod FirstFailing
+-- what a C host may rely on: every call is told in one of two ways (`seal-told`), and two entries are apart (`seals-apart`)
+pub mod AtTheBorder
