@@ -10,5 +10,3 @@ pub mod Exactly  -- a field has as many characters as were asked for, or none
 pub mod Images
 -- a field of so many characters is read exactly where such a text's image stands (`field-read`, `read-field`)
 pub mod Fields
--- the examples of the papers hold (`printed-hold`)
-pub mod Printed

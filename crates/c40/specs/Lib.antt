@@ -3,5 +3,4 @@ pub mod Image
 pub mod Reader
 pub mod Decode
 pub mod Field
-pub mod Examples
 pub mod Inner

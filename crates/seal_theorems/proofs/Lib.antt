@@ -28,3 +28,5 @@ pub mod LeadingV
 pub mod FirstFailing
 -- what a C host may rely on: every call is told in one of two ways (`seal-told`), and two entries are apart (`seals-apart`)
 pub mod AtTheBorder
+-- the examples of the papers hold (`printed-hold`)
+pub mod Printed

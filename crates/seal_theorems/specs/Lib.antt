@@ -2,3 +2,5 @@
 pub mod Sealed
 -- the checks one after the other
 pub mod SealChecks
+-- the examples of the papers
+pub mod Examples
