@@ -1,6 +1,6 @@
--- ACCEPTANCE: a seal is accepted exactly when it is the joined encodings of a header, features and a signature that keep every rule
--- (`sealed-exactly`), and what is then answered (`sealed-answer`). Where every rule is kept but those of the text, the text decides
--- (`shaped-answer`).
+-- ACCEPTANCE: a seal is accepted exactly when it is the joined encodings of a header, features and a signature that keep every
+-- rule (`sealed-exactly`), and what is then answered (`sealed-answer`). Where every rule is kept but those of the text, the text
+-- decides (`shaped-answer`).
 use Prim.Native.Nat.{ℕ, suc, _+_, _≤_}
 use mathlib.Core.Path.{_≡_, refl, ap, sym, _∙_, subst}
 use mathlib.Core.Logic.{_↔_}
@@ -33,9 +33,10 @@ use Rattle.text_theorems.proofs.Acceptance.{accepted-exactly}
 use Rattle.seal_theorems.specs.Sealed.{Contents, headOctets, joined, octetsOf, Shaped}
 use Rattle.seal_theorems.specs.Sealed.{Sealed, textPlace, headerIn, signatureIn, answerIn}
 use Rattle.seal_theorems.proofs.Places.{then-there}
-use Rattle.seal_theorems.proofs.HeadRead.{header-read, read-head}
-use Rattle.seal_theorems.proofs.FeatureWalk.{Found, without, with, features-found}
-use Rattle.seal_theorems.proofs.FeatureWalk.{features-walked}
+use Rattle.seal_theorems.proofs.HeadThere.{header-read}
+use Rattle.seal_theorems.proofs.HeadRead.{read-head}
+use Rattle.seal_theorems.proofs.FeaturesFound.{Found, without, with, features-found}
+use Rattle.seal_theorems.proofs.FeaturesWalked.{features-walked}
 use Rattle.seal_theorems.proofs.TextFeature.{image-inside, inside-image}
 use Rattle.seal_theorems.proofs.SignatureRead.{signature-read, read-signature}
 use Rattle.seal_theorems.proofs.Stages.{from-signature, from-image, passed-text, some-header, Stages, taken-apart}

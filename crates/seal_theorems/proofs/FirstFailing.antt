@@ -29,7 +29,8 @@ use Rattle.seal.specs.Seal.{Contents, featureOctets, textIn, placed, withText, 
 use Rattle.seal.specs.Seal.{answerBy, readSeal}
 use Rattle.text_theorems.specs.Ordered.{checksOf, FirstFailing}
 use Rattle.text_theorems.proofs.FirstFailing.{firstOf, first-append, read-first, first-failing, failing-first}
-use Rattle.seal_theorems.specs.SealChecks.{headerChecks, signatureChecks, checksBehind, featureChecks, checksFrom, sealChecks}
+use Rattle.seal_theorems.specs.SealChecks.{headerChecks, signatureChecks, checksBehind, featureChecks, checksFrom}
+use Rattle.seal_theorems.specs.SealChecks.{sealChecks}
 
 -- ---- what joined steps decide
 

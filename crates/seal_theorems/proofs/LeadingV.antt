@@ -1,5 +1,5 @@
--- A LEADING V IS 3: document 02, "spaces become fillers and the text is read as TD2, a leading V being 3". A seal that keeps every
--- rule but that its text begins with V is refused by 3 at the feature's first octet.
+-- A LEADING V IS 3: document 02, "spaces become fillers and the text is read as TD2, a leading V being 3". A seal that keeps
+-- every rule but that its text begins with V is refused by 3 at the feature's first octet.
 use Prim.Native.Nat.{ℕ, _<_}
 use Prim.Native.Char.{code}
 use mathlib.Core.Path.{_≡_, refl, ap, _∙_}
@@ -29,7 +29,7 @@ use Rattle.tlv.specs.Read.{Read, checked}
 use Rattle.text_theorems.proofs.FirstFailing.{answered-outcome}
 use Rattle.text_theorems.proofs.Acceptance.{read-as}
 use Rattle.seal_theorems.specs.Sealed.{Contents, octetsOf, Shaped, textPlace}
-use Rattle.seal_theorems.proofs.HeadRead.{filled-length}
+use Rattle.seal_theorems.proofs.HeadThere.{filled-length}
 use Rattle.seal_theorems.proofs.Acceptance.{shaped-answer}
 
 -- characters of C40, spaces being fillers, are characters of the zone
@@ -56,7 +56,8 @@ filled-characters (c ∷ t) e =
 all-characters : (t : List ℕ) → every isCharacter t ≡ true → characters t ≡ passed
 unfolding characters firstForeign isForeign
 all-characters t e =
-    kept-unless (eqb (firstForeign t) (length t)) 2 (firstForeign t) (eq-eqb (firstForeign t) (length t) (every-first isCharacter t e))
+    kept-unless (eqb (firstForeign t) (length t)) 2 (firstForeign t)
+    (eq-eqb (firstForeign t) (length t) (every-first isCharacter t e))
 
 -- TD2 knows no code that begins with V
 code-v : (u : List ℕ) → inOrder (fieldCheck Td2 (code "V" ∷ u) (spanOf Td2 (code "V" ∷ u))) (parts Td2) ≡ refused 3 0

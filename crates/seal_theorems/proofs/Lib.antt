@@ -6,10 +6,16 @@ pub mod Days
 pub mod Hexadecimal
 -- the signer and the certificate reference
 pub mod References
--- the header passes its checks exactly where its encoding stands in front (`header-exactly`)
+-- the checks of a header, and what each says
+pub mod HeadChecks
+-- a header that passes its checks stands there
+pub mod HeadThere
+-- a header that stands there passes its checks and is read; both (`header-exactly`)
 pub mod HeadRead
--- the features are walked exactly where their joined encodings stand
-pub mod FeatureWalk
+-- the features that are walked stand there
+pub mod FeaturesFound
+-- the features that stand there are walked
+pub mod FeaturesWalked
 -- feature 02 is the image of its text
 pub mod TextFeature
 -- the signature zone is read exactly where its encoding stands last

@@ -1,5 +1,5 @@
--- NO SECOND ANSWER meets the promise of reading a seal (`only-seal`), and every refusal gives the blank header, the blank record and
--- no signature (`seal-blank`).
+-- NO SECOND ANSWER meets the promise of reading a seal (`only-seal`), and every refusal gives the blank header, the blank record
+-- and no signature (`seal-blank`).
 use Prim.Native.Nat.{ℕ}
 use mathlib.Core.Path.{_≡_, ap, sym, _∙_}
 use mathlib.Core.List.{List}

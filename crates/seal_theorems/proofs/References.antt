@@ -11,7 +11,7 @@ use lib.Seq.{length-take-le, drop-at, getD-take}
 use Rattle.lent.proofs.Bools.{and-both, both-and, or-either}
 use Rattle.zone.specs.Alphabet.{isDigit, isLetter, every}
 use Rattle.zone.specs.Octets.{areOctets}
-use Rattle.zone.proofs.Every.{every-append, every-take, every-each, each-every}
+use Rattle.zone.proofs.Every.{every-append, every-take, every-wider}
 use Rattle.c40.specs.Values.{isC40}
 use Rattle.c40.specs.Image.{imageOf}
 use Rattle.c40.specs.Field.{octetsFor, isField, fieldAt}
@@ -38,10 +38,6 @@ reference-so r = of-four
 more-said : (e f : ℕ) (a : List ℕ) → length a ≡ 4 → moreBy (a ++ (e ∷ f ∷ [])) ≡ hexOf e * 16 + hexOf f
 unfolding moreBy
 more-said e f = of-four (λ l. moreBy (l ++ (e ∷ f ∷ [])) ≡ hexOf e * 16 + hexOf f) (λ a b c d. refl)
-
--- where every character passes a test, every one passes a wider test
-every-wider : (p q : ℕ → Bool) → ((c : ℕ) → p c ≡ true → q c ≡ true) → (s : List ℕ) → every p s ≡ true → every q s ≡ true
-every-wider p q wider s e = every-each q s (λ i h. wider (getD s i 0) (each-every p s e i h))
 
 either-c40 : (c : ℕ) → isLetterOrDigit c ≡ true → isC40 c ≡ true
 unfolding isLetterOrDigit
@@ -80,9 +76,12 @@ module _ (s : List ℕ) (small : areOctets s) (kept : isReference (reference s) 
   unfolding reference isReference isLetter
   reference-stands = go (isField s 4 (referenceLength s)) refl
     where
-      go : (b : Bool) → isField s 4 (referenceLength s) ≡ b → FieldStands s 4 (referenceLength s) (fieldAt s 4 (referenceLength s))
-      go true p = field-read s 4 (referenceLength s) small p
-      go false p = absurd (false≢true (rw (no-field s 4 (referenceLength s) p) at kept))
+      n : ℕ
+      n = referenceLength s
+
+      go : (b : Bool) → isField s 4 n ≡ b → FieldStands s 4 n (fieldAt s 4 n)
+      go true p = field-read s 4 n small p
+      go false p = absurd (false≢true (rw (no-field s 4 n p) at kept))
 
   least : 6 ≤ referenceLength s
   unfolding referenceLength
@@ -208,7 +207,8 @@ module _ (s r : List ℕ) (h : Head) (k : HeadKept h) (v : version s ≡ h .vers
       let two = said-two n (k .certificate-most f) in
       let six = h .signer ++ hexadecimal n in
       let wide : length six ≡ 6 = length-append (h .signer) (hexadecimal n) ∙ ap (λ (m : ℕ). m + 2) (k .signer-length) in
-      let parted : referenceOf h ≡ six ++ h .certificate = rw f (sym (append-assoc (h .signer) (hexadecimal n) (h .certificate))) in
+      let parted : referenceOf h ≡ six ++ h .certificate =
+      rw f (sym (append-assoc (h .signer) (hexadecimal n) (h .certificate))) in
       let there : fieldAt s 4 6 ≡ six = read-field s 4 6 six (record {
         field-length = wide;
         field-c40 = every-append isC40 (h .signer) (hexadecimal n) signer-c40

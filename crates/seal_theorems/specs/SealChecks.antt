@@ -39,8 +39,8 @@ unfoldable pub signatureChecks : List ℕ → (at : ℕ) → Read Stretch → Li
 signatureChecks s at (value v) next = passed ∷ unless (eqb (v .to) (length s)) 27 at ∷ next
 signatureChecks s at (refusal n p) next = refused 27 at ∷ []
 
--- behind the features: "absent, at FF or, without one, the end; 26, the C40 of feature 02 bad or not 72 characters, at the feature";
--- the signature; "then those of the text, at the feature's first octet"
+-- behind the features: "absent, at FF or, without one, the end; 26, the C40 of feature 02 bad or not 72 characters, at the
+-- feature"; the signature; "then those of the text, at the feature's first octet"
 unfoldable pub checksBehind : List ℕ → Features → List Outcome
 checksBehind s f =
     unless (not (eqb (f .text) 0)) 25 (f .end)
@@ -56,8 +56,8 @@ featureChecks s at text (value v) next =
     ∷ next v
 featureChecks s at text (refusal n p) next = refused 25 at ∷ []
 
--- the features from a place on, where text is the place of the feature 02 that stood before, 0 where none did; here at most so many
--- steps, of which the last finds the end
+-- the features from a place on, where text is the place of the feature 02 that stood before, 0 where none did; here at most so
+-- many steps, of which the last finds the end
 unfoldable pub checksFrom : ℕ → List ℕ → (at text : ℕ) → List Outcome
 checksFrom zero s at text = refused 25 at ∷ []
 checksFrom (suc more) s at text =

@@ -76,6 +76,9 @@ pub refused-there : (s : List ℕ) (at tag n p : ℕ) → element s at tag ≡ r
 unfolding element
 refused-there s at tag n p e = go (eqb (tagAt s at tag) tag) e
   where
-    go : (b : Bool) → cond b (sized s at (at + tagWidth tag) (sizeAt s (at + tagWidth tag))) (refusal 10 at) ≡ refusal n p → p ≡ at
-    go true f = sized-refused s at (at + tagWidth tag) (sizeAt s (at + tagWidth tag)) n p f
+    place : ℕ
+    place = at + tagWidth tag
+
+    go : (b : Bool) → cond b (sized s at place (sizeAt s place)) (refusal 10 at) ≡ refusal n p → p ≡ at
+    go true f = sized-refused s at place (sizeAt s place) n p f
     go false f = sym (place-told f)

@@ -79,3 +79,7 @@ unfolding every
 each-every p [] e i h = absurd (omega arith)
 each-every p (c ∷ s) e zero h = and-both (p c) (every p s) e .0
 each-every p (c ∷ s) e (suc i) h = each-every p s (and-both (p c) (every p s) e .1) i (omega arith)
+
+-- where every character passes a test, every one passes a wider test
+pub every-wider : (p q : ℕ → Bool) → ((c : ℕ) → p c ≡ true → q c ≡ true) → (s : List ℕ) → every p s ≡ true → every q s ≡ true
+every-wider p q wider s e = every-each q s (λ i h. wider (getD s i 0) (each-every p s e i h))

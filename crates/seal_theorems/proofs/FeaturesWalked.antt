@@ -1,142 +1,28 @@
--- The features: they are walked exactly where joined encodings stand, of which one at most is that of a feature 02.
-use Prim.Native.Nat.{ℕ, zero, suc, _+_, _-_, _≤_, _<_}
-use mathlib.Core.Path.{_≡_, refl, ap, sym, _∙_, subst}
+-- The features that stand there are walked: others, a feature 02, others, and then FF.
+use Prim.Native.Nat.{ℕ, zero, suc, _+_, _≤_, _<_}
+use mathlib.Core.Path.{_≡_, refl, ap, sym, _∙_}
 use mathlib.Core.Bool.{Bool, true, false, cond, not, _&&_, false≢true, or-true}
 use mathlib.Core.List.{List, [], _∷_, _++_, append-assoc, append-nil}
 use native.Mathlib.Nat.{add-zero}
 use native.Mathlib.Omega.{arith}
-use borrow.Author.Tests.{eqb-true, eq-eqb, lt-leb, lt-ltb, ltb-true, not-true}
+use borrow.Author.Tests.{eq-eqb, lt-leb, ltb-true, not-true}
 use lib.Dec.{eqb, leb, ltb}
-use lib.ListN.{length, take, drop, getD, length-append, length-drop}
-use Rattle.lent.proofs.Bools.{and-both, both-and, or-neither, not-so}
+use lib.ListN.{length, drop, getD, length-append, length-drop}
+use Rattle.lent.proofs.Bools.{and-both, both-and}
 use Rattle.refusal.specs.Outcome.{unless}
-use Rattle.refusal.proofs.Outcomes.{unless-kept, kept-unless}
+use Rattle.refusal.proofs.Outcomes.{kept-unless}
 use Rattle.zone.specs.Alphabet.{every}
-use Rattle.zone.specs.Octets.{areOctets}
-use Rattle.zone.proofs.Octets.{octet-below}
 use Rattle.tlv.specs.declared.Stretch.{Stretch}
-use Rattle.tlv.specs.Read.{Read, value, refusal, andThen, checked}
+use Rattle.tlv.specs.Read.{Read, value, checked}
 use Rattle.tlv.specs.Element.{tlv, element}
 use Rattle.tlv.specs.Cut.{hasOctets}
-use Rattle.tlv.proofs.Joined.{never-value, same-value, first-value, checked-value, value-then, value-checked}
-use Rattle.tlv.proofs.Encoded.{Stands, reads, length-tlv, some-head, tag-first}
-use Rattle.tlv.proofs.Standing.{element-read, has-octets, octets-had, place-behind, to-behind}
+use Rattle.tlv.proofs.Joined.{value-then, value-checked}
+use Rattle.tlv.proofs.Encoded.{length-tlv, some-head, tag-first}
+use Rattle.tlv.proofs.Standing.{element-read, octets-had, to-behind}
 use Rattle.seal.specs.declared.features.Features.{Features}
 use Rattle.seal.specs.Features.{numbered, textTag, signatureTag, featureRule, featureAt, isEnd, textPlace, featuresFrom, features}
 use Rattle.seal_theorems.specs.Sealed.{Feature, featureOctets, joined, isOther, areOthers}
-
--- a reading whose refusals have a number of their own
-pub numbered-value : {A : Type 0} (n : ℕ) (m : Read A) (a : A) → numbered n m ≡ value a → m ≡ value a
-unfolding numbered
-numbered-value n (value b) a e = e
-numbered-value n (refusal k p) a e = absurd (never-value n p a e)
-
-pub value-numbered : {A : Type 0} (n : ℕ) (m : Read A) (a : A) → m ≡ value a → numbered n m ≡ value a
-unfolding numbered
-value-numbered n m a e = rw e
-
--- ---- from what is walked to what stands there
-
--- what a walk from a place on passed, where text is the place of the feature 02 that stood before, 0 where none did
-pub data Found (s : List ℕ) (at text : ℕ) (f : Features) : Type 0 where
-  -- no feature 02
-  without : (fs : List Feature) → areOthers fs ≡ true → drop at s ≡ joined fs ++ drop (f .end) s → f .text ≡ text
-      → Found s at text f
-  -- one, where none stood before
-  with : (bs cs : List Feature) (c : List ℕ) → text ≡ 0 → areOthers bs ≡ true → areOthers cs ≡ true → length c ≡ 48
-      → drop at s ≡ joined bs ++ (tlv textTag c ++ (joined cs ++ drop (f .end) s)) → f .text ≡ at + length (joined bs)
-      → Found s at text f
-
-module _ (s : List ℕ) (at text : ℕ) (small : areOctets s) where
-  abbrev tag : ℕ
-  tag = getD s at 0
-
-  -- one feature that is read
-  feature-read : (v : Stretch) → featureAt s at text ≡ value v
-      → (featureRule s at text v ≡ true) × Stands s at tag (take (v .to - v .from) (drop (v .from) s)) (drop (v .to) s) v
-  unfolding featureAt
-  feature-read v e =
-      let go : Stretch → Read Stretch = λ u. checked (unless (featureRule s at text u) 25 at) (value u) in
-      let a = first-value (numbered 25 (element s at tag)) go v e in
-      let u = a .0 in
-      let b = checked-value (unless (featureRule s at text u) 25 at) (value u) v (a .2) in
-      let same : u ≡ v = same-value (b .1) in
-      let there = reads s at tag (octet-below s small) u (numbered-value 25 (element s at tag) u (a .1)) in
-      subst (λ (x : Stretch). (featureRule s at text x ≡ true)
-      × Stands s at tag (take (x .to - x .from) (drop (x .from) s)) (drop (x .to) s) x) same
-      (unless-kept (featureRule s at text u) 25 at (b .0), there)
-
-  -- another feature before what was found
-  one-other : (f : Features) (c : List ℕ) (v : Stretch) → isOther tag ≡ true → Stands s at tag c (drop (v .to) s) v
-      → Found s (v .to) text f → Found s at text f
-  unfolding joined featureOctets areOthers every
-  one-other f c v o h (without fs a e p) =
-      without (record { tag = tag; content = c } ∷ fs) (both-and o a)
-      (h .octets-there ∙ ap (λ (l : List ℕ). tlv tag c ++ l) e ∙ sym (append-assoc (tlv tag c) (joined fs) (drop (f .end) s))) p
-  one-other f c v o h (with bs cs d z a b n e p) =
-      let rest = tlv textTag d ++ (joined cs ++ drop (f .end) s) in
-      with (record { tag = tag; content = c } ∷ bs) cs d z (both-and o a) b n
-      (h .octets-there ∙ ap (λ (l : List ℕ). tlv tag c ++ l) e ∙ sym (append-assoc (tlv tag c) (joined bs) rest))
-      (p ∙ omega (arith, to-behind s at tag c (drop (v .to) s) v h, length-append (tlv tag c) (joined bs)))
-
-  -- a feature 02 before what was found
-  one-text : (f : Features) (c : List ℕ) (v : Stretch) → 0 < at → tag ≡ textTag → length c ≡ 48 → text ≡ 0
-      → Stands s at tag c (drop (v .to) s) v → Found s (v .to) at f → Found s at text f
-  unfolding joined areOthers every
-  one-text f c v some t n z h (without fs a e p) =
-      with [] fs c z refl a n
-      (h .octets-there ∙ ap (λ (x : ℕ). tlv x c ++ drop (v .to) s) t ∙ ap (λ (l : List ℕ). tlv textTag c ++ l) e)
-      (p ∙ sym (add-zero at))
-  one-text f c v some t n z h (with bs cs d y a b m e p) = absurd (omega arith)
-
-  -- a feature, and what was found behind it
-  one-more : (f : Features) (v : Stretch) → 0 < at → eqb tag signatureTag ≡ false → featureAt s at text ≡ value v
-      → Found s (v .to) (textPlace s at text) f → Found s at text f
-  unfolding textPlace featureRule isOther
-  one-more f v some other e rest =
-      let r = feature-read v e in
-      go (eqb tag textTag) refl (r .0) (r .1) rest
-    where
-      c : List ℕ
-      c = take (v .to - v .from) (drop (v .from) s)
-
-      go : (b : Bool) → eqb tag textTag ≡ b → cond b (hasOctets 48 v && eqb text 0) true ≡ true
-          → Stands s at tag c (drop (v .to) s) v → Found s (v .to) (cond b at text) f → Found s at text f
-      go true p q h found =
-          let both = and-both (hasOctets 48 v) (eqb text 0) q in
-          one-text f c v some (eqb-true tag textTag p) (has-octets s at tag c (drop (v .to) s) v h 48 (both .0))
-          (eqb-true text 0 (both .1)) h found
-      go false p q h found =
-          one-other f c v (both-and (lt-ltb tag 256 (octet-below s small at)) (both-and (not-so (eqb tag textTag) p)
-          (not-so (eqb tag signatureTag) other))) h found
-
-pub features-found : (more : ℕ) (s : List ℕ) (at text : ℕ) (f : Features) → areOctets s → 0 < at
-    → featuresFrom more s at text ≡ value f
-    → Found s at text f
-unfolding featuresFrom isEnd joined areOthers every
-features-found zero s at text f small some e = absurd (never-value 25 at f e)
-features-found (suc more) s at text f small some e =
-    go (isEnd s at) refl e (λ (n m : ℕ) k q. features-found more s n m f small k q)
-  where
-    onwards : Stretch → Read Features
-    onwards v = featuresFrom more s (v .to) (textPlace s at text)
-
-    go : (b : Bool) → isEnd s at ≡ b
-        → cond b (value (record { text = text; end = at })) (andThen (featureAt s at text) onwards) ≡ value f
-        → ((n m : ℕ) → 0 < n → featuresFrom more s n m ≡ value f → Found s n m f)
-        → Found s at text f
-    go true p q rest =
-        let same : record { text = text; end = at } ≡ f = same-value q in
-        without [] refl (ap (λ (g : Features). drop (g .end) s) same) (ap (λ (g : Features). g .text) (sym same))
-    go false p q rest =
-        let a = first-value (featureAt s at text) onwards f q in
-        let v = a .0 in
-        let h = feature-read s at text small v (a .1) .1 in
-        let places = place-behind s at (getD s at 0) (take (v .to - v .from) (drop (v .from) s)) (drop (v .to) s) v h in
-        one-more s at text small f v some (or-neither (leb (length s) at) (eqb (getD s at 0) signatureTag) p .1) (a .1)
-        (rest (v .to) (textPlace s at text) (omega (arith, places .0, places .1)) (a .2))
-
--- ---- and back
+use Rattle.seal_theorems.proofs.FeaturesFound.{value-numbered}
 
 -- a walk that has come to a place, with what stands there, and steps enough to go on
 record Came (s : List ℕ) (more at text : ℕ) (to found : ℕ) (r : List ℕ) : Type 0 where
@@ -267,7 +153,8 @@ module _ (s : List ℕ) (most : length s ≤ 65535) where
       let ff : getD s end 0 ≡ signatureTag = tag-first s end signatureTag g [] (omega arith)
       (d .left-there ∙ sym (append-nil last)) in (
         record { text = text; end = end },
-        a .same-walk ∙ b .same-walk ∙ d .same-walk ∙ ends-here (d .left) s end text (omega (arith, d .left-enough, d .to-within)) ff,
+        a .same-walk ∙ b .same-walk ∙ d .same-walk
+            ∙ ends-here (d .left) s end text (omega (arith, d .left-enough, d .to-within)) ff,
         refl,
         a .left-there,
         d .left-there,
