@@ -1,7 +1,7 @@
 -- A field of so many characters is read at a place exactly where the image of a text of that length stands.
 use Prim.Native.Nat.{ℕ}
 use mathlib.Core.Path.{_≡_, refl, ap, _∙_}
-use mathlib.Core.Bool.{true, false, false≢true}
+use mathlib.Core.Bool.{true, false≢true}
 use mathlib.Core.List.{List}
 use borrow.Author.Tests.{eqb-true, eq-eqb}
 use lib.ListN.{length, take, drop}

@@ -1,9 +1,9 @@
 -- No second answer meets a promise: the paper's number and values of an answer tell the answer.
 use Prim.Native.Nat.{ℕ}
 use mathlib.Core.Path.{_≡_, refl, ap, sym, _∙_}
-use mathlib.Core.List.{List, [], _∷_}
+use mathlib.Core.List.{List}
 use native.Mathlib.Omega.{arith}
-use Rattle.refusal.specs.Outcome.{Outcome, passed, refused, outcomeOf}
+use Rattle.refusal.specs.Outcome.{Outcome, passed, refused}
 use Rattle.refusal.specs.declared.Written.{Written}
 use Rattle.refusal.proofs.Numbers.{refused-tells, outcome-tells, length-tells}
 use Rattle.sha256.specs.Answer.{Digests}

@@ -1,5 +1,5 @@
--- What was read is entered exactly when it passed, house and record are sound and the range has room: then the entry stands in the
--- range, and behind it what stood there before; else nothing is changed.
+-- What was read is entered exactly when it passed, house and record are sound and the range has room: then the entry stands in
+-- the range, and behind it what stood there before; else nothing is changed.
 use Prim.Native.Nat.{ℕ, _≤_}
 use mathlib.Core.Path.{_≡_, refl, sym}
 use mathlib.Core.Bool.{Bool, true, false, cond, _&&_}
@@ -8,10 +8,9 @@ use native.Mathlib.Omega.{arith}
 use borrow.Author.Tests.{le-leb, leb-true}
 use lib.Dec.{leb}
 use lib.ListN.{length, drop}
-use Rattle.lent.proofs.Bools.{and-both, both-and}
+use Rattle.lent.proofs.Bools.{and-both}
 use Rattle.refusal.specs.Outcome.{Outcome, passed, refused}
 use Rattle.refusal.specs.Length as told
-use Rattle.refusal.specs.Length.{Length}
 use Rattle.zone.specs.declared.record.Record.{Record}
 use Rattle.sound.specs.Sound.{isSound}
 use Rattle.entry.specs.Entry.{entryOf, size, isHouse, entryAnswer, entryOut}

@@ -15,12 +15,16 @@ use Rattle.tlv.specs.Element.{element}
 use Rattle.tlv.proofs.Joined.{first-value, checked-value, same-value, never-value}
 use Rattle.tlv.proofs.Past.{value-within}
 use Rattle.seal.specs.declared.features.Features.{Features}
-use Rattle.seal.specs.Features.{numbered, featureRule, featureAt, isEnd, textPlace, featuresFrom, features, signatureTag}
+use Rattle.seal.specs.Features.{numbered, featureRule, featureAt, isEnd, textPlace, featuresFrom, signatureTag}
 
 pub numbered-value : {A : Type 0} (n : ℕ) (m : Read A) (a : A) → numbered n m ≡ value a → m ≡ value a
 unfolding numbered
 numbered-value n (value b) a e = e
 numbered-value n (refusal k p) a e = absurd (never-value n p a e)
+
+pub value-numbered : {A : Type 0} (n : ℕ) (m : Read A) (a : A) → m ≡ value a → numbered n m ≡ value a
+unfolding numbered
+value-numbered n m a e = rw e
 
 -- a feature that is passed keeps its rule, and is an element
 pub feature-value : (s : List ℕ) (at text : ℕ) (v : Stretch) → featureAt s at text ≡ value v

@@ -31,7 +31,7 @@ use Rattle.seal.specs.Seal as seal
 use Rattle.seal.specs.Seal.{textIn, withText, withImage, withFeatures, withHeader, contents, SealAnswer, answerBy, readSeal}
 use Rattle.text_theorems.proofs.Acceptance.{accepted-exactly}
 use Rattle.seal_theorems.specs.Sealed.{Contents, headOctets, joined, octetsOf, Shaped}
-use Rattle.seal_theorems.specs.Sealed.{Sealed, textPlace, headerIn, signatureIn, answerIn}
+use Rattle.seal_theorems.specs.Sealed.{Sealed, featurePlace, headerIn, signatureIn, answerIn}
 use Rattle.seal_theorems.proofs.Places.{then-there}
 use Rattle.seal_theorems.proofs.HeadThere.{header-read}
 use Rattle.seal_theorems.proofs.HeadRead.{read-head}
@@ -94,9 +94,9 @@ stages-sealed s small c k =
 module _ (p : Contents) (k : Shaped p) where
   -- what is read of contents that keep every rule but those of the text, and where the signature stands
   shaped-read : (contents (octetsOf p)
-      ≡ withText (headerIn (p .head)) (textPlace p) (readText (filled (p .text))) (signatureIn p))
+      ≡ withText (headerIn (p .head)) (featurePlace p) (readText (filled (p .text))) (signatureIn p))
       × (cut (octetsOf p) (signatureIn p) ≡ p .signature)
-  unfolding contents withHeader withFeatures withImage octetsOf textPlace signatureIn
+  unfolding contents withHeader withFeatures withImage octetsOf featurePlace signatureIn
   shaped-read =
       let s = octetsOf p in
       let most = k .size in
@@ -114,8 +114,8 @@ module _ (p : Contents) (k : Shaped p) where
       let i = inside-image s f c last n (a .3) (p .text) (k .text-length) (k .text-c40) refl in
       let v = read-signature s (f .end) g most (a .4) in
       let stretch = signatureIn p in
-      let r = withText (headerIn (p .head)) (textPlace p) (readText (filled (p .text))) stretch in
-      let place : f .text ≡ textPlace p = a .2 ∙ ap (λ (m : ℕ). m + length (joined (p .before))) (h .head-end) in
+      let r = withText (headerIn (p .head)) (featurePlace p) (readText (filled (p .text))) stretch in
+      let place : f .text ≡ featurePlace p = a .2 ∙ ap (λ (m : ℕ). m + length (joined (p .before))) (h .head-end) in
       let some : eqb (f .text) 0 ≡ false = ne-eqb (f .text) 0 (λ q. omega (arith, a .2, some-header s)) in
       let text : from-signature s (headerOf s) f stretch ≡ r =
       λ m. withText (h .head-read m) (place m) (readText (filled (i .1 m))) stretch in (
@@ -140,7 +140,7 @@ sealed-signature p k = shaped-read p k .1
 
 -- where every rule is kept but those of the text, the text decides, at the feature's first octet
 pub shaped-answer : (p : Contents) → Shaped p
-    → contents (octetsOf p) ≡ withText (headerIn (p .head)) (textPlace p) (readText (filled (p .text))) (signatureIn p)
+    → contents (octetsOf p) ≡ withText (headerIn (p .head)) (featurePlace p) (readText (filled (p .text))) (signatureIn p)
 shaped-answer p k = shaped-read p k .0
 
 -- the answer to the octets of contents that keep every rule: header fields, the record of the text, and the signature
@@ -148,7 +148,7 @@ pub sealed-answer : (p : Contents) → Sealed p → readSeal (octetsOf p) ≡ an
 unfolding readSeal answerBy answerIn
 sealed-answer p k =
     let a = readText (filled (p .text)) in
-    ap answerBy (shaped-answer p (k .shaped) ∙ passed-text (headerIn (p .head)) (textPlace p) a (signatureIn p)
+    ap answerBy (shaped-answer p (k .shaped) ∙ passed-text (headerIn (p .head)) (featurePlace p) a (signatureIn p)
     (accepted-exactly (filled (p .text)) .1 (k .text-kept)))
 
 -- octets are accepted exactly when they are those of contents that keep every rule

@@ -1,16 +1,15 @@
--- What a C host may rely on of `lamphudet_read_seal`: every call is told in one of two ways, and the entries of two accepted calls
--- begin alike exactly when house, form, state, whole number, birth and expiry agree.
-use Prim.Native.Nat.{ℕ, _≤_}
+-- What a C host may rely on of `lamphudet_read_seal`: every call is told in one of two ways, and the entries of two accepted
+-- calls begin alike exactly when house, form, state, whole number, birth and expiry agree.
+use Prim.Native.Nat.{ℕ}
 use mathlib.Core.Path.{_≡_, refl, ap, sym, _∙_}
 use mathlib.Core.Logic.{_↔_}
 use mathlib.Core.List.{List, _++_}
 use native.Mathlib.Omega.{arith}
-use lib.ListN.{length, take, drop}
+use lib.ListN.{take, drop}
 use lib.Seq.{take-append-le}
 use Rattle.refusal.specs.Length as told
 use Rattle.refusal.specs.Length.{Length}
-use Rattle.zone.specs.declared.record.Record.{Record}
-use Rattle.entry.specs.Entry.{entryOf, size, isHouse}
+use Rattle.entry.specs.Entry.{entryOf, size}
 use Rattle.entry.specs.Entered.{enteredAnswer}
 use Rattle.entry.proofs.Entered.{Enters, entered, entered-only, not-entered}
 use Rattle.seal_header.specs.Header.{blankHeader}

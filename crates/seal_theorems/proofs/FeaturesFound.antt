@@ -1,6 +1,6 @@
 -- The features that are walked stand there: joined encodings, of which one at most is that of a feature 02.
 use Prim.Native.Nat.{ℕ, zero, suc, _+_, _-_, _<_}
-use mathlib.Core.Path.{_≡_, refl, ap, sym, _∙_, subst}
+use mathlib.Core.Path.{_≡_, refl, ap, sym, _∙_}
 use mathlib.Core.Bool.{Bool, true, false, cond, _&&_}
 use mathlib.Core.List.{List, [], _∷_, _++_, append-assoc}
 use native.Mathlib.Nat.{add-zero}
@@ -9,31 +9,21 @@ use borrow.Author.Tests.{eqb-true, lt-ltb}
 use lib.Dec.{eqb, leb}
 use lib.ListN.{length, take, drop, getD, length-append}
 use Rattle.lent.proofs.Bools.{and-both, both-and, or-neither, not-so}
-use Rattle.refusal.specs.Outcome.{unless}
 use Rattle.refusal.proofs.Outcomes.{unless-kept}
 use Rattle.zone.specs.Alphabet.{every}
 use Rattle.zone.specs.Octets.{areOctets}
 use Rattle.zone.proofs.Octets.{octet-below}
 use Rattle.tlv.specs.declared.Stretch.{Stretch}
-use Rattle.tlv.specs.Read.{Read, value, refusal, andThen, checked}
-use Rattle.tlv.specs.Element.{tlv, element}
+use Rattle.tlv.specs.Read.{Read, value, andThen}
+use Rattle.tlv.specs.Element.{tlv}
 use Rattle.tlv.specs.Cut.{hasOctets}
-use Rattle.tlv.proofs.Joined.{never-value, same-value, first-value, checked-value}
+use Rattle.tlv.proofs.Joined.{never-value, same-value, first-value}
 use Rattle.tlv.proofs.Encoded.{Stands, reads}
 use Rattle.tlv.proofs.Standing.{has-octets, place-behind, to-behind}
 use Rattle.seal.specs.declared.features.Features.{Features}
-use Rattle.seal.specs.Features.{numbered, textTag, signatureTag, featureRule, featureAt, isEnd, textPlace, featuresFrom}
+use Rattle.seal.specs.Features.{textTag, signatureTag, featureRule, featureAt, isEnd, textPlace, featuresFrom}
+use Rattle.seal.proofs.Passed.{feature-value}
 use Rattle.seal_theorems.specs.Sealed.{Feature, featureOctets, joined, isOther, areOthers}
-
--- a reading whose refusals have a number of their own
-pub numbered-value : {A : Type 0} (n : ℕ) (m : Read A) (a : A) → numbered n m ≡ value a → m ≡ value a
-unfolding numbered
-numbered-value n (value b) a e = e
-numbered-value n (refusal k p) a e = absurd (never-value n p a e)
-
-pub value-numbered : {A : Type 0} (n : ℕ) (m : Read A) (a : A) → m ≡ value a → numbered n m ≡ value a
-unfolding numbered
-value-numbered n m a e = rw e
 
 -- what a walk from a place on passed, where text is the place of the feature 02 that stood before, 0 where none did
 pub data Found (s : List ℕ) (at text : ℕ) (f : Features) : Type 0 where
@@ -52,17 +42,9 @@ module _ (s : List ℕ) (at text : ℕ) (small : areOctets s) where
   -- one feature that is read
   feature-read : (v : Stretch) → featureAt s at text ≡ value v
       → (featureRule s at text v ≡ true) × Stands s at tag (take (v .to - v .from) (drop (v .from) s)) (drop (v .to) s) v
-  unfolding featureAt
   feature-read v e =
-      let go : Stretch → Read Stretch = λ u. checked (unless (featureRule s at text u) 25 at) (value u) in
-      let a = first-value (numbered 25 (element s at tag)) go v e in
-      let u = a .0 in
-      let b = checked-value (unless (featureRule s at text u) 25 at) (value u) v (a .2) in
-      let same : u ≡ v = same-value (b .1) in
-      let there = reads s at tag (octet-below s small) u (numbered-value 25 (element s at tag) u (a .1)) in
-      subst (λ (x : Stretch). (featureRule s at text x ≡ true)
-      × Stands s at tag (take (x .to - x .from) (drop (x .from) s)) (drop (x .to) s) x) same
-      (unless-kept (featureRule s at text u) 25 at (b .0), there)
+      let w = feature-value s at text v e in
+      (unless-kept (featureRule s at text v) 25 at (w .1), reads s at tag (octet-below s small) v (w .0))
 
   -- another feature before what was found
   one-other : (f : Features) (c : List ℕ) (v : Stretch) → isOther tag ≡ true → Stands s at tag c (drop (v .to) s) v

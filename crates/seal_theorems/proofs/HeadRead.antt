@@ -23,12 +23,13 @@ use Rattle.seal_header.specs.Day.{isDay, dayAt, dayOf, numberIn}
 use Rattle.seal_header.specs.Reference.{version, width, reference, isReference, before}
 use Rattle.seal_header.specs.Header.{filled, country, headerCheck, headerBy, saidBy}
 use Rattle.seal_header.specs.Header.{headerOf, headerEnd}
+use Rattle.seal_header.proofs.Filled.{length-filled}
 use Rattle.seal_theorems.specs.Sealed.{Head, threeOctets, dayOctets, countOf, referenceOf, headOctets, HeadKept, headerIn}
 use Rattle.seal_theorems.proofs.Places.{then-there}
 use Rattle.seal_theorems.proofs.Days.{day-read}
 use Rattle.seal_theorems.proofs.References.{read-reference}
 use Rattle.seal_theorems.proofs.HeadChecks.{passed-checks}
-use Rattle.seal_theorems.proofs.HeadThere.{head-then, filled-length, header-read}
+use Rattle.seal_theorems.proofs.HeadThere.{head-then, header-read}
 
 -- what is read where the encoding of a head stands in front
 pub record HeadRead (h : Head) (s : List ℕ) : Type 0 where
@@ -85,7 +86,7 @@ module _ (s r : List ℕ) (h : Head) (k : HeadKept h) (e : s ≡ headOctets h ++
       let x8 = first-there s (11 + w) 0x03 r (rw eleven at (x7 .1)) in
       let field = read-field s 2 3 (h .country)
       (record { field-length = k .country-length; field-c40 = k .country-c40; field-image = x3 .0 }) .1 in
-      let three : length (filled (h .country)) ≡ 3 = filled-length (h .country) ∙ k .country-length in
+      let three : length (filled (h .country)) ≡ 3 = length-filled (h .country) ∙ k .country-length in
       let stated : country s ≡ filled (h .country) = ap (λ (l : List ℕ). padded 3 (filled l)) field
       ∙ padded-exact 3 (filled (h .country)) three in
       let signer : padded 4 (take 4 (reference s)) ≡ h .signer = ap (λ (l : List ℕ). padded 4 (take 4 l)) (q .reference-read)

@@ -5,7 +5,7 @@ use mathlib.Core.Logic.{_⊎_, inl, inr}
 use mathlib.Core.Bool.{Bool, true, false, false≢true}
 use mathlib.Core.List.{List, [], _∷_, _++_, append-assoc}
 use native.Mathlib.Omega.{arith}
-use lib.ListN.{length, take, drop, length-map}
+use lib.ListN.{length, take, drop}
 use Rattle.refusal.specs.Outcome.{passed}
 use Rattle.zone.specs.Alphabet.{isLetter}
 use Rattle.zone.specs.Octets.{isOctet, areOctets}
@@ -15,11 +15,13 @@ use Rattle.zone.proofs.Padded.{padded-exact}
 use Rattle.field.specs.Letters.{lettersThenFillers, stateRule}
 use Rattle.c40.specs.Image.{imageOf}
 use Rattle.c40.specs.Field.{octetsFor, isField, fieldAt}
-use Rattle.c40.proofs.Fields.{FieldStands, field-read, no-field}
+use Rattle.c40.proofs.Exactly.{no-field}
+use Rattle.c40.proofs.Fields.{FieldStands, field-read}
 use Rattle.seal_header.specs.Day.{isDay, dayAt, dayOf, numberIn}
 use Rattle.seal_header.specs.Reference.{version, referenceLength, width}
 use Rattle.seal_header.specs.Header.{filled, country, headerCheck}
 use Rattle.seal_header.specs.Header.{headerEnd}
+use Rattle.seal_header.proofs.Filled.{length-filled}
 use Rattle.seal_theorems.specs.Sealed.{Head, dayOctets, referenceOf, headOctets, HeadKept}
 use Rattle.seal_theorems.proofs.Places.{there-then, octet-there}
 use Rattle.seal_theorems.proofs.Days.{read-day}
@@ -34,10 +36,6 @@ pub head-then : (h : Head) (r : List ℕ)
     ++ (0x5E ∷ 0x03 ∷ r)))))
 unfolding headOctets
 head-then h r = simp append-assoc
-
-pub filled-length : (t : List ℕ) → length (filled t) ≡ length t
-unfolding filled
-filled-length t = length-map t _
 
 no-state : stateRule (padded 3 (filled [])) ≡ true → ⊥
 unfolding stateRule lettersThenFillers isLetter filled padded
@@ -79,7 +77,7 @@ module _ (s : List ℕ) (small : areOctets s) where
     unfolding headAt country
     head-kept =
         let t = fieldAt s 2 3 in
-        let three : length (filled t) ≡ 3 = filled-length t ∙ country-stands .field-length in
+        let three : length (filled t) ≡ 3 = length-filled t ∙ country-stands .field-length in
         record {
           version-kept = p .versioned;
           country-length = country-stands .field-length;

@@ -28,8 +28,8 @@ use Rattle.seal.specs.Seal.{placed, withText, answerBy, readSeal}
 use Rattle.tlv.specs.Read.{Read, checked}
 use Rattle.text_theorems.proofs.FirstFailing.{answered-outcome}
 use Rattle.text_theorems.proofs.Acceptance.{read-as}
-use Rattle.seal_theorems.specs.Sealed.{Contents, octetsOf, Shaped, textPlace}
-use Rattle.seal_theorems.proofs.HeadThere.{filled-length}
+use Rattle.seal_header.proofs.Filled.{length-filled}
+use Rattle.seal_theorems.specs.Sealed.{Contents, octetsOf, Shaped, featurePlace}
 use Rattle.seal_theorems.proofs.Acceptance.{shaped-answer}
 
 -- characters of C40, spaces being fillers, are characters of the zone
@@ -78,12 +78,12 @@ text-leading-v t n p e =
     let span = spanOf Td2 l in
     let first : inOrder (fieldCheck Td2 l span) (parts Td2) ≡ refused 3 0 =
     ap (λ (m : List ℕ). inOrder (fieldCheck Td2 m (spanOf Td2 m)) (parts Td2)) (v .1) ∙ code-v (v .0) in
-    ap (λ (a : Answer). a .outcome) (read-as Td2 l (filled-length t ∙ n))
+    ap (λ (a : Answer). a .outcome) (read-as Td2 l (length-filled t ∙ n))
     ∙ answered-outcome (verdictBy Td2 l span) (recordBy Td2 l span)
     ∙ rw (all-characters l (filled-characters t p), first)
 
 pub seal-leading-v : (p : Contents) → Shaped p → getD (p .text) 0 0 ≡ code "V"
-    → readSeal (octetsOf p) .outcome ≡ refused 3 (textPlace p)
+    → readSeal (octetsOf p) .outcome ≡ refused 3 (featurePlace p)
 unfolding readSeal answerBy withText checked placed
 seal-leading-v p k v =
     ap (λ (m : Read seal.Contents). answerBy m .outcome) (shaped-answer p k)

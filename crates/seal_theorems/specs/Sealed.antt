@@ -149,8 +149,8 @@ pub record Sealed (p : Contents) : Type 0 where
 -- ---- what is answered of it
 
 -- "the feature's first octet"
-unfoldable pub textPlace : Contents → ℕ
-textPlace p = length (headOctets (p .head)) + length (joined (p .before))
+unfoldable pub featurePlace : Contents → ℕ
+featurePlace p = length (headOctets (p .head)) + length (joined (p .before))
 
 unfoldable pub headerIn : Head → Header
 headerIn h = record {

@@ -1,8 +1,6 @@
 -- Size, then the header, then what stands behind it.
 use borrow.Author.Needs.{needs}
 use borrow.Author.Tests.{le-leb, lt-leb}
-use mathlib.Core.Path.{sym, ap, _∙_}
-use Rattle.refusal.specs.Outcome.{outcomeOf}
 use Rattle.tlv.specs.Read.{checked}
 use Rattle.seal_header.specs.Header.{headerCheck, headerOf, headerEnd}
 use Rattle.seal.specs.Seal.{contents, readSeal}
