@@ -12,7 +12,7 @@ use Prim.Native.Char.{code}
 use Rattle.zone.specs.Alphabet.{isDigit, isLetter, isFiller, isCharacter, filler}
 use Rattle.digit.specs.Check.{value, sumFrom, checkOf, digitOf}
 
-sum-fillers : (i n : ℕ) → sumFrom i (replicate n filler) ≡ 0
+pub sum-fillers : (i n : ℕ) → sumFrom i (replicate n filler) ≡ 0
 unfolding sumFrom value isDigit isLetter
 sum-fillers i zero = refl
 sum-fillers i (suc n) = rw (sum-fillers (suc i) n) (omega arith)
