@@ -1,8 +1,9 @@
--- The digit as a character: what fillers have, and that it is a character and no filler.
+-- The digit as a character: what fillers have, that it is a character and no filler, and that it tells the check.
 use Prim.Native.Nat.{ℕ, zero, suc, _-_, _≤_, _<_}
 use mathlib.Core.Path.{_≡_, refl}
 use mathlib.Core.Bool.{true, false}
 use mathlib.Core.List.{List}
+use mathlib.Core.Logic.{_↔_}
 use native.Mathlib.Nat.{mod-lt}
 use native.Mathlib.Omega.{arith}
 use borrow.Author.Tests.{ne-eqb, le-leb}
@@ -41,3 +42,8 @@ digit-character s = rw (
 pub digit-solid : (s : List ℕ) → isFiller (digitOf s) ≡ false
 unfolding isFiller
 digit-solid s = ne-eqb (digitOf s) filler (λ e. omega (arith, digit-below s))
+
+-- two written digits are the same exactly when the checks are
+pub digit-tells : (s t : List ℕ) → (digitOf s ≡ digitOf t) ↔ (checkOf s ≡ checkOf t)
+unfolding digitOf
+digit-tells s t = (λ e. omega arith, λ e. omega arith)

@@ -2,5 +2,7 @@
 pub mod Check
 -- when check digits may be added: the laws of request 2026-11
 pub mod Joined
+-- which slips a check digit finds: the laws of request 2026-12
+pub mod Slips
 -- no words of the paper: a sum under way
 pub mod Inner
