@@ -6,3 +6,4 @@ pub mod Tests  -- the set `tests`, that closes a function of tests on numbers
 pub mod Comparing  -- octets that are compared
 pub mod Among  -- an octet among others
 pub mod Marks  -- a table with a mark for each number of a list
+pub mod Left  -- how many of a list are left when others are taken

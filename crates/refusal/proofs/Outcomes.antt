@@ -13,6 +13,12 @@ pub orElse-passed : (a : Outcome) → orElse a passed ≡ a
 orElse-passed passed = refl
 orElse-passed (refused n p) = refl
 
+-- a check that passes wherever the two before it do decides nothing
+pub orElse-idle : (a b c : Outcome) → (a ≡ passed → b ≡ passed → c ≡ passed) → orElse a (orElse b c) ≡ orElse a b
+orElse-idle passed passed c h = h refl refl
+orElse-idle passed (refused n p) c h = refl
+orElse-idle (refused n p) b c h = refl
+
 pub refused-not-passed : {n p : ℕ} → refused n p ≡ passed → ⊥
 refused-not-passed {n} {p} e = let z : _≡_ {A = ℕ} 0 1 = cc in omega arith
 

@@ -57,6 +57,12 @@ pub then-known : {A B : Type 0} (m : Read A) (go : A → Read B) (a : A) (r : Re
 unfolding andThen
 then-known m go a r e f = rw e at f
 
+-- what goes on alike from every value that a step can give
+pub then-same : {A B : Type 0} (m : Read A) (f g : A → Read B) → ((a : A) → m ≡ value a → f a ≡ g a) → andThen m f ≡ andThen m g
+unfolding andThen
+then-same (value a) f g h = h a refl
+then-same (refusal n p) f g h = refl
+
 -- a reading gives one value
 pub one-value : {A : Type 0} (m : Read A) (a b : A) → m ≡ value a → m ≡ value b → a ≡ b
 one-value m a b e f = cc
