@@ -30,7 +30,7 @@ unfoldable pub AllSound : List GroupHash → Type 0
 AllSound [] = Unit {0}
 AllSound (e ∷ es) = EntrySound e × AllSound es
 
-all-sound : (k : ℕ) (s : List ℕ) (at : ℕ) (es : List GroupHash) → entriesFrom k s at ≡ value es → AllSound es
+pub all-sound : (k : ℕ) (s : List ℕ) (at : ℕ) (es : List GroupHash) → entriesFrom k s at ≡ value es → AllSound es
 unfolding entriesFrom AllSound
 all-sound zero s at es h = absurd (never-value 10 at es h)
 all-sound (suc k) s at es h = go (leb (length s) at) h (λ from rest. all-sound k s from rest)
