@@ -221,7 +221,7 @@ lamphudet_answer lamphudet_read_text(uint32_t house, const uint8_t *text, size_t
  *   10  the version (5F01), the Unicode version (5F36), the tag list (5C), and nothing more
  *   11  at the version unless it is 0107, at the Unicode version unless it is six digits
  *   11  in the list: at the first tag that is no group's; then at the first that repeats an earlier
- *       one; then at 5C where there are more than fifteen
+ *       one
  *   Stage 4, the security object:
  *   10  the version (02), the AlgorithmIdentifier (30), the list of entries (30), each of them (30)
  *       a number (02) and a digest (04), and nothing more
@@ -229,8 +229,7 @@ lamphudet_answer lamphudet_read_text(uint32_t house, const uint8_t *text, size_t
  *   13  at the AlgorithmIdentifier unless it is one of SHA-256's two spellings
  *   12  at an entry's number unless it is one octet, 1 to 16; at its digest unless it is 32 octets
  *   12  when all entries were read: at the first number that repeats an earlier one; then at the
- *       list where there are fewer than two, or more than sixteen; what is left over behind the
- *       list comes after that
+ *       list where there are fewer than two; what is left over behind the list comes after that
  *   Stage 5, group files, one after another as they are lent:
  *   14  at the file's start: its group is not listed, was lent before, or has no entry
  *   15  at the file's start: its digest is not the one in its entry

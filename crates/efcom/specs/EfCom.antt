@@ -2,8 +2,7 @@
 use Prim.Native.Nat.{ℕ, suc}
 use mathlib.Core.Bool.{Bool, cond, _&&_}
 use mathlib.Core.List.{List, [], _∷_}
-use lib.Dec.{leb}
-use lib.ListN.{length, take}
+use lib.ListN.{take}
 use Rattle.refusal.specs.Outcome.{Outcome, passed, refused, unless, orElse}
 use Rattle.zone.specs.Alphabet.{isDigit, every}
 use Rattle.tlv.specs.declared.Stretch.{Stretch}
@@ -24,13 +23,12 @@ unfoldable pub onceFrom : ℕ → List ℕ → List ℕ → Outcome
 onceFrom place before [] = passed
 onceFrom place before (c ∷ t) = cond (stands c before) (refused 11 place) (onceFrom (suc place) (c ∷ before) t)
 
--- then more than fifteen, at 5C
-unfoldable pub tagsCheck : List ℕ → Stretch → ℕ → Outcome
-tagsCheck s v at =
-    orElse (knownFrom (v .from) (cut s v)) (orElse (onceFrom (v .from) [] (cut s v)) (unless (leb (length (cut s v)) 15) 11 at))
+-- both; more than fifteen are never left to refuse (`fifteen-tags`)
+unfoldable pub tagsCheck : List ℕ → Stretch → Outcome
+tagsCheck s v = orElse (knownFrom (v .from) (cut s v)) (onceFrom (v .from) [] (cut s v))
 
 unfoldable pub fromTagList : List ℕ → ℕ → Read Stretch
-fromTagList s at = andThen (element s at Tag.tagList) (λ v. checked (tagsCheck s v at) (checked (endCheck s (v .to)) (value v)))
+fromTagList s at = andThen (element s at Tag.tagList) (λ v. checked (tagsCheck s v) (checked (endCheck s (v .to)) (value v)))
 
 -- six digits
 unfoldable pub isUnicode : List ℕ → Stretch → Bool

@@ -42,7 +42,7 @@ fn from_tag_list(s: &[u8], at: usize) -> Taken
     ensures { λ r. ⌜ takenOf r ≡ C.fromTagList (now (s .entry)) at ⌝ }
 {
     match tlv::element(s, at, tags::TAG_LIST) {
-        Taken::Value(v) => match tags_check(s, v, at) {
+        Taken::Value(v) => match tags_check(s, v) {
             Verdict::Passed => listed(s, v),
             Verdict::Refused(refusal) => Taken::Refused(refusal),
         },

@@ -1,4 +1,4 @@
-// The tags of EF.COM's list: first an unknown one, then a repeated one, then more than fifteen.
+// The tags of EF.COM's list: first an unknown one, then a repeated one.
 ghost use mathlib.Core.Path.{_≡_};
 ghost use mathlib.Core.List.{[]};
 ghost use Prim.Native.Nat.{_+_, _<_, _^_};
@@ -48,13 +48,12 @@ fn once(tags: &[u8], from: usize) -> Verdict
     Verdict::Passed
 }
 
-// Then more than fifteen, at the list.
-pub(crate) fn tags_check(s: &[u8], v: Stretch, at: usize) -> Verdict
-    ensures { λ r. ⌜ outcomeOf r ≡ C.tagsCheck (now (s .entry)) v at ⌝ }
+// Both. A list that passes them has at most fifteen.
+pub(crate) fn tags_check(s: &[u8], v: Stretch) -> Verdict
+    ensures { λ r. ⌜ outcomeOf r ≡ C.tagsCheck (now (s .entry)) v ⌝ }
 {
     let tags = cut(s, v);
-    let few = Verdict::judged(tags.len() <= 15, Cause::EfCom, at);
     let unknown = known(tags, v.from);
     let repeated = once(tags, v.from);
-    unknown.or_else(repeated.or_else(few))
+    unknown.or_else(repeated)
 }

@@ -60,9 +60,9 @@ unfoldable pub count : List GroupHash → ℕ
 count [] = 0
 count (e ∷ es) = suc (count es)
 
--- then fewer than 2, then more than 16 (12 at the list)
+-- then fewer than 2 (12 at the list); more than 16 are never left to refuse (`sixteen-entries`)
 unfoldable pub entriesCheck : List GroupHash → ℕ → Outcome
-entriesCheck es at = orElse (numbersOnce [] es) (orElse (unless (leb 2 (count es)) 12 at) (unless (leb (count es) 16) 12 at))
+entriesCheck es at = orElse (numbersOnce [] es) (unless (leb 2 (count es)) 12 at)
 
 -- and nothing follows
 unfoldable pub fromEntryList : List ℕ → ℕ → Read (List GroupHash)

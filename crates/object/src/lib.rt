@@ -36,14 +36,13 @@ fn refused(why: Refusal) -> ObjectRead
     }
 }
 
-// After all entries: a repeated number, at its integer, then fewer than two, then more than sixteen, at the list.
+// After all entries: a repeated number, at its integer, then fewer than two, at the list. More than sixteen always repeat one.
 fn seen_check(seen: Seen, at: usize) -> Verdict
     ensures { λ r. ⌜ outcomeOf r ≡ T.seenCheck seen at ⌝ }
 {
     let once = Verdict::judged(seen.repeated == 0, Cause::SecurityObject, seen.repeated);
     let some = Verdict::judged(2 <= seen.count, Cause::SecurityObject, at);
-    let few = Verdict::judged(seen.count <= 16, Cause::SecurityObject, at);
-    once.or_else(some.or_else(few))
+    once.or_else(some)
 }
 
 fn settled(verdict: Verdict, digests: [usize; 17]) -> ObjectRead

@@ -96,11 +96,9 @@ module _ (w : List ℕ) (small : areOctets w) (r : Record) where
           digits-only = l .2 .only-digits;
           tags-known = l .3 .known-tags;
           tags-once = l .3 .once-tags;
-          tags-most = l .3 .most-tags;
           entry-kept = s .2 .each-kept;
           numbers-once = s .2 .once-kept;
           entries-least = s .2 .least-kept;
-          entries-most = s .2 .most-kept;
           file-kept = file-kept (cut w tags) (signedIn w es) (lentIn w fs) (h .files-group) (k .1);
           lent-once = once-none (tagsOf (lentIn w fs)) (k .0);
           group-one = t .1;
@@ -141,17 +139,11 @@ read-stages p k =
     let lent : lentIn w fs ≡ p .lent = a .3 in
     let l = read-common w 0 0x60 c (drop (o .efcom .to) w) (o .efcom) (h .common-stands) most (p .digits) (p .tags) refl
     (record { six-digits = k .digits-six; only-digits = k .digits-only })
-    (record { known-tags = k .tags-known; once-tags = k .tags-once; most-tags = k .tags-most }) in
+    (record { known-tags = k .tags-known; once-tags = k .tags-once }) in
     let tags = l .0 in
     let s = read-object w (o .efcom .to) 0x30 d (drop (o .object .to) w) (o .object) (h .object-stands) most (p .followed)
     (p .entries) refl
-    (record {
-      each-kept = k .entry-kept;
-      once-kept = k .numbers-once;
-      least-kept = k .entries-least;
-      most-kept =
-          k .entries-most;
-    }) in
+    (record { each-kept = k .entry-kept; once-kept = k .numbers-once; least-kept = k .entries-least }) in
     let es = s .0 in
     let once = subst (λ (q : List Signed). isOnce (numbers q) ≡ true) (sym (s .2)) (k .numbers-once) in
     let tags-once = subst (λ (q : List Lent). isOnce (tagsOf q) ≡ true) (sym lent) (k .lent-once) in

@@ -5,12 +5,11 @@ use mathlib.Core.Path.{_≡_, refl, ap, sym, _∙_, subst}
 use mathlib.Core.Bool.{Bool, true, false, cond, not, _&&_}
 use mathlib.Core.List.{List, [], _∷_, _++_, append-nil}
 use native.Mathlib.Omega.{arith}
-use borrow.Author.Tests.{leb-true, le-leb, not-true}
-use lib.Dec.{leb}
+use borrow.Author.Tests.{not-true}
 use lib.ListN.{length, take, drop}
 use lib.Seq.{length-take-le}
 use Rattle.lent.proofs.Bools.{and-both, both-and, not-so}
-use Rattle.refusal.specs.Outcome.{passed, refused, unless, orElse}
+use Rattle.refusal.specs.Outcome.{passed, refused, unless}
 use Rattle.zone.specs.Alphabet.{isDigit, every}
 use Rattle.tlv.specs.declared.Stretch.{Stretch}
 use Rattle.tlv.specs.Read.{value, checked}
@@ -43,7 +42,7 @@ known place (c ∷ t) e = go (isGroup c) refl e (known (suc place) t)
     go true f h rest = both-and f (rest h)
     go false f h rest = absurd (refused-not-passed h)
 
-known-back : (place : ℕ) (l : List ℕ) → every isGroup l ≡ true → knownFrom place l ≡ passed
+pub known-back : (place : ℕ) (l : List ℕ) → every isGroup l ≡ true → knownFrom place l ≡ passed
 unfolding knownFrom every
 known-back place [] e = refl
 known-back place (c ∷ t) e = let both = and-both (isGroup c) (every isGroup t) e in rw (both .0)
@@ -60,7 +59,7 @@ once place before (c ∷ t) e = go (stands c before) refl e (once (suc place) (c
     go true f h rest = absurd (refused-not-passed h)
     go false f h rest = both-and (not-so (stands c before) f) (rest h)
 
-once-back : (place : ℕ) (before l : List ℕ) → onceAfter before l ≡ true → onceFrom place before l ≡ passed
+pub once-back : (place : ℕ) (before l : List ℕ) → onceAfter before l ≡ true → onceFrom place before l ≡ passed
 unfolding onceFrom onceAfter
 once-back place before [] e = refl
 once-back place before (c ∷ t) e =
@@ -70,39 +69,28 @@ once-back place before (c ∷ t) e =
 pub record TagsKept (tags : List ℕ) : Type 0 where
   pub known-tags : every isGroup tags ≡ true
   pub once-tags : isOnce tags ≡ true
-  pub most-tags : length tags ≤ 15
 
 module _ (s : List ℕ) (at : ℕ) where
-  tags-kept : (v : Stretch) → tagsCheck s v at ≡ passed → TagsKept (cut s v)
+  tags-kept : (v : Stretch) → tagsCheck s v ≡ passed → TagsKept (cut s v)
   unfolding tagsCheck
   tags-kept v e =
       let l = cut s v in
-      let a = both-passed (knownFrom (v .from) l) (orElse (onceFrom (v .from) [] l) (unless (leb (length l) 15) 11 at)) e in
-      let b = both-passed (onceFrom (v .from) [] l) (unless (leb (length l) 15) 11 at) (a .1) in
-      record {
-        known-tags = known (v .from) l (a .0);
-        once-tags = once-none l (once (v .from) [] l (b .0));
-        most-tags = leb-true (length l) 15 (unless-kept (leb (length l) 15) 11 at (b .1));
-      }
+      let a = both-passed (knownFrom (v .from) l) (onceFrom (v .from) [] l) e in
+      record { known-tags = known (v .from) l (a .0); once-tags = once-none l (once (v .from) [] l (a .1)) }
 
-  kept-tags : (v : Stretch) (tags : List ℕ) → cut s v ≡ tags → TagsKept tags → tagsCheck s v at ≡ passed
+  kept-tags : (v : Stretch) (tags : List ℕ) → cut s v ≡ tags → TagsKept tags → tagsCheck s v ≡ passed
   unfolding tagsCheck
   kept-tags v tags e k =
-      rw (
-        e,
-        known-back (v .from) tags (k .known-tags),
-        once-back (v .from) [] tags (none-once tags (k .once-tags)),
-        le-leb (length tags) 15 (k .most-tags),
-      )
+      rw (e, known-back (v .from) tags (k .known-tags), once-back (v .from) [] tags (none-once tags (k .once-tags)))
 
   list-read : areOctets s → (v : Stretch) → fromTagList s at ≡ value v
       → (drop at s ≡ tlv 0x5C (cut s v)) × TagsKept (cut s v) × (v .from ≤ v .to) × (v .to ≤ length s)
   unfolding fromTagList
   list-read small v e =
       let a = first-value (element s at 0x5C)
-      (λ (u : Stretch). checked (tagsCheck s u at) (checked (endCheck s (u .to)) (value u))) v e in
+      (λ (u : Stretch). checked (tagsCheck s u) (checked (endCheck s (u .to)) (value u))) v e in
       let u = a .0 in
-      let b = checked-value (tagsCheck s u at) (checked (endCheck s (u .to)) (value u)) v (a .2) in
+      let b = checked-value (tagsCheck s u) (checked (endCheck s (u .to)) (value u)) v (a .2) in
       let d = checked-value (endCheck s (u .to)) (value u) v (b .1) in
       let same : u ≡ v = same-value (d .1) in
       let h = read-element s at 0x5C small u (a .1) in
@@ -120,9 +108,9 @@ module _ (s : List ℕ) (at : ℕ) where
       let there = cut-there s at 0x5C tags [] v (a .2) in
       let places = place-behind s at 0x5C tags [] v (a .2) in (
         v,
-        value-then (element s at 0x5C) (λ (u : Stretch). checked (tagsCheck s u at) (checked (endCheck s (u .to)) (value u))) v
+        value-then (element s at 0x5C) (λ (u : Stretch). checked (tagsCheck s u) (checked (endCheck s (u .to)) (value u))) v
             (value v) (a .1)
-            (value-checked (tagsCheck s v at) (checked (endCheck s (v .to)) (value v)) (value v) (kept-tags v tags there k)
+            (value-checked (tagsCheck s v) (checked (endCheck s (v .to)) (value v)) (value v) (kept-tags v tags there k)
             (value-checked (endCheck s (v .to)) (value v) (value v)
             (left-nothing s (v .to) (places .2) (a .2 .rest-there)) refl)),
         there,

@@ -24,5 +24,7 @@ pub mod Acceptance
 pub mod GroupFile
 -- DEMAND 2: every accepted text is carried by an accepted presentation (`every-text-carried`)
 pub mod TextsCarried
+-- contents that belong together keep the two limits that nothing reaches (`presented-few`)
+pub mod Few
 -- no two contents have the same octets (`octets-tell`)
 pub mod ContentsByOctets

@@ -1,5 +1,5 @@
--- DEMAND 2, stage 4, the list of entries: read exactly where the joined encodings of kept entries stand, no number twice, two to
--- sixteen of them.
+-- DEMAND 2, stage 4, the list of entries: read exactly where the joined encodings of kept entries stand, no number twice, two of
+-- them at least.
 use Prim.Native.Nat.{ℕ, zero, suc, _+_, _-_, _≤_, _<_}
 use mathlib.Core.Path.{_≡_, refl, ap, sym, _∙_, subst}
 use mathlib.Core.Bool.{Bool, true, false, cond, not, _&&_}
@@ -11,7 +11,7 @@ use lib.Dec.{leb}
 use lib.ListN.{length, take, drop, length-append, length-drop, drop-of-length-le}
 use lib.Seq.{length-take-le}
 use Rattle.lent.proofs.Bools.{and-both, both-and, not-so}
-use Rattle.refusal.specs.Outcome.{Outcome, passed, refused, unless, orElse}
+use Rattle.refusal.specs.Outcome.{passed, refused, unless}
 use Rattle.tlv.specs.declared.Stretch.{Stretch}
 use Rattle.tlv.specs.Read.{Read, value, andThen, checked}
 use Rattle.tlv.specs.Element.{tlv, element}
@@ -134,7 +134,7 @@ once-numbers s before (x ∷ es) e = go (stands (x .group) before) refl e (once-
     go true f h rest = absurd (refused-not-passed h)
     go false f h rest = both-and (not-so (stands (x .group) before) f) (rest h)
 
-numbers-once : (s : List ℕ) (before : List ℕ) (es : List GroupHash) → onceAfter before (numbers (signedIn s es)) ≡ true
+pub numbers-once : (s : List ℕ) (before : List ℕ) (es : List GroupHash) → onceAfter before (numbers (signedIn s es)) ≡ true
     → numbersOnce before es ≡ passed
 unfolding numbersOnce onceAfter numbers signedIn signedAt
 numbers-once s before [] e = refl
@@ -151,23 +151,17 @@ pub record SignedKept (xs : List Signed) : Type 0 where
   pub each-kept : (x : Signed) → isIn x xs → EntryKept x
   pub once-kept : isOnce (numbers xs) ≡ true
   pub least-kept : 2 ≤ length xs
-  pub most-kept : length xs ≤ 16
 
 module _ (s : List ℕ) (es : List GroupHash) (at : ℕ) where
-  abbrev rest-check : Outcome
-  rest-check = orElse (unless (leb 2 (count es)) 12 at) (unless (leb (count es) 16) 12 at)
-
   check-kept : EachKept (signedIn s es) → entriesCheck es at ≡ passed → SignedKept (signedIn s es)
   unfolding entriesCheck EachKept
   check-kept each e =
-      let a = both-passed (numbersOnce [] es) rest-check e in
-      let b = both-passed (unless (leb 2 (count es)) 12 at) (unless (leb (count es) 16) 12 at) (a .1) in
+      let a = both-passed (numbersOnce [] es) (unless (leb 2 (count es)) 12 at) e in
       let same = counted s es in
       record {
         each-kept = each;
         once-kept = once-none (numbers (signedIn s es)) (once-numbers s [] es (a .0));
-        least-kept = omega (arith, leb-true 2 (count es) (unless-kept (leb 2 (count es)) 12 at (b .0)));
-        most-kept = omega (arith, leb-true (count es) 16 (unless-kept (leb (count es) 16) 12 at (b .1)));
+        least-kept = omega (arith, leb-true 2 (count es) (unless-kept (leb 2 (count es)) 12 at (a .1)));
       }
 
   kept-check : SignedKept (signedIn s es) → entriesCheck es at ≡ passed
@@ -175,13 +169,7 @@ module _ (s : List ℕ) (es : List GroupHash) (at : ℕ) where
   kept-check k =
       let same = counted s es in
       let least : 2 ≤ count es = omega (arith, k .least-kept) in
-      let most : count es ≤ 16 = omega (arith, k .most-kept) in
-      rw (
-        numbers-once s [] es (none-once (numbers (signedIn s es)) (k .once-kept)),
-        le-leb 2 (count es) least,
-        le-leb
-            (count es) 16 most,
-      )
+      rw (numbers-once s [] es (none-once (numbers (signedIn s es)) (k .once-kept)), le-leb 2 (count es) least)
 
 -- ---- the list
 

@@ -130,15 +130,13 @@ pub record Presented (p : Contents) : Type 0 where
   -- "six digits"
   pub digits-six : length (p .digits) ≡ 6
   pub digits-only : every isDigit (p .digits) ≡ true
-  -- in the list not "an unknown tag", nor "a repeated one", nor "more than fifteen"
+  -- in the list not "an unknown tag", nor "a repeated one"
   pub tags-known : every isGroup (p .tags) ≡ true
   pub tags-once : isOnce (p .tags) ≡ true
-  pub tags-most : length (p .tags) ≤ 15
-  -- of the entries not "a repeated number", nor "fewer than 2", nor "more than 16"
+  -- of the entries not "a repeated number", nor "fewer than 2"
   pub entry-kept : (e : Signed) → isIn e (p .entries) → EntryKept e
   pub numbers-once : isOnce (numbers (p .entries)) ≡ true
   pub entries-least : 2 ≤ length (p .entries)
-  pub entries-most : length (p .entries) ≤ 16
   -- "Per group file", and none "lent before"
   pub file-kept : (f : Lent) → isIn f (p .lent) → FileKept (p .tags) (p .entries) f
   pub lent-once : isOnce (tagsOf (p .lent)) ≡ true

@@ -1,4 +1,4 @@
--- The three checks in their order.
+-- Both checks in their order.
 use Rattle.object.specs.Inner.Seen.{seenCheck}
 use borrow.Author.Needs.{needs}
 use Rattle.object.proofs.seen_check.Statement.{statement}
@@ -12,12 +12,4 @@ seen-check-spec =
     (λ c κs. search needs)
     (λ c κs. search needs)
     (λ c κs. search needs)
-    (λ c κs. search needs)
-    (λ c κs. search needs)
-    (λ c. rw (
-      c .or-else2 .ensures,
-      c .before .or-else .ensures,
-      c .before .before .judged3 .ensures,
-      c .before .before .before .before .judged2 .ensures,
-      c .before .before .before .before .before .before .judged .ensures,
-    )))
+    (λ c. rw (c .or-else .ensures, c .before .judged2 .ensures, c .before .before .before .judged .ensures)))

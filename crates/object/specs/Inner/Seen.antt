@@ -57,9 +57,7 @@ seenIn (refusal n p) = none
 
 -- the tests after all entries
 unfoldable pub seenCheck : Seen → ℕ → Outcome
-seenCheck t at =
-    orElse (unless (eqb (t .repeated) 0) 12 (t .repeated))
-    (orElse (unless (leb 2 (t .count)) 12 at) (unless (leb (t .count) 16) 12 at))
+seenCheck t at = orElse (unless (eqb (t .repeated) 0) 12 (t .repeated)) (unless (leb 2 (t .count)) 12 at)
 
 -- ---- the whole object
 

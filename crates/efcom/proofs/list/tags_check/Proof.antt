@@ -1,4 +1,4 @@
--- The three checks in their order.
+-- Both checks in their order.
 use Rattle.efcom.specs.EfCom.{tagsCheck}
 use Rattle.tlv.proofs.Stretches.{cut-fits}
 use Prim.Native.Nat.{_^_}
@@ -13,22 +13,17 @@ tags-check-spec =
     tie.close
     (tie.spec
     (λ c κs. search needs)
-    (λ c κs. search needs)
+    (λ c κs.
+    let k = cut-fits (now (c .before .before .args .s)) (c .before .before .args .v) (2 ^ 64) (search needs) (search needs) in
+    rw (← c .cut .ensures) at k)
     (λ c κs.
     let k = cut-fits (now (c .before .before .before .args .s)) (c .before .before .before .args .v) (2 ^ 64) (search needs)
     (search needs) in
     rw (← c .before .cut .ensures) at k)
-    (λ c κs.
-    let k = cut-fits (now (c .before .before .before .before .args .s)) (c .before .before .before .before .args .v) (2 ^ 64)
-    (search needs) (search needs) in
-    rw (← c .before .before .cut .ensures) at k)
-    (λ c κs. search needs)
     (λ c κs. search needs)
     (λ c. rw (
-      c .or-else2 .ensures,
-      c .before .or-else .ensures,
-      c .before .before .once .ensures,
-      c .before .before .before .known .ensures,
-      c .before .before .before .before .judged .ensures,
-      c .before .before .before .before .before .cut .ensures,
+      c .or-else .ensures,
+      c .before .once .ensures,
+      c .before .before .known .ensures,
+      c .before .before .before .cut .ensures,
     )))
