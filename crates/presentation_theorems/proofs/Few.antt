@@ -1,4 +1,5 @@
--- Contents that belong together have at most fifteen tags and sixteen entries: limits of document 01 that `Presented` need not say.
+-- Contents that belong together have at most fifteen tags and sixteen entries: limits of document 01 that `Presented` need not
+-- say.
 use Prim.Native.Nat.{ℕ, suc, _≤_}
 use mathlib.Core.Path.{_≡_, refl, ap}
 use mathlib.Core.List.{List, [], _∷_}
@@ -43,4 +44,5 @@ presented-few p k =
     let known = known-back 0 tags (k .tags-known) in
     let once = once-back 0 [] tags (none-once tags (k .tags-once)) in
     let differ = numbers-once [] [] (hashes xs) (rw (same-numbers xs) (none-once (numbers xs) (k .numbers-once))) in
-    (fifteen-tags 0 0 tags known once, omega (arith, same-count xs, sixteen-entries (hashes xs) (numbered xs (k .entry-kept)) differ))
+    let few = sixteen-entries (hashes xs) (numbered xs (k .entry-kept)) differ in
+    (fifteen-tags 0 0 tags known once, omega (arith, same-count xs, few))
