@@ -15,12 +15,12 @@ const TEXT: u8 = 0x02;
 const SIGNATURE: u8 = 0xFF;
 
 // Where feature 02 begins, 0 where there is none, and where the features end.
-pub(crate) struct Features {
+pub struct Features {
     pub text: usize,
     pub end: usize,
 }
 
-pub(crate) enum Walked {
+pub enum Walked {
     Found(Features),
     Refused(Refusal),
 }
@@ -76,7 +76,7 @@ fn text_place(s: &[u8], at: usize, text: usize) -> usize
 }
 
 // From a place up to FF or the end.
-pub(crate) fn walk(s: &[u8], start: usize) -> Walked
+pub fn walk(s: &[u8], start: usize) -> Walked
     ensures { λ r. ⌜ F.walkedOf r ≡ F.features (now (s .entry)) start ⌝ }
 {
     let mut at = start;

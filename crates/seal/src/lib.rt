@@ -1,4 +1,4 @@
 // A printed seal of an emergency document: header, features, signature, and the text that one of the features holds.
-mod features;
+pub mod features;
 pub mod read;
 mod signature;
