@@ -10,12 +10,10 @@ use lib.Dec.{leb}
 use lib.ListN.{length, drop, getD, drop-of-length-le}
 use lib.Seq.{drop-cons}
 use Rattle.c40.specs.declared.pair.Triple.{Triple}
-use Rattle.c40.specs.declared.Decoded.the-variants.{Characters, Bad}
+use Rattle.c40.specs.declared.measure.Counted.the-variants.{Characters, Bad}
 use Rattle.c40.specs.Reader.{Reading, characters, noImage, isThree, three}
 use Rattle.c40.specs.Reader.{before, lastPair, readC40}
-use Rattle.c40.specs.Decode.{answered}
-use Rattle.c40.specs.Inner.Left.{fitted, valuesAt}
-use Rattle.c40.proofs.Pairs.{none}
+use Rattle.c40.specs.Inner.Left.{answered, fitted, valuesAt}
 
 -- the pair at a place, and what follows it
 pub pair-at : (s : List ℕ) (i : ℕ) → i + 2 ≤ length s → drop i s ≡ getD s i 0 ∷ getD s (i + 1) 0 ∷ drop (i + 2) s

@@ -3,20 +3,19 @@
 use Prim.Native.Nat.{ℕ, _+_, _-_, _≤_}
 use mathlib.Core.Path.{_≡_, refl, sym, ap, _∙_}
 use mathlib.Core.Bool.{Bool, true, false}
-use mathlib.Core.List.{List, [], _∷_, _++_, append-nil}
+use mathlib.Core.List.{List, _++_, append-nil}
 use native.Mathlib.Nat.{zero-add, add-zero}
 use native.Mathlib.Omega.{arith}
-use borrow.Author.Tests.{leb-true, le-leb, eq-eqb, ne-eqb}
+use borrow.Author.Tests.{le-leb, eq-eqb, ne-eqb}
 use lib.Dec.{leb}
 use lib.ListN.{length, drop, getD, length-drop}
 use lib.Seq.{drop-drop, drop-length, getD-drop, sets, sets-eq}
 use Rattle.lent.proofs.Lists.{sets-append}
-use Rattle.c40.specs.declared.Decoded.the-variants.{Characters, Bad}
+use Rattle.c40.specs.declared.measure.Counted.the-variants.{Characters, Bad}
 use Rattle.c40.specs.Reader.{Reading, characters, noImage, three, two, one}
 use Rattle.c40.specs.Reader.{readC40}
-use Rattle.c40.specs.Decode.{answered, written}
 use Rattle.c40.specs.Field.{isOf, exactly}
-use Rattle.c40.specs.Inner.Left.{textOf, textFrom, valuesAt}
+use Rattle.c40.specs.Inner.Left.{answered, textOf, textFrom, valuesAt}
 use Rattle.c40.proofs.Pairs.{Pairs, none, ofOne, ofTwo, ofThree, pairs-read, read-pairs}
 
 -- what is left is read pair by pair
@@ -97,48 +96,34 @@ same-count a b e = cc
 no-count : (n : ℕ) → Bad ≡ Characters n → ⊥
 no-count n e = let z : _≡_ {A = ℕ} 0 1 = cc in omega arith
 
--- what was measured decides what is written
-pub fits-written : (r : Reading) (out : List ℕ) (n : ℕ) → answered r (length out) ≡ Characters n
-    → (length (textOf r) ≡ n) × (n ≤ length out) × (sets out 0 (textOf r) ≡ written r out)
-unfolding answered written textOf
-fits-written noImage out n e = absurd (no-count n e)
-fits-written (characters t) out n e = go (leb (length t) (length out)) refl
+-- what was counted is the length of what was read
+pub counted-length : (r : Reading) (room n : ℕ) → answered r room ≡ Characters n → length (textOf r) ≡ n
+unfolding answered textOf
+counted-length noImage room n e = absurd (no-count n e)
+counted-length (characters t) room n e = go (leb (length t) room) refl
   where
-    go : (b : Bool) → leb (length t) (length out) ≡ b
-        → (length t ≡ n) × (n ≤ length out) × (sets out 0 t ≡ written (characters t) out)
-    go true p =
-        let most = leb-true (length t) (length out) p in
-        let same = same-count (length t) n (rw p at e) in
-        (same, omega arith, sets-eq t out 0 (rw zero-add most) ∙ rw (p, zero-add))
+    go : (b : Bool) → leb (length t) room ≡ b → length t ≡ n
+    go true p = same-count (length t) n (rw p at e)
     go false p = absurd (no-count n (rw p at e))
 
-pub bad-written : (r : Reading) (out : List ℕ) → answered r (length out) ≡ Bad → out ≡ written r out
-unfolding answered written
-bad-written noImage out e = refl
-bad-written (characters t) out e = go (leb (length t) (length out)) refl
-  where
-    go : (b : Bool) → leb (length t) (length out) ≡ b → out ≡ written (characters t) out
-    go true p = absurd (no-count (length t) (sym (rw p at e)))
-    go false p = rw p
-
--- a field of as many characters as there is room for: what was measured decides whether it is one, and what is written
+-- a field of as many characters as there is room for: what was counted decides whether it is one, and what is written
 pub field-written : (r : Reading) (out : List ℕ) (n : ℕ) → answered r (length out) ≡ Characters n → n ≡ length out
-    → (isOf (length out) r ≡ true) × (sets out 0 (textOf r) ≡ exactly (length out) r)
+    → (length (textOf r) ≡ length out) × (isOf (length out) r ≡ true) × (sets out 0 (textOf r) ≡ exactly (length out) r)
 unfolding isOf exactly textOf answered
 field-written noImage out n e h = absurd (no-count n e)
 field-written (characters t) out n e h =
-    let fits = fits-written (characters t) out n e in
-    let same : length t ≡ length out = fits .0 ∙ h in
+    let same : length t ≡ length out = counted-length (characters t) (length out) n e ∙ h in
     let all : sets out 0 t ≡ t =
     sets-eq t out 0 (rw (zero-add, same) (omega arith)) ∙ rw (zero-add, same, drop-length) (append-nil t) in
-    (rw (eq-eqb (length t) (length out) same), all ∙ rw (eq-eqb (length t) (length out) same))
+    let told = eq-eqb (length t) (length out) same in
+    (same, rw told, all ∙ rw told)
 
 pub other-field : (r : Reading) (out : List ℕ) (n : ℕ) → answered r (length out) ≡ Characters n → (n ≡ length out → ⊥)
     → isOf (length out) r ≡ false
 unfolding isOf textOf
 other-field noImage out n e h = refl
 other-field (characters t) out n e h =
-    ne-eqb (length t) (length out) (λ q. h (sym (fits-written (characters t) out n e .0) ∙ q))
+    ne-eqb (length t) (length out) (λ q. h (sym (counted-length (characters t) (length out) n e) ∙ q))
 
 pub bad-field : (r : Reading) (out : List ℕ) → answered r (length out) ≡ Bad → isOf (length out) r ≡ false
 unfolding isOf answered

@@ -32,6 +32,6 @@ fieldAt s at m = exactly m (imageAt s at m)
 
 -- the whole promise of reading a field into a range, of as many characters as the range has octets: whether it is one; then these
 -- stand there, else the range is as it was
-pub record Fields (s : List ℕ) (at : ℕ) (out after : List ℕ) (r : Bool) : Type 0 where
+pub record ReadsField (s : List ℕ) (at : ℕ) (out after : List ℕ) (r : Bool) : Type 0 where
   pub answer : r ≡ isField s at (length out)
   pub output : after ≡ cond (isField s at (length out)) (fieldAt s at (length out)) out

@@ -6,28 +6,33 @@ ghost use Prim.Native.Nat.{_+_, _≤_};
 ghost use lib.Dec.{leb};
 ghost use lib.ListN.{length, getD};
 ghost use Rattle.c40.specs.Reader.{readC40, lastPair};
-ghost use Rattle.c40.specs.Decode.{answered};
-ghost use Rattle.c40.specs.Inner.Left.{fitted};
-use crate::Decoded;
+ghost use Rattle.c40.specs.Inner.Left.{answered, fitted};
 use crate::pair::is_one;
 use crate::pair::is_three;
 use crate::pair::is_two;
 use crate::pair::values_at;
 
+pub(crate) enum Counted {
+    // How many there are.
+    Characters(usize),
+    // It is no image, or there is no room for its characters.
+    Bad,
+}
+
 // So many characters more, behind n.
-fn behind(n: usize, more: usize, room: usize) -> Decoded
+fn behind(n: usize, more: usize, room: usize) -> Counted
     requires { ⌜ n ≤ room ⌝ }
-    ensures { λ r. ⌜ r ≡ cond (leb (n + more) room) (Decoded.Characters (n + more)) Decoded.Bad ⌝ }
+    ensures { λ r. ⌜ r ≡ cond (leb (n + more) room) (Counted.Characters (n + more)) Counted.Bad ⌝ }
 {
     if more <= room - n {
-        Decoded::Characters(n + more)
+        Counted::Characters(n + more)
     } else {
-        Decoded::Bad
+        Counted::Bad
     }
 }
 
 // The last pair where it is not of three characters: of two or of one, behind n others.
-fn last(s: &[u8], i: usize, n: usize, room: usize) -> Decoded
+fn last(s: &[u8], i: usize, n: usize, room: usize) -> Counted
     requires { ⌜ (i + 2 ≤ length (now s)) × (n ≤ room) ⌝ }
     ensures { λ r. ⌜ r ≡ fitted room n (lastPair (getD (now (s .entry)) i 0) (getD (now (s .entry)) (i + 1) 0) []) ⌝ }
 {
@@ -37,11 +42,11 @@ fn last(s: &[u8], i: usize, n: usize, room: usize) -> Decoded
     if is_one(s[i], s[i + 1]) {
         return behind(n, 1, room);
     }
-    Decoded::Bad
+    Counted::Bad
 }
 
 // Pairs of three characters up to the end, or to another pair, which must be the last.
-pub(crate) fn measured(s: &[u8], room: usize) -> Decoded
+pub(crate) fn measured(s: &[u8], room: usize) -> Counted
     ensures { λ r. ⌜ r ≡ answered (readC40 (now (s .entry))) room ⌝ }
 {
     let mut i = 0;
@@ -49,19 +54,19 @@ pub(crate) fn measured(s: &[u8], room: usize) -> Decoded
     while 2 <= s.len() - i {
         if is_three(values_at(s, i)) {
             if room - n < 3 {
-                return Decoded::Bad;
+                return Counted::Bad;
             }
             i += 2;
             n += 3;
         } else {
             if 2 < s.len() - i {
-                return Decoded::Bad;
+                return Counted::Bad;
             }
             return last(s, i, n, room);
         }
     }
     if i < s.len() {
-        return Decoded::Bad;
+        return Counted::Bad;
     }
-    Decoded::Characters(n)
+    Counted::Characters(n)
 }

@@ -1,16 +1,21 @@
--- What is read from a place on, behind n characters that were read before it.
+-- What is counted of a reading, and what is read from a place on, behind n characters that were read before it.
 use Prim.Native.Nat.{ℕ, _+_, _≤_}
 use mathlib.Core.Bool.{cond}
 use mathlib.Core.List.{List, []}
 use lib.Dec.{leb}
 use lib.ListN.{length, drop, getD}
 use Rattle.c40.specs.declared.pair.Triple.{Triple}
-use Rattle.c40.specs.declared.Decoded.{Decoded}
-use Rattle.c40.specs.declared.Decoded.the-variants.{Characters, Bad}
+use Rattle.c40.specs.declared.measure.Counted.{Counted}
+use Rattle.c40.specs.declared.measure.Counted.the-variants.{Characters, Bad}
 use Rattle.c40.specs.Reader.{Reading, characters, noImage, numberOf, valuesOf, readC40}
 
--- how many characters that makes, where there is room for them
-unfoldable pub fitted : ℕ → ℕ → Reading → Decoded
+-- how many characters, where it is an image and there is room for them
+unfoldable pub answered : Reading → ℕ → Counted
+answered (characters t) room = cond (leb (length t) room) (Characters (length t)) Bad
+answered noImage room = Bad
+
+-- the same from a place on: how many that makes behind n others
+unfoldable pub fitted : ℕ → ℕ → Reading → Counted
 fitted room n (characters t) = cond (leb (n + length t) room) (Characters (n + length t)) Bad
 fitted room n noImage = Bad
 

@@ -5,11 +5,10 @@ use denote.Ref.{now}
 use mathlib.Core.Path.{sym, ap, _∙_}
 use lib.ListN.{length}
 use lib.Seq.{sets}
-use Rattle.c40.specs.Decode.{answered}
 use Rattle.c40.specs.Reader.{Reading, readC40}
 use Rattle.c40.specs.Field.{octetsFor, imageAt, isField, fieldAt}
-use Rattle.c40.specs.Inner.Left.{textOf, textFrom}
-use Rattle.c40.proofs.Storing.{fits-written, field-written, other-field, bad-field}
+use Rattle.c40.specs.Inner.Left.{answered, textOf, textFrom}
+use Rattle.c40.proofs.Storing.{field-written, other-field, bad-field}
 use Rattle.c40.proofs.field.field_at.Statement.{statement}
 use Rattle.c40.proofs.field.field_at.Tie as tie
 
@@ -21,8 +20,8 @@ counted c κs =
     let m = c .before .before .before .before .before .measured in
     let n = c .before .before .before .n .given in
     let image = now (c .before .before .before .before .before .before .part .result) in
-    let fits = fits-written (readC40 image) (now (a .out)) (n .0 .0) (sym (m .ensures) ∙ n .1) in
-    (fits .0 ∙ c .before .if1 .taken, omega arith)
+    let w = field-written (readC40 image) (now (a .out)) (n .0 .0) (sym (m .ensures) ∙ n .1) (c .before .if1 .taken) in
+    (w .0, omega arith)
 
 returns : tie.Need-returns
 unfolding isField fieldAt imageAt octetsFor textFrom
@@ -35,7 +34,7 @@ returns c =
     let e = ap (λ (x : Reading). answered x (length (now (a .out)))) (ap readC40 (sym (p .ensures))) ∙ sym (m .ensures) ∙ n .1 in
     let w = field-written r (now (a .out)) (n .0 .0) e (c .before .before .before .before .if1 .taken) in
     let stored = ap (sets (now (a .out)) 0) (ap textOf (ap readC40 (p .ensures))) in
-    record { answer = sym (w .0); output = rw (w .0) (c .before .before .write .ensures ∙ stored ∙ w .1) }
+    record { answer = sym (w .1); output = rw (w .1) (c .before .before .write .ensures ∙ stored ∙ w .2) }
 
 returns-2 : tie.Need-returns-2
 unfolding isField fieldAt imageAt octetsFor

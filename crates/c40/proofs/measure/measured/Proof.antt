@@ -5,8 +5,7 @@ use Prim.Native.Nat.{_≤_, _-_}
 use mathlib.Core.Path.{_≡_, _∙_}
 use lib.ListN.{length, drop}
 use Rattle.c40.specs.Reader.{readC40}
-use Rattle.c40.specs.Decode.{answered}
-use Rattle.c40.specs.Inner.Left.{fitted}
+use Rattle.c40.specs.Inner.Left.{answered, fitted}
 use Rattle.c40.proofs.Counting.{all-fitted, three-at, three-full, not-last, last-at, half-at, none-at}
 use Rattle.c40.proofs.measure.measured.Statement.{statement}
 use Rattle.c40.proofs.measure.measured.Tie as tie
