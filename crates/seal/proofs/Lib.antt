@@ -1,2 +1,2 @@
 -- the walk over the features: any number of steps that is enough gives the same
-pub mod Passed
+pub mod FeaturesPassed

@@ -21,8 +21,8 @@ use Rattle.seal.specs.declared.read.Seal.{Seal}
 use Rattle.seal.specs.Features.{features}
 use Rattle.seal.specs.Signature.{signatureAt}
 
--- what a seal holds
-pub record Contents : Type 0 where
+-- what a seal says
+pub record Said : Type 0 where
   pub header : Header
   pub kept : Record
   pub signature : Stretch
@@ -40,24 +40,24 @@ placed at outcome.passed = outcome.passed
 placed at (outcome.refused n p) = outcome.refused n at
 
 -- spaces become fillers and the text is read as TD2, a leading V being 3
-unfoldable pub withText : Header → (at : ℕ) → Answer → Stretch → Read Contents
+unfoldable pub withText : Header → (at : ℕ) → Answer → Stretch → Read Said
 withText h at a v = checked (placed at (a .outcome)) (value (record { header = h; kept = a .kept; signature = v }))
 
 -- 27, then the text
-unfoldable pub withImage : List ℕ → Header → Features → (t : List ℕ) → Read Contents
+unfoldable pub withImage : List ℕ → Header → Features → (t : List ℕ) → Read Said
 withImage s h f t = andThen (signatureAt s (f .end)) (λ v. withText h (f .text) (readText (filled t)) v)
 
 -- feature 02 absent, 25 at FF or the end; then 26, its C40 bad or not 72 characters, at the feature
-unfoldable pub withFeatures : List ℕ → Header → Features → Read Contents
+unfoldable pub withFeatures : List ℕ → Header → Features → Read Said
 withFeatures s h f =
     checked (unless (not (eqb (f .text) 0)) 25 (f .end))
     (checked (unless (isField (featureOctets s f) 2 72) 26 (f .text)) (withImage s h f (textIn s f)))
 
-unfoldable pub withHeader : List ℕ → Header → (end : ℕ) → Read Contents
+unfoldable pub withHeader : List ℕ → Header → (end : ℕ) → Read Said
 withHeader s h end = andThen (features s end) (λ f. withFeatures s h f)
 
-unfoldable pub contents : List ℕ → Read Contents
-contents s =
+unfoldable pub saidIn : List ℕ → Read Said
+saidIn s =
     checked (unless (leb (length s) 65535) 1 0) (checked (headerCheck s) (withHeader s (headerOf s) (headerEnd s)))
 
 -- an answer in the paper's terms
@@ -68,13 +68,13 @@ pub record SealAnswer : Type 0 where
   pub signature : Stretch
 
 -- every refusal gives the blank header, the blank record and no signature
-unfoldable pub answerBy : Read Contents → SealAnswer
+unfoldable pub answerBy : Read Said → SealAnswer
 answerBy (value c) = record { outcome = outcome.passed; header = c .header; kept = c .kept; signature = c .signature }
 answerBy (refusal n p) =
     record { outcome = outcome.refused n p; header = blankHeader; kept = blank; signature = record { from = 0; to = 0 } }
 
 unfoldable pub readSeal : List ℕ → SealAnswer
-readSeal s = answerBy (contents s)
+readSeal s = answerBy (saidIn s)
 
 -- the paper's number and values of what the code answers
 unfoldable pub answerOf : Seal → SealAnswer

@@ -12,7 +12,7 @@ use tlv::cut::has_octets;
 // The text of an emergency document, and what no feature has for a tag.
 const TEXT: u8 = 0x02;
 
-const SIGNATURE: u8 = 0xFF;
+pub(crate) const SIGNATURE: u8 = 0xFF;
 
 // Where feature 02 begins, 0 where there is none, and where the features end.
 pub struct Features {
@@ -76,7 +76,7 @@ fn text_place(s: &[u8], at: usize, text: usize) -> usize
 }
 
 // From a place up to FF or the end.
-pub fn walk(s: &[u8], start: usize) -> Walked
+pub(crate) fn walk(s: &[u8], start: usize) -> Walked
     ensures { λ r. ⌜ F.walkedOf r ≡ F.features (now (s .entry)) start ⌝ }
 {
     let mut at = start;

@@ -84,6 +84,7 @@ fn with_features(s: &[u8], header: Header, found: Features) -> Seal
         return refuse(Refusal::at(Cause::SealFeature, found.end));
     }
     let mut image = [FILLER; Form::TD2_TEXT];
+    // Its tag, its length and 48 octets.
     if c40::field::field_at(lent::part(s, found.text, 50), 2, &mut image) {
         with_image(s, header, found, image)
     } else {

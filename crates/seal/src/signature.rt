@@ -2,6 +2,7 @@
 ghost use mathlib.Core.Path.{_≡_};
 ghost use Rattle.tlv.specs.Element.{takenOf};
 ghost use Rattle.seal.specs.Signature.{signatureAt};
+use crate::features::SIGNATURE;
 use crate::features::numbered;
 use refusal::Cause;
 use refusal::Refusal;
@@ -11,7 +12,7 @@ use tlv::Taken;
 pub(crate) fn signature_at(s: &[u8], at: usize) -> Taken
     ensures { λ r. ⌜ takenOf r ≡ signatureAt (now (s .entry)) at ⌝ }
 {
-    let element = tlv::element(s, at, 0xFF);
+    let element = tlv::element(s, at, SIGNATURE as u16);
     match numbered(element, Cause::SealSignature) {
         Taken::Value(v) => {
             if v.to == s.len() {

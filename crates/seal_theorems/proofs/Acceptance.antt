@@ -28,7 +28,7 @@ use Rattle.seal.specs.declared.features.Features.{Features}
 use Rattle.seal.specs.Features.{textTag, signatureTag, features}
 use Rattle.seal.specs.Signature.{signatureAt}
 use Rattle.seal.specs.Seal as seal
-use Rattle.seal.specs.Seal.{textIn, withText, withImage, withFeatures, withHeader, contents, SealAnswer, answerBy, readSeal}
+use Rattle.seal.specs.Seal.{textIn, withText, withImage, withFeatures, withHeader, saidIn, SealAnswer, answerBy, readSeal}
 use Rattle.text_theorems.proofs.Acceptance.{accepted-exactly}
 use Rattle.seal_theorems.specs.Sealed.{Contents, headOctets, joined, octetsOf, Shaped}
 use Rattle.seal_theorems.specs.Sealed.{Sealed, featurePlace, headerIn, signatureIn, answerIn}
@@ -53,7 +53,7 @@ unfolding octetsOf
 all-there s p at end c e f i g = sym (e ∙ rw (f, i, g))
 
 -- the contents of a seal whose stages all passed
-stages-sealed : (s : List ℕ) → areOctets s → (c : seal.Contents) → Stages s c → (p : Contents) × Sealed p × (octetsOf p ≡ s)
+stages-sealed : (s : List ℕ) → areOctets s → (c : seal.Said) → Stages s c → (p : Contents) × Sealed p × (octetsOf p ≡ s)
 unfolding features
 stages-sealed s small c k =
     go (features-found (suc (length s)) s (headerEnd s) 0 (k .found) small (some-header s) (k .walk-stage))
@@ -93,10 +93,10 @@ stages-sealed s small c k =
 
 module _ (p : Contents) (k : Shaped p) where
   -- what is read of contents that keep every rule but those of the text, and where the signature stands
-  shaped-read : (contents (octetsOf p)
+  shaped-read : (saidIn (octetsOf p)
       ≡ withText (headerIn (p .head)) (featurePlace p) (readText (filled (p .text))) (signatureIn p))
       × (cut (octetsOf p) (signatureIn p) ≡ p .signature)
-  unfolding contents withHeader withFeatures withImage octetsOf featurePlace signatureIn
+  unfolding saidIn withHeader withFeatures withImage octetsOf featurePlace signatureIn
   shaped-read =
       let s = octetsOf p in
       let most = k .size in
@@ -140,7 +140,7 @@ sealed-signature p k = shaped-read p k .1
 
 -- where every rule is kept but those of the text, the text decides, at the feature's first octet
 pub shaped-answer : (p : Contents) → Shaped p
-    → contents (octetsOf p) ≡ withText (headerIn (p .head)) (featurePlace p) (readText (filled (p .text))) (signatureIn p)
+    → saidIn (octetsOf p) ≡ withText (headerIn (p .head)) (featurePlace p) (readText (filled (p .text))) (signatureIn p)
 shaped-answer p k = shaped-read p k .0
 
 -- the answer to the octets of contents that keep every rule: header fields, the record of the text, and the signature
@@ -156,6 +156,6 @@ pub sealed-exactly : (s : List ℕ) → areOctets s
     → (readSeal s .outcome ≡ passed) ↔ ((p : Contents) × Sealed p × (octetsOf p ≡ s))
 unfolding readSeal answerIn
 sealed-exactly s small = (
-  λ e. let c = passed-value (contents s) e in stages-sealed s small (c .0) (taken-apart s (c .0) (c .1)),
+  λ e. let c = passed-value (saidIn s) e in stages-sealed s small (c .0) (taken-apart s (c .0) (c .1)),
   λ w. ap (λ (l : List ℕ). readSeal l .outcome) (sym (w .2)) ∙ ap (λ (a : SealAnswer). a .outcome) (sealed-answer (w .0) (w .1)),
 )

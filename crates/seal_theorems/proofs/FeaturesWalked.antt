@@ -22,7 +22,7 @@ use Rattle.tlv.proofs.Standing.{element-read, octets-had, to-behind}
 use Rattle.seal.specs.declared.features.Features.{Features}
 use Rattle.seal.specs.Features.{numbered, textTag, signatureTag, featureRule, featureAt, isEnd, textPlace, featuresFrom, features}
 use Rattle.seal_theorems.specs.Sealed.{Feature, featureOctets, joined, isOther, areOthers}
-use Rattle.seal.proofs.Passed.{value-numbered}
+use Rattle.seal.proofs.FeaturesPassed.{value-numbered}
 
 -- a walk that has come to a place, with what stands there, and steps enough to go on
 record Came (s : List ℕ) (more at text : ℕ) (to found : ℕ) (r : List ℕ) : Type 0 where

@@ -25,7 +25,7 @@ use Rattle.seal_header.specs.Header.{isVersion, country, frontCheck, backCheck,
 use Rattle.seal.specs.declared.features.Features.{Features}
 use Rattle.seal.specs.Features.{numbered, textTag, signatureTag, featureRule, featureAt, isEnd, textPlace, featuresFrom, features}
 use Rattle.seal.specs.Signature.{signatureAt}
-use Rattle.seal.specs.Seal.{Contents, featureOctets, textIn, placed, withText, withImage, withFeatures, withHeader, contents}
+use Rattle.seal.specs.Seal.{Said, featureOctets, textIn, placed, withText, withImage, withFeatures, withHeader, saidIn}
 use Rattle.seal.specs.Seal.{answerBy, readSeal}
 use Rattle.text_theorems.specs.Ordered.{checksOf, FirstFailing}
 use Rattle.text_theorems.proofs.FirstFailing.{firstOf, first-append, read-first, first-failing, failing-first}
@@ -34,7 +34,7 @@ use Rattle.seal_theorems.specs.SealChecks.{sealChecks}
 
 -- ---- what joined steps decide
 
-answer-outcome : (m : Read Contents) → answerBy m .outcome ≡ outcomeIn m
+answer-outcome : (m : Read Said) → answerBy m .outcome ≡ outcomeIn m
 unfolding answerBy outcomeIn
 answer-outcome (value c) = refl
 answer-outcome (refusal n p) = refl
@@ -78,7 +78,7 @@ module _ (s : List ℕ) (h : Header) (f : Features) where
   unfolding withImage signatureAt signatureChecks firstOf numbered andThen outcomeIn
   signature-first = go (element s (f .end) signatureTag) (λ n p e. refused-there s (f .end) signatureTag n p e)
     where
-      text : Stretch → Read Contents
+      text : Stretch → Read Said
       text v = withText h (f .text) (readText (filled (textIn s f))) v
 
       zone : Stretch → Read Stretch
@@ -125,14 +125,14 @@ module _ (s : List ℕ) (h : Header) where
       rule : Stretch → Read Stretch
       rule v = checked (unless (featureRule s at text v) 25 at) (value v)
 
-      rest : Features → Read Contents
+      rest : Features → Read Said
       rest f = withFeatures s h f
 
       go : (m : Read Stretch) → ((n p : ℕ) → m ≡ refusal n p → p ≡ at)
           → outcomeIn (andThen (andThen (andThen (numbered 25 m) rule) next) rest) ≡ firstOf (featureChecks s at text m rows)
       go (value v) place =
           let o = unless (featureRule s at text v) 25 at in
-          ap (λ (m : Read Contents). outcomeIn m) (then-then (rule v) next rest)
+          ap (λ (m : Read Said). outcomeIn m) (then-then (rule v) next rest)
           ∙ then-outcome o v (λ (u : Stretch). andThen (next u) rest) ∙ ap (orElse o) (known v)
           ∙ rule-rows (eqb (getD s at 0) textTag) (hasOctets 48 v) (eqb text 0) 25 at (firstOf (rows v))
       go (refusal n p) place = ap (refused 25) (place n p refl)
@@ -161,12 +161,12 @@ module _ (s : List ℕ) (h : Header) where
 -- ---- all of them
 
 pub seal-first : (s : List ℕ) → readSeal s .outcome ≡ firstOf (sealChecks s)
-unfolding readSeal contents withHeader features sealChecks firstOf
+unfolding readSeal saidIn withHeader features sealChecks firstOf
 seal-first s =
     let size = unless (leb (length s) 65535) 1 0 in
     let rest = withHeader s (headerOf s) (headerEnd s) in
     let rows = checksFrom (suc (length s)) s (headerEnd s) 0 in
-    answer-outcome (contents s)
+    answer-outcome (saidIn s)
     ∙ checked-outcome size (checked (headerCheck s) rest)
     ∙ ap (orElse size) (checked-outcome (headerCheck s) rest
     ∙ ap (λ (o : Outcome). orElse o (outcomeIn rest)) (header-first s)

@@ -86,5 +86,5 @@ pub seal-leading-v : (p : Contents) → Shaped p → getD (p .text) 0 0 ≡ code
     → readSeal (octetsOf p) .outcome ≡ refused 3 (featurePlace p)
 unfolding readSeal answerBy withText checked placed
 seal-leading-v p k v =
-    ap (λ (m : Read seal.Contents). answerBy m .outcome) (shaped-answer p k)
+    ap (λ (m : Read seal.Said). answerBy m .outcome) (shaped-answer p k)
     ∙ rw (text-leading-v (p .text) (k .text-length) (k .text-c40) v)

@@ -10,7 +10,7 @@ use Rattle.zone.specs.Record.{blank}
 use Rattle.tlv.specs.Read.{Read, value, refusal}
 use Rattle.seal_header.specs.Header.{blankHeader}
 use Rattle.seal.specs.declared.read.Seal.{Seal}
-use Rattle.seal.specs.Seal.{Contents, contents, SealAnswer, answerBy, readSeal, answerOf}
+use Rattle.seal.specs.Seal.{Said, saidIn, SealAnswer, answerBy, readSeal, answerOf}
 
 -- the paper's number and values of an answer tell the answer
 seal-tells : (r q : Seal) → answerOf r ≡ answerOf q → r ≡ q
@@ -29,9 +29,9 @@ pub seal-blank : (s : List ℕ) (n p : ℕ) → readSeal s .outcome ≡ refused 
     → readSeal s
     ≡ record { outcome = refused n p; header = blankHeader; kept = blank; signature = record { from = 0; to = 0 } }
 unfolding readSeal answerBy
-seal-blank s n p e = go (contents s) e
+seal-blank s n p e = go (saidIn s) e
   where
-    go : (m : Read Contents) → answerBy m .outcome ≡ refused n p
+    go : (m : Read Said) → answerBy m .outcome ≡ refused n p
         → answerBy m
         ≡ record { outcome = refused n p; header = blankHeader; kept = blank; signature = record { from = 0; to = 0 } }
     go (value c) h = absurd (refused-not-passed (sym h))

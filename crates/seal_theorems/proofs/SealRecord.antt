@@ -10,7 +10,7 @@ use Rattle.sound.specs.Sound.{isSound}
 use Rattle.text.specs.Read.{readText}
 use Rattle.entry.specs.Entry.{isHouse}
 use Rattle.seal_header.specs.Header.{filled}
-use Rattle.seal.specs.Seal.{textIn, contents, readSeal}
+use Rattle.seal.specs.Seal.{textIn, saidIn, readSeal}
 use Rattle.text_theorems.proofs.RecordOfText.{kept-and-sound}
 use Rattle.run_theorems.specs.Keys.{keyOf, SameKey}
 use Rattle.run_theorems.proofs.Keys.{key-exactly}
@@ -20,7 +20,7 @@ pub seal-held : (s : List ℕ) → readSeal s .outcome ≡ passed
     → (t : List ℕ) × (readText t .outcome ≡ passed) × (readSeal s .kept ≡ readText t .kept)
 unfolding readSeal
 seal-held s e =
-    let c = passed-value (contents s) e in
+    let c = passed-value (saidIn s) e in
     let k = taken-apart s (c .0) (c .1) in
     (filled (textIn s (k .found)), k .text-stage, c .2 ∙ k .kept-stage)
 

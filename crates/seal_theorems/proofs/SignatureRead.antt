@@ -21,7 +21,7 @@ use Rattle.tlv.proofs.Standing.{last-read, cut-there}
 use Rattle.seal.specs.Features.{numbered, signatureTag}
 use Rattle.seal.specs.Signature.{signatureAt}
 use Rattle.seal.specs.Seal as seal
-use Rattle.seal.proofs.Passed.{numbered-value, value-numbered}
+use Rattle.seal.proofs.FeaturesPassed.{numbered-value, value-numbered}
 
 pub signature-read : (s : List ℕ) (at : ℕ) → areOctets s → (v : Stretch) → signatureAt s at ≡ value v
     → drop at s ≡ tlv signatureTag (cut s v)

@@ -20,15 +20,15 @@ use Rattle.seal.specs.declared.features.Features.{Features}
 use Rattle.seal.specs.Features.{features}
 use Rattle.seal.specs.Signature.{signatureAt}
 use Rattle.seal.specs.Seal as seal
-use Rattle.seal.specs.Seal.{textIn, placed, withText, withImage, withFeatures, withHeader, contents, answerBy}
+use Rattle.seal.specs.Seal.{textIn, placed, withText, withImage, withFeatures, withHeader, saidIn, answerBy}
 use Rattle.seal_theorems.specs.Sealed.{Contents}
 
 -- the steps from the header on
 module _ (s : List ℕ) (h : Header) where
-  abbrev pub from-signature : Features → Stretch → Read seal.Contents
+  abbrev pub from-signature : Features → Stretch → Read seal.Said
   from-signature f v = withText h (f .text) (readText (filled (textIn s f))) v
 
-  abbrev pub from-image : Features → Read seal.Contents
+  abbrev pub from-image : Features → Read seal.Said
   from-image f = checked (unless (isField (seal.featureOctets s f) 2 72) 26 (f .text)) (withImage s h f (textIn s f))
 
 -- the text that is read, and that it was accepted
@@ -47,7 +47,7 @@ unfolding headerEnd
 some-header s = omega arith
 
 -- what each stage gave
-pub record Stages (s : List ℕ) (c : seal.Contents) : Type 0 where
+pub record Stages (s : List ℕ) (c : seal.Said) : Type 0 where
   pub size-stage : length s ≤ 65535
   pub head-stage : headerCheck s ≡ passed
   pub found : Features
@@ -58,8 +58,8 @@ pub record Stages (s : List ℕ) (c : seal.Contents) : Type 0 where
   pub text-stage : readText (filled (textIn s found)) .outcome ≡ passed
   pub kept-stage : c .kept ≡ readText (filled (textIn s found)) .kept
 
-pub taken-apart : (s : List ℕ) (c : seal.Contents) → contents s ≡ value c → Stages s c
-unfolding contents withHeader withFeatures withImage withText
+pub taken-apart : (s : List ℕ) (c : seal.Said) → saidIn s ≡ value c → Stages s c
+unfolding saidIn withHeader withFeatures withImage withText
 taken-apart s c e =
     let h = headerOf s in
     let end = headerEnd s in
@@ -73,7 +73,7 @@ taken-apart s c e =
     let b = first-value (signatureAt s (f .end)) (from-signature s h f) c (w .1) in
     let v = b .0 in
     let t = readText (filled (textIn s f)) in
-    let last : seal.Contents = record { header = h; kept = t .kept; signature = v } in
+    let last : seal.Said = record { header = h; kept = t .kept; signature = v } in
     let k = checked-value (placed (f .text) (t .outcome)) (value last) c (b .2) in
     let same : last ≡ c = same-value (k .1) in
     record {
@@ -83,14 +83,14 @@ taken-apart s c e =
       walk-stage = a .1;
       some-stage = unless-kept (not (eqb (f .text) 0)) 25 (f .end) (x .0);
       field-stage = unless-kept (isField (seal.featureOctets s f) 2 72) 26 (f .text) (w .0);
-      signature-stage = b .1 ∙ ap (λ (q : seal.Contents). value (q .signature)) same;
+      signature-stage = b .1 ∙ ap (λ (q : seal.Said). value (q .signature)) same;
       text-stage = text-passed (f .text) (t .outcome) (k .0);
-      kept-stage = ap (λ (q : seal.Contents). q .kept) (sym same);
+      kept-stage = ap (λ (q : seal.Said). q .kept) (sym same);
     }
 
 -- where the answer is that it passed, there are contents
-pub passed-value : (m : Read seal.Contents) → answerBy m .outcome ≡ passed
-    → (c : seal.Contents) × (m ≡ value c) × (answerBy m .kept ≡ c .kept)
+pub passed-value : (m : Read seal.Said) → answerBy m .outcome ≡ passed
+    → (c : seal.Said) × (m ≡ value c) × (answerBy m .kept ≡ c .kept)
 unfolding answerBy
 passed-value (value c) e = (c, refl, refl)
 passed-value (refusal n p) e = absurd (refused-not-passed e)

@@ -7,7 +7,7 @@ use denote.Ref.{now}
 use lib.ListN.{length}
 use Rattle.tlv.specs.Element.{takenOf}
 use Rattle.seal.specs.Features.{features}
-use Rattle.seal.proofs.Passed.{leftFrom, left-next, feature-within, walk-ends, walk-refused}
+use Rattle.seal.proofs.FeaturesPassed.{leftFrom, left-next, feature-within, walk-ends, walk-refused}
 use Rattle.seal.proofs.features.walk.Statement.{statement}
 use Rattle.seal.proofs.features.walk.Tie as tie
 

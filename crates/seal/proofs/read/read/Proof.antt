@@ -3,12 +3,12 @@ use borrow.Author.Needs.{needs}
 use borrow.Author.Tests.{le-leb, lt-leb}
 use Rattle.tlv.specs.Read.{checked}
 use Rattle.seal_header.specs.Header.{headerCheck, headerOf, headerEnd}
-use Rattle.seal.specs.Seal.{contents, readSeal}
+use Rattle.seal.specs.Seal.{saidIn, readSeal}
 use Rattle.seal.proofs.read.read.Statement.{statement}
 use Rattle.seal.proofs.read.read.Tie as tie
 
 pub read-spec : {M : Type 1} → statement M
-unfolding readSeal contents checked headerCheck headerOf headerEnd
+unfolding readSeal saidIn checked headerCheck headerOf headerEnd
 read-spec =
     tie.close
     (tie.spec
