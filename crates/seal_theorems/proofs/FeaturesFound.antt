@@ -23,7 +23,7 @@ use Rattle.tlv.proofs.Standing.{has-octets, place-behind, to-behind}
 use Rattle.seal.specs.declared.features.Features.{Features}
 use Rattle.seal.specs.Features.{textTag, signatureTag, featureRule, featureAt, isEnd, textPlace, featuresFrom}
 use Rattle.seal.proofs.FeaturesPassed.{feature-value}
-use Rattle.seal_theorems.specs.Sealed.{Feature, featureOctets, joined, isOther, areOthers}
+use Rattle.seal_theorems.specs.Sealed.{Feature, featureOf, joined, isOther, areOthers}
 
 -- what a walk from a place on passed, where text is the place of the feature 02 that stood before, 0 where none did
 pub data Found (s : List ℕ) (at text : ℕ) (f : Features) : Type 0 where
@@ -49,7 +49,7 @@ module _ (s : List ℕ) (at text : ℕ) (small : areOctets s) where
   -- another feature before what was found
   one-other : (f : Features) (c : List ℕ) (v : Stretch) → isOther tag ≡ true → Stands s at tag c (drop (v .to) s) v
       → Found s (v .to) text f → Found s at text f
-  unfolding joined featureOctets areOthers every
+  unfolding joined featureOf areOthers every
   one-other f c v o h (without fs a e p) =
       without (record { tag = tag; content = c } ∷ fs) (both-and o a)
       (h .octets-there ∙ ap (λ (l : List ℕ). tlv tag c ++ l) e ∙ sym (append-assoc (tlv tag c) (joined fs) (drop (f .end) s))) p

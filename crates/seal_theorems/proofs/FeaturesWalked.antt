@@ -21,7 +21,7 @@ use Rattle.tlv.proofs.Encoded.{length-tlv, some-head, tag-first}
 use Rattle.tlv.proofs.Standing.{element-read, octets-had, to-behind}
 use Rattle.seal.specs.declared.features.Features.{Features}
 use Rattle.seal.specs.Features.{numbered, textTag, signatureTag, featureRule, featureAt, isEnd, textPlace, featuresFrom, features}
-use Rattle.seal_theorems.specs.Sealed.{Feature, featureOctets, joined, isOther, areOthers}
+use Rattle.seal_theorems.specs.Sealed.{Feature, featureOf, joined, isOther, areOthers}
 use Rattle.seal.proofs.FeaturesPassed.{value-numbered}
 
 -- a walk that has come to a place, with what stands there, and steps enough to go on
@@ -33,8 +33,8 @@ record Came (s : List ℕ) (more at text : ℕ) (to found : ℕ) (r : List ℕ) 
   to-within : to ≤ length s
 
 -- no feature is empty
-some-octets : (x : Feature) → 1 ≤ length (featureOctets x)
-unfolding featureOctets
+some-octets : (x : Feature) → 1 ≤ length (featureOf x)
+unfolding featureOf
 some-octets x = omega (arith, length-tlv (x .tag) (x .content), some-head (x .tag) (length (x .content)))
 
 -- a walk ends at FF
@@ -48,14 +48,14 @@ module _ (s : List ℕ) (most : length s ≤ 65535) where
   -- one feature that stands at a place
   module _ (at text : ℕ) (x : Feature) (r : List ℕ) (below : x .tag < 256)
       (rule : eqb (x .tag) textTag ≡ true → (length (x .content) ≡ 48) × (text ≡ 0))
-      (e : drop at s ≡ featureOctets x ++ r) where
+      (e : drop at s ≡ featureOf x ++ r) where
     tag-there : getD s at 0 ≡ x .tag
-    unfolding featureOctets
+    unfolding featureOf
     tag-there = tag-first s at (x .tag) (x .content) r below e
 
-    read-feature : (v : Stretch) × (featureAt s at text ≡ value v) × (v .to ≡ at + length (featureOctets x))
+    read-feature : (v : Stretch) × (featureAt s at text ≡ value v) × (v .to ≡ at + length (featureOf x))
         × (drop (v .to) s ≡ r) × (v .to ≤ length s)
-    unfolding featureAt featureRule featureOctets
+    unfolding featureAt featureRule featureOf
     read-feature =
         let t = x .tag in
         let c = x .content in
@@ -82,11 +82,11 @@ module _ (s : List ℕ) (most : length s ≤ 65535) where
 
     some-feature : at < length s
     some-feature =
-        let whole = sym (length-drop at s) ∙ ap length e ∙ length-append (featureOctets x) r in
+        let whole = sym (length-drop at s) ∙ ap length e ∙ length-append (featureOf x) r in
         omega (arith, some-octets x)
 
     one-passed : (more : ℕ) → eqb (x .tag) signatureTag ≡ false → length s < at + more
-        → Came s more at text (at + length (featureOctets x)) (cond (eqb (x .tag) textTag) at text) r
+        → Came s more at text (at + length (featureOf x)) (cond (eqb (x .tag) textTag) at text) r
     unfolding featuresFrom isEnd textPlace
     one-passed zero other enough = absurd (omega (arith, some-feature))
     one-passed (suc more) other enough =
@@ -98,7 +98,7 @@ module _ (s : List ℕ) (most : length s ≤ 65535) where
           left = more;
           same-walk = rw (lt-leb (length s) at some-feature, tag-there, other)
               (value-then (featureAt s at text) (λ (u : Stretch). featuresFrom more s (u .to) found) v
-              (featuresFrom more s (at + length (featureOctets x)) found) (a .1) (rw to));
+              (featuresFrom more s (at + length (featureOf x)) found) (a .1) (rw to));
           left-enough = omega (arith, some-octets x);
           left-there = rw to at (a .3);
           to-within = omega (arith, a .4);
@@ -121,15 +121,15 @@ module _ (s : List ℕ) (most : length s ≤ 65535) where
       let b = and-both (not (eqb (x .tag) textTag)) (not (eqb (x .tag) signatureTag)) (a .1) in
       let other = not-true (eqb (x .tag) textTag) (b .0) in
       let p = one-passed at text x (joined fs ++ r) (ltb-true (x .tag) 256 (a .0)) (λ q. absurd (false≢true (sym other ∙ q)))
-      (e ∙ append-assoc (featureOctets x) (joined fs) r) more (not-true (eqb (x .tag) signatureTag) (b .1)) enough in
-      let q = others-passed fs (p .left) (at + length (featureOctets x)) text r (all .1) (p .left-enough) (p .to-within)
+      (e ∙ append-assoc (featureOf x) (joined fs) r) more (not-true (eqb (x .tag) signatureTag) (b .1)) enough in
+      let q = others-passed fs (p .left) (at + length (featureOf x)) text r (all .1) (p .left-enough) (p .to-within)
       (p .left-there) in
-      let to : at + length (featureOctets x ++ joined fs) ≡ at + length (featureOctets x) + length (joined fs) =
-      omega (arith, length-append (featureOctets x) (joined fs)) in
+      let to : at + length (featureOf x ++ joined fs) ≡ at + length (featureOf x) + length (joined fs) =
+      omega (arith, length-append (featureOf x) (joined fs)) in
       record {
         left = q .left;
         same-walk = rw to (p .same-walk
-            ∙ ap (λ (b : Bool). featuresFrom (p .left) s (at + length (featureOctets x)) (cond b at text)) other ∙ q .same-walk);
+            ∙ ap (λ (b : Bool). featuresFrom (p .left) s (at + length (featureOf x)) (cond b at text)) other ∙ q .same-walk);
         left-enough = rw to (q .left-enough);
         left-there = rw to (q .left-there);
         to-within = rw to (q .to-within);
@@ -140,7 +140,7 @@ module _ (s : List ℕ) (most : length s ≤ 65535) where
       → length c ≡ 48 → at ≤ length s → drop at s ≡ joined bs ++ (tlv textTag c ++ (joined cs ++ tlv signatureTag g))
       → (f : Features) × (features s at ≡ value f) × (f .text ≡ at + length (joined bs))
       × (drop (f .text) s ≡ tlv textTag c ++ (joined cs ++ tlv signatureTag g)) × (drop (f .end) s ≡ tlv signatureTag g)
-  unfolding features featureOctets
+  unfolding features featureOf
   features-walked bs cs at c g o u n within e =
       let text = at + length (joined bs) in
       let last = tlv signatureTag g in

@@ -20,7 +20,6 @@ use Rattle.tlv.proofs.Encoded.{reads}
 use Rattle.tlv.proofs.Standing.{last-read, cut-there}
 use Rattle.seal.specs.Features.{numbered, signatureTag}
 use Rattle.seal.specs.Signature.{signatureAt}
-use Rattle.seal.specs.Seal as seal
 use Rattle.seal.proofs.FeaturesPassed.{numbered-value, value-numbered}
 
 pub signature-read : (s : List ℕ) (at : ℕ) → areOctets s → (v : Stretch) → signatureAt s at ≡ value v

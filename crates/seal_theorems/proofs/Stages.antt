@@ -21,7 +21,6 @@ use Rattle.seal.specs.Features.{features}
 use Rattle.seal.specs.Signature.{signatureAt}
 use Rattle.seal.specs.Seal as seal
 use Rattle.seal.specs.Seal.{textIn, placed, withText, withImage, withFeatures, withHeader, saidIn, answerBy}
-use Rattle.seal_theorems.specs.Sealed.{Contents}
 
 -- the steps from the header on
 module _ (s : List ℕ) (h : Header) where

@@ -88,12 +88,12 @@ headOctets h =
     0xDC ∷ h .version ∷ (imageOf (h .country) ++ (imageOf (referenceOf h) ++ (dayOctets (h .issued) ++ (dayOctets (h .signed)
     ++ (0x5E ∷ 0x03 ∷ [])))))
 
-unfoldable pub featureOctets : Feature → List ℕ
-featureOctets f = tlv (f .tag) (f .content)
+unfoldable pub featureOf : Feature → List ℕ
+featureOf f = tlv (f .tag) (f .content)
 
 unfoldable pub joined : List Feature → List ℕ
 joined [] = []
-joined (f ∷ fs) = featureOctets f ++ joined fs
+joined (f ∷ fs) = featureOf f ++ joined fs
 
 -- "feature 02" has the text's image for its value
 unfoldable pub octetsOf : Contents → List ℕ
