@@ -42,9 +42,9 @@ unfoldable pub sealInC : Length → Header → Stretch → SealInC
 sealInC (written n) h v = fieldsInC 0 n h v
 sealInC (refused number place) h v = fieldsInC number place blankHeader (record { from = 0; to = 0 })
 
-unfoldable pub readInC : ℕ → List ℕ → List ℕ → SealInC
-readInC house s out =
+unfoldable pub readSealInC : ℕ → List ℕ → List ℕ → SealInC
+readSealInC house s out =
     sealInC (enteredAnswer (readSeal s .outcome) house (readSeal s .kept) out) (readSeal s .header) (readSeal s .signature)
 
-unfoldable pub readOut : ℕ → List ℕ → List ℕ → List ℕ
-readOut house s out = enteredOut (readSeal s .outcome) house (readSeal s .kept) out
+unfoldable pub readSealOut : ℕ → List ℕ → List ℕ → List ℕ
+readSealOut house s out = enteredOut (readSeal s .outcome) house (readSeal s .kept) out

@@ -1,6 +1,6 @@
 // The call that a C host makes to read seals. It decides nothing: it hands the lent ranges on and tells the answer in numbers.
 ghost use mathlib.Core.Path.{_≡_};
-ghost use Rattle.lamphudet_seals.specs.Answer.{readInC, readOut};
+ghost use Rattle.lamphudet_seals.specs.Answer.{readSealInC, readSealOut};
 use crate::border::seal_in_c;
 use zone::form::Form;
 
@@ -41,8 +41,8 @@ pub struct SealInC {
 // A seal is read, and its record entered under a house.
 #[no_mangle]
 pub extern "C" fn lamphudet_read_seal(house: u32, seal: &[u8], entry: &mut [u8]) -> SealInC
-    ensures { λ r. ⌜ r ≡ readInC house (now (seal .entry)) (now (entry .entry)) ⌝ }
-    ensures { λ _. ⌜ now (entry .exit) ≡ readOut house (now (seal .entry)) (now (entry .entry)) ⌝ }
+    ensures { λ r. ⌜ r ≡ readSealInC house (now (seal .entry)) (now (entry .entry)) ⌝ }
+    ensures { λ _. ⌜ now (entry .exit) ≡ readSealOut house (now (seal .entry)) (now (entry .entry)) ⌝ }
 {
     let read = seal::read::read(seal);
     let verdict = read.verdict;

@@ -14,7 +14,7 @@ use Rattle.entry.specs.Entered.{enteredAnswer}
 use Rattle.entry.proofs.Entered.{Enters, entered, entered-only, not-entered}
 use Rattle.seal_header.specs.Header.{blankHeader}
 use Rattle.seal.specs.Seal.{readSeal}
-use Rattle.lamphudet_seals.specs.Answer.{fieldsInC, sealInC, readInC, readOut}
+use Rattle.lamphudet_seals.specs.Answer.{fieldsInC, sealInC, readSealInC, readSealOut}
 use Rattle.run_theorems.specs.Keys.{keyOf, SameKey}
 use Rattle.run_theorems.proofs.Keys.{key-exactly}
 use Rattle.run_theorems.proofs.EntryLengths.{entry-bounds}
@@ -33,13 +33,13 @@ module _ (house : ℕ) (s out : List ℕ) where
   -- 0, how many octets, header and signature, and the entry in front of the range; or a refusal over blank fields, and nothing is
   -- changed
   pub data Told : Type 0 where
-    kept : Kept → readInC house s out ≡ fieldsInC 0 octets (readSeal s .header) (readSeal s .signature)
-        → readOut house s out ≡ entryOf house (readSeal s .kept) ++ drop octets out → Told
-    denied : (number place : ℕ) → readInC house s out ≡ fieldsInC number place blankHeader (record { from = 0; to = 0 })
-        → readOut house s out ≡ out → Told
+    kept : Kept → readSealInC house s out ≡ fieldsInC 0 octets (readSeal s .header) (readSeal s .signature)
+        → readSealOut house s out ≡ entryOf house (readSeal s .kept) ++ drop octets out → Told
+    denied : (number place : ℕ) → readSealInC house s out ≡ fieldsInC number place blankHeader (record { from = 0; to = 0 })
+        → readSealOut house s out ≡ out → Told
 
   pub seal-told : Told
-  unfolding readInC readOut sealInC
+  unfolding readSealInC readSealOut sealInC
   seal-told = go answer refl
     where
       go : (a : Length) → answer ≡ a → Told
@@ -51,8 +51,8 @@ module _ (house : ℕ) (s out : List ℕ) where
           denied number place (rw e) (not-entered house (readSeal s .kept) out (readSeal s .outcome) number place e)
 
   -- an accepted call leaves an entry, which begins with its key
-  pub seal-begins : Kept → take 30 (readOut house s out) ≡ keyOf house (readSeal s .kept)
-  unfolding readOut keyOf
+  pub seal-begins : Kept → take 30 (readSealOut house s out) ≡ keyOf house (readSeal s .kept)
+  unfolding readSealOut keyOf
   seal-begins h =
       let w = entered house (readSeal s .kept) out (readSeal s .outcome) h in
       let long = entry-bounds house (readSeal s .kept) (h .sound) in
@@ -60,7 +60,7 @@ module _ (house : ℕ) (s out : List ℕ) where
 
 -- SEPARATION: what two accepted calls leave in their ranges shares its first thirty octets exactly when all of these agree
 pub seals-apart : (h k : ℕ) (s u out to : List ℕ) → Kept h s out → Kept k u to
-    → (take 30 (readOut h s out) ≡ take 30 (readOut k u to)) ↔ SameKey h (readSeal s .kept) k (readSeal u .kept)
+    → (take 30 (readSealOut h s out) ≡ take 30 (readSealOut k u to)) ↔ SameKey h (readSeal s .kept) k (readSeal u .kept)
 seals-apart h k s u out to x y =
     let both = key-exactly h k (readSeal s .kept) (readSeal u .kept) (x .housed) (x .sound) (y .housed) (y .sound) in (
       λ e. both .0 (sym (seal-begins h s out x) ∙ e ∙ seal-begins k u to y),

@@ -1,12 +1,12 @@
 -- What was read is entered, told in numbers.
 use borrow.Author.Needs.{needs}
 use Rattle.seal.specs.Seal.{answerOf}
-use Rattle.lamphudet_seals.specs.Answer.{readInC, readOut}
+use Rattle.lamphudet_seals.specs.Answer.{readSealInC, readSealOut}
 use Rattle.lamphudet_seals.proofs.lamphudet_read_seal.Statement.{statement}
 use Rattle.lamphudet_seals.proofs.lamphudet_read_seal.Tie as tie
 
 returns : tie.Need-returns
-unfolding answerOf readInC readOut
+unfolding answerOf readSealInC readSealOut
 returns c =
     let read = c .before .before .before .before .before .before .before .before .read .ensures in
     let w = c .before .before .before .enter .ensures in
