@@ -3,6 +3,8 @@
  * found again as the only entry of a run, is opened to the fields that the text has, and is written back; what is refused
  * opens to the blank record; and every refusal has words of its own. Exit status 0 where all of that is so.
  */
+#include "holds.h"
+
 #include <lamphudet.h>
 #include <stdio.h>
 #include <string.h>
@@ -13,20 +15,6 @@ static const char t3[] = "P<UTONORD<<ELIN<<<<<<<<<<<<<<<<<<<<<<<<<<<<<"
 static int is(lamphudet_answer answer, uint32_t number, uint64_t value)
 {
     return answer.number == number && answer.value == value;
-}
-
-/* A field holds these characters, and fillers behind them. */
-static int holds(const uint8_t *field, size_t size, const char *characters)
-{
-    size_t len = strlen(characters);
-    size_t at;
-
-    for (at = 0; at < size; at++) {
-        if (field[at] != (at < len ? (uint8_t)characters[at] : '<')) {
-            return 0;
-        }
-    }
-    return len <= size;
 }
 
 static int is_t3(lamphudet_record record)

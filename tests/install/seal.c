@@ -3,6 +3,8 @@
  * it, is read to its header's fields and to the entry that its text alone has; what is refused writes nothing and has a blank
  * header; and the struct has the layout that the archive was compiled with. Exit status 0 where all of that is so.
  */
+#include "holds.h"
+
 #include <lamphudet_seals.h>
 #include <stddef.h>
 #include <stdio.h>
@@ -44,20 +46,6 @@ static int laid_out(void)
 static int is_day(lamphudet_day day, int year, int month, int of_month)
 {
     return day.year == year && day.month == month && day.day == of_month;
-}
-
-/* A field holds these characters, and fillers behind them. */
-static int holds(const uint8_t *field, size_t size, const char *characters)
-{
-    size_t len = strlen(characters);
-    size_t at;
-
-    for (at = 0; at < size; at++) {
-        if (field[at] != (at < len ? (uint8_t)characters[at] : '<')) {
-            return 0;
-        }
-    }
-    return len <= size;
 }
 
 static int is_printed(const lamphudet_seal *seal)

@@ -7,6 +7,18 @@ use std::ops::Range;
 /// The longest content whose length can be written.
 pub const LONGEST: usize = 0xffff;
 
+/// For whoever spoils an element: what is none of the three forms, and at the end a length of more than is likely to follow.
+pub const WRONG_LENGTHS: [&[u8]; 8] = [
+    &[0x80],
+    &[0x81, 0x00],
+    &[0x81, 0x7f],
+    &[0x82, 0x00, 0xff],
+    &[0x83, 0x01, 0x00, 0x00],
+    &[0x84, 0x00, 0x00, 0x01, 0x00],
+    &[0xff],
+    &[0x82, 0xff, 0xff],
+];
+
 /// An element that was found: where it stands as a whole, from its tag on, and where its content stands.
 #[derive(Clone, Debug, PartialEq, Eq)]
 pub struct Element {

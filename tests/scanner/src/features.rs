@@ -1,7 +1,7 @@
 //! Refusal 25: features.
 
 use crate::lines::{other, printed, text, zone, Element, Lines};
-use crate::Sample;
+use crate::{sample, Sample};
 
 pub fn all() -> Vec<Sample> {
     [coded(), counted()].into_iter().flatten().collect()
@@ -19,7 +19,6 @@ fn resized(length: usize) -> Element {
 }
 
 fn coded() -> Vec<Sample> {
-    let sample = |name, remark, lines| Sample { name, remark, lines };
     vec![
         sample(
             "25-coded",
@@ -51,7 +50,6 @@ fn coded() -> Vec<Sample> {
 }
 
 fn counted() -> Vec<Sample> {
-    let sample = |name, remark, lines| Sample { name, remark, lines };
     vec![
         sample("25-47", "25 at 18: feature 02 has 47 octets and not 48.", behind(&[resized(47), zone()])),
         sample(

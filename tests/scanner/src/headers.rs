@@ -1,7 +1,7 @@
 //! Refusal 24: each field of a header, wrong and cut off.
 
 use crate::lines::{header, printed, text, zone, Lines};
-use crate::Sample;
+use crate::{sample, Sample};
 use paper::day::Day;
 use paper::seal::header::{fields, Header};
 use paper::{c40, day};
@@ -17,9 +17,17 @@ fn day(year: u16, month: u8, day: u8) -> [u8; 3] {
     day::write(Day { year, month, day })
 }
 
+/// With version octet 03; its reference has 8 octets.
+fn later() -> Header {
+    header(0x03, b"FFAFF")
+}
+
 pub fn wrong() -> Vec<Sample> {
-    let (earlier, later) = (printed(), header(0x03, b"FFAFF"));
-    let sample = |name, remark, lines| Sample { name, remark, lines };
+    [first_fields(), references(), days(), last_fields()].into_iter().flatten().collect()
+}
+
+fn first_fields() -> Vec<Sample> {
+    let earlier = printed();
     vec![
         sample("24-dc", "24 at 0: the first octet is DB and not DC.", replaced(&earlier, 0, &[0xdb])),
         sample("24-version", "24 at 1: a version octet is 02 or 03, and this is 04.", replaced(&earlier, 1, &[0x04])),
@@ -33,6 +41,12 @@ pub fn wrong() -> Vec<Sample> {
             "24 at 2: the country's octets are FE and U, which is C40 of one character and not of three.",
             replaced(&earlier, 2, &c40::write(b"U")),
         ),
+    ]
+}
+
+fn references() -> Vec<Sample> {
+    let (earlier, later) = (printed(), later());
+    vec![
         sample(
             "24-reference",
             "24 at 4: the reference is UT01FFAFG, and G is neither 0-9 nor A-F.",
@@ -54,6 +68,12 @@ pub fn wrong() -> Vec<Sample> {
              over by three, behind FE, stands in the third pair, and FE may stand in the last pair only.",
             replaced(&later, 3, &[c40::write(b"UT01041"), c40::write(b"234")].concat()),
         ),
+    ]
+}
+
+fn days() -> Vec<Sample> {
+    let (earlier, later) = (printed(), later());
+    vec![
         sample(
             "24-issued",
             "24 at 10: issued on 29 February 1900, which was no leap year.",
@@ -71,6 +91,12 @@ pub fn wrong() -> Vec<Sample> {
         ),
         sample("24-signed", "24 at 13: signed in month 13.", replaced(&earlier, 5, &day(2007, 13, 9))),
         sample("24-signed-03", "24 at 15: signed on day 0. 7 + 8.", replaced(&later, 5, &day(2007, 8, 0))),
+    ]
+}
+
+fn last_fields() -> Vec<Sample> {
+    let (earlier, later) = (printed(), later());
+    vec![
         sample(
             "24-definition",
             "24 at 16: definition 5D, with which source document 002 marks visas. An emergency document has 5E.",
@@ -86,7 +112,6 @@ pub fn cut() -> Vec<Sample> {
     let whole = |header: &Header| Lines::of(header, &[]);
     let earlier = |length| whole(&printed()).cut(length);
     let longest = whole(&header(0x03, &b"0123456789ABCDEF".repeat(16)[..255]));
-    let sample = |name, remark, lines| Sample { name, remark, lines };
     vec![
         sample("24-cut-dc", "24 at 0: no octet at all.", earlier(0)),
         sample("24-cut-version", "24 at 1: the seal ends behind DC.", earlier(1)),

@@ -30,6 +30,10 @@ impl Sample {
     }
 }
 
+fn sample(name: &'static str, remark: &'static str, lines: Lines) -> Sample {
+    Sample { name, remark, lines }
+}
+
 /// All of them: accepted ones, then those of each refusal.
 pub fn all() -> Vec<Sample> {
     let all =

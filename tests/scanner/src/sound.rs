@@ -1,7 +1,7 @@
 //! Seals that are accepted, and what source document 002 prints.
 
 use crate::lines::{header, other, printed, text, text_of, zone, Element, Lines};
-use crate::Sample;
+use crate::{sample, Sample};
 use paper::day::Day;
 use paper::seal::header::Header;
 use paper::seal::MARKER;
@@ -17,50 +17,50 @@ fn papers() -> Vec<Sample> {
     let mut fields = paper::seal::header::fields(&printed());
     fields[1] = vec![0x03];
     vec![
-        Sample {
-            name: "seal",
-            remark: "Accepted: header and message that source document 002 prints in section 8, with version octet 02, and FF\n\
-                     40 and 64 octets behind them. 134 octets: feature 02 from 18, FF at 68, the signature from 70.",
-            lines: Lines::of(&printed(), &[text(), signature.clone()]),
-        },
-        Sample {
-            name: "printed-03",
-            remark: "24 at 4: the same header and message exactly as they are printed, with version octet 03 over the header\n\
-                     of version octet 02. So the reference says with its fifth and sixth character, FF, that 255 follow.",
-            lines: Lines::with(&fields, &[text()]),
-        },
-        Sample {
-            name: "printed-03-signed",
-            remark: "24 at 4: as they are printed, and the signature behind them. 255 characters still do not follow.",
-            lines: Lines::with(&fields, &[text(), signature]),
-        },
-        Sample {
-            name: "printed-02",
-            remark: "27 at 68: as they are printed but for version octet 02. There is no FF, which is told at the end.",
-            lines: Lines::of(&printed(), &[text()]),
-        },
+        sample(
+            "seal",
+            "Accepted: header and message that source document 002 prints in section 8, with version octet 02, and FF\n\
+             40 and 64 octets behind them. 134 octets: feature 02 from 18, FF at 68, the signature from 70.",
+            Lines::of(&printed(), &[text(), signature.clone()]),
+        ),
+        sample(
+            "printed-03",
+            "24 at 4: the same header and message exactly as they are printed, with version octet 03 over the header\n\
+             of version octet 02. So the reference says with its fifth and sixth character, FF, that 255 follow.",
+            Lines::with(&fields, &[text()]),
+        ),
+        sample(
+            "printed-03-signed",
+            "24 at 4: as they are printed, and the signature behind them. 255 characters still do not follow.",
+            Lines::with(&fields, &[text(), signature]),
+        ),
+        sample(
+            "printed-02",
+            "27 at 68: as they are printed but for version octet 02. There is no FF, which is told at the end.",
+            Lines::of(&printed(), &[text()]),
+        ),
     ]
 }
 
 fn versions() -> Vec<Sample> {
     let hex = b"0123456789ABCDEF".repeat(16);
     vec![
-        Sample {
-            name: "version-03",
-            remark: "Accepted: version octet 03. The reference is UT01, 05 and five characters, in 8 octets from 4 on.",
-            lines: Lines::of(&header(0x03, b"FFAFF"), &[text(), zone()]),
-        },
-        Sample {
-            name: "reference-0",
-            remark: "Accepted: version octet 03, and a reference of no characters. UT0100 has 4 octets, and the issue date\n\
-                     stands at 8.",
-            lines: Lines::of(&header(0x03, b""), &[text(), zone()]),
-        },
-        Sample {
-            name: "reference-255",
-            remark: "Accepted: version octet 03, and a reference of 255 characters, the most that FF says: 4 octets and 170.",
-            lines: Lines::of(&header(0x03, &hex[..255]), &[text(), zone()]),
-        },
+        sample(
+            "version-03",
+            "Accepted: version octet 03. The reference is UT01, 05 and five characters, in 8 octets from 4 on.",
+            Lines::of(&header(0x03, b"FFAFF"), &[text(), zone()]),
+        ),
+        sample(
+            "reference-0",
+            "Accepted: version octet 03, and a reference of no characters. UT0100 has 4 octets, and the issue date\n\
+             stands at 8.",
+            Lines::of(&header(0x03, b""), &[text(), zone()]),
+        ),
+        sample(
+            "reference-255",
+            "Accepted: version octet 03, and a reference of 255 characters, the most that FF says: 4 octets and 170.",
+            Lines::of(&header(0x03, &hex[..255]), &[text(), zone()]),
+        ),
     ]
 }
 
@@ -71,27 +71,27 @@ fn rest() -> Vec<Sample> {
         (Element::new(0x00, &[]), Element::new(0xdc, &[0x02; 0x80]), Element::new(0xfe, &[0xff; 0x100]));
     let around = [other(), empty.clone(), long.clone(), longer.clone(), text(), longer, long, empty, other(), zone()];
     vec![
-        Sample {
-            name: "days",
-            remark: "Accepted: the first day of year 1, and 29 February of 2000, which is a leap year. The country is D with\n\
-                     two spaces, which are fillers. The document's number is longer than its field.",
-            lines: Lines::of(&early, &[text_of(LONG_TD2), zone()]),
-        },
-        Sample {
-            name: "features",
-            remark: "Accepted: before feature 02 and behind it features that are passed over: an unknown one, an empty one,\n\
-                     one with a length in two octets (81 80) and one in three (82 01 00). What is in them is not looked at.",
-            lines: Lines::of(&printed(), &around),
-        },
-        Sample {
-            name: "signature-0",
-            remark: "Accepted: an empty signature is one. It stands behind FF 00, at 70, which is the end.",
-            lines: Lines::of(&printed(), &[text(), Element::new(MARKER, &[])]),
-        },
-        Sample {
-            name: "signature-130",
-            remark: "Accepted: a signature of 130 octets, with its length in two (81 82), and so from 71 on.",
-            lines: Lines::of(&printed(), &[text(), Element::new(MARKER, &[7; 130])]),
-        },
+        sample(
+            "days",
+            "Accepted: the first day of year 1, and 29 February of 2000, which is a leap year. The country is D with\n\
+             two spaces, which are fillers. The document's number is longer than its field.",
+            Lines::of(&early, &[text_of(LONG_TD2), zone()]),
+        ),
+        sample(
+            "features",
+            "Accepted: before feature 02 and behind it features that are passed over: an unknown one, an empty one,\n\
+             one with a length in two octets (81 80) and one in three (82 01 00). What is in them is not looked at.",
+            Lines::of(&printed(), &around),
+        ),
+        sample(
+            "signature-0",
+            "Accepted: an empty signature is one. It stands behind FF 00, at 70, which is the end.",
+            Lines::of(&printed(), &[text(), Element::new(MARKER, &[])]),
+        ),
+        sample(
+            "signature-130",
+            "Accepted: a signature of 130 octets, with its length in two (81 82), and so from 71 on.",
+            Lines::of(&printed(), &[text(), Element::new(MARKER, &[7; 130])]),
+        ),
     ]
 }

@@ -1,7 +1,7 @@
 //! Refusal 26, the C40 of feature 02; and those of the text, each at the feature's first octet.
 
 use crate::lines::{other, printed, text, text_of, zone, Element, Lines};
-use crate::Sample;
+use crate::{sample, Sample};
 use paper::specimens::ERIKSSON_TD2;
 
 /// The last of its 24 pairs.
@@ -20,9 +20,11 @@ fn joined(a: u16, b: u16, c: u16) -> [u8; 2] {
 }
 
 pub fn c40() -> Vec<Sample> {
-    let sample = |name, remark, lines| Sample { name, remark, lines };
-    let mut behind = text().value;
-    behind[..2].copy_from_slice(&[0xff; 2]);
+    [left_over(), values()].into_iter().flatten().collect()
+}
+
+/// Pairs of one character and of two, which may stand last only, and then are not of 72.
+fn left_over() -> Vec<Sample> {
     vec![
         sample(
             "26-fe",
@@ -54,6 +56,14 @@ pub fn c40() -> Vec<Sample> {
             "26 at 18: 0 as the third value of the last pair. That is C40, but of 71 characters and not of 72.",
             with_pair(LAST, joined(3, 3, 0)),
         ),
+    ]
+}
+
+/// Pairs whose values are none of characters.
+fn values() -> Vec<Sample> {
+    let mut behind = text().value;
+    behind[..2].copy_from_slice(&[0xff; 2]);
+    vec![
         sample(
             "26-value-0",
             "26 at 18: value 0 as the first of the first pair. Values are 3 to 39.",
@@ -86,27 +96,25 @@ fn with(place: usize, characters: &str) -> Element {
 }
 
 pub fn fields() -> Vec<Sample> {
-    let sample = |name, remark, place, characters| Sample {
-        name,
-        remark,
-        lines: Lines::of(&printed(), &[with(place, characters), zone()]),
+    let spoilt = |name, remark, place, characters| {
+        sample(name, remark, Lines::of(&printed(), &[with(place, characters), zone()]))
     };
     let behind = Lines::of(&printed(), &[other(), with(71, "5"), zone()]);
     vec![
-        sample("3-visa", "3 at 18: the text begins with V. It is told where feature 02 begins.", 0, "V"),
-        sample("3-passport", "3 at 18: the text begins with P, as only TD3 does.", 0, "P"),
-        sample("4-state", "4 at 18: the issuing state is U O, with a space between.", 2, "U<O"),
-        sample("4-nationality", "4 at 18: the nationality has a digit.", 46, "UT0"),
-        sample("5-number", "5 at 18: the number begins with a space.", 36, "<"),
-        sample("6-birth", "6 at 18: born on 30 February.", 49, "740230"),
-        sample("6-expiry", "6 at 18: expired in month 13.", 57, "121315"),
-        sample("7-sex", "7 at 18: the sex is X.", 56, "X"),
-        sample("8-name", "8 at 18: the name begins with a digit.", 5, "0"),
-        sample("9-birth", "9 at 18: the birth's check digit is 3 and not 2.", 55, "3"),
-        Sample {
-            name: "9-composite",
-            remark: "9 at 22: the last check digit is 5 and not 6, in a feature 02 behind one of 4 octets: 18 + 4.",
-            lines: behind,
-        },
+        spoilt("3-visa", "3 at 18: the text begins with V. It is told where feature 02 begins.", 0, "V"),
+        spoilt("3-passport", "3 at 18: the text begins with P, as only TD3 does.", 0, "P"),
+        spoilt("4-state", "4 at 18: the issuing state is U O, with a space between.", 2, "U<O"),
+        spoilt("4-nationality", "4 at 18: the nationality has a digit.", 46, "UT0"),
+        spoilt("5-number", "5 at 18: the number begins with a space.", 36, "<"),
+        spoilt("6-birth", "6 at 18: born on 30 February.", 49, "740230"),
+        spoilt("6-expiry", "6 at 18: expired in month 13.", 57, "121315"),
+        spoilt("7-sex", "7 at 18: the sex is X.", 56, "X"),
+        spoilt("8-name", "8 at 18: the name begins with a digit.", 5, "0"),
+        spoilt("9-birth", "9 at 18: the birth's check digit is 3 and not 2.", 55, "3"),
+        sample(
+            "9-composite",
+            "9 at 22: the last check digit is 5 and not 6, in a feature 02 behind one of 4 octets: 18 + 4.",
+            behind,
+        ),
     ]
 }

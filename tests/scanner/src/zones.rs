@@ -1,14 +1,13 @@
 //! Refusal 27: signature zones. The one that is missing is printed: it stands with what the papers have.
 
 use crate::lines::{other, printed, text, Element, Lines};
-use crate::Sample;
+use crate::{sample, Sample};
 
 fn zoned(head: &[u8], value: &[u8]) -> Lines {
     Lines::of(&printed(), &[text(), Element::coded(head, value)])
 }
 
 pub fn all() -> Vec<Sample> {
-    let sample = |name, remark, lines| Sample { name, remark, lines };
     vec![
         sample(
             "27-missing",

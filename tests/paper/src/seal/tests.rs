@@ -3,6 +3,7 @@
 use super::*;
 use crate::day::Day;
 use crate::specimens::ERIKSSON_TD2;
+use crate::tlv::WRONG_LENGTHS;
 
 /// Section 8's header and message, with a version octet: 68 octets, the text's feature at 18.
 fn printed(version: u8) -> Vec<u8> {
@@ -119,16 +120,7 @@ fn features_that_are_passed_over() {
 #[test]
 fn features_that_are_wrongly_coded() {
     let text = text_feature_octets();
-    let lengths: [&[u8]; 7] = [
-        &[0x80],
-        &[0x81, 0x7f],
-        &[0x82, 0x00, 0xff],
-        &[0x83, 0x01, 0x00, 0x00],
-        &[0x84, 0x00, 0x00, 0x01, 0x00],
-        &[0xff],
-        &[0x82, 0xff, 0xff],
-    ];
-    for length in lengths {
+    for length in WRONG_LENGTHS {
         let bad = [&[0x05], length, &[0x00; 300][..]].concat();
         assert_eq!(refused(&behind(&[&bad, &text, &zone()])), (25, 18));
         assert_eq!(refused(&behind(&[&text, &bad, &zone()])), (25, 68));

@@ -6,7 +6,7 @@ use paper::form::Form;
 use paper::refusal::Refusal;
 use paper::seal::{Feature, MARKER, TEXT};
 use paper::text;
-use paper::tlv::tlv;
+use paper::tlv::{tlv, WRONG_LENGTHS};
 use shared::records::until;
 use shared::seals::{sound, Sound};
 use shared::seeds::Seeds;
@@ -82,18 +82,8 @@ pub fn with_bad_pairs(image: &[u8], pair: usize) -> Vec<Vec<u8>> {
 
 /// Features whose length is wrongly coded, or more than there is, before every feature and before FF; and the text's.
 fn coded(pieces: &Pieces) -> Vec<Damage> {
-    let lengths: [&[u8]; 8] = [
-        &[0x80],
-        &[0x81, 0x00],
-        &[0x81, 0x7f],
-        &[0x82, 0x00, 0xff],
-        &[0x83, 0x01, 0x00, 0x00],
-        &[0x84, 0x00, 0x00, 0x01, 0x00],
-        &[0xff],
-        &[0x82, 0xff, 0xff],
-    ];
     let mut all = Vec::new();
-    for (piece, length) in (FIELDS..=pieces.zone()).flat_map(|piece| lengths.map(|length| (piece, length))) {
+    for (piece, length) in (FIELDS..=pieces.zone()).flat_map(|piece| WRONG_LENGTHS.map(|length| (piece, length))) {
         let octets = [&[0x05], length, &pieces.pieces[piece]].concat();
         all.push(Damage::new(piece, octets, 25));
     }
