@@ -10,8 +10,8 @@ SEED ?=
 
 all: archive seals-archive
 
-# The archives that desk, scanner, install, compare and bench take. Where LAMPHUDET_ARCHIVE names one, that is taken as it is and not
-# built; likewise LAMPHUDET_SEALS_ARCHIVE, for seals.
+# The archives that desk, scanner, install, compare and bench take. Where LAMPHUDET_ARCHIVE names one, that is taken as it is
+# and not built; likewise LAMPHUDET_SEALS_ARCHIVE, for seals.
 ifdef LAMPHUDET_ARCHIVE
 ARCHIVE := $(abspath $(LAMPHUDET_ARCHIVE))
 archive:
