@@ -4,13 +4,13 @@ use Prim.Native.Nat.{ℕ, _≤_}
 use mathlib.Core.Path.{_≡_, refl, sym}
 use mathlib.Core.Bool.{Bool, true, false, cond, _&&_}
 use mathlib.Core.List.{List, _++_}
-use native.Mathlib.Omega.{arith}
 use borrow.Author.Tests.{le-leb, leb-true}
 use lib.Dec.{leb}
 use lib.ListN.{length, drop}
 use Rattle.lent.proofs.Bools.{and-both}
 use Rattle.refusal.specs.Outcome.{Outcome, passed, refused}
 use Rattle.refusal.specs.Length as told
+use Rattle.refusal.proofs.Outcomes.{refused-not-written}
 use Rattle.zone.specs.declared.record.Record.{Record}
 use Rattle.sound.specs.Sound.{isSound}
 use Rattle.entry.specs.Entry.{entryOf, size, isHouse, entryAnswer, entryOut}
@@ -22,9 +22,6 @@ pub record Enters (o : Outcome) (house : ℕ) (r : Record) (out : List ℕ) : Ty
   pub housed : isHouse house ≡ true
   pub sound : isSound r ≡ true
   pub room : size (r .«name_len») ≤ length out
-
-refused-not-written : {n p m : ℕ} → told.refused n p ≡ told.written m → ⊥
-refused-not-written e = let z : _≡_ {A = ℕ} 0 1 = cc in omega arith
 
 module _ (house : ℕ) (r : Record) (out : List ℕ) where
   -- the entry is written

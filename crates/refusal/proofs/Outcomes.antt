@@ -4,6 +4,7 @@ use mathlib.Core.Path.{_≡_, refl}
 use mathlib.Core.Bool.{Bool, true, false}
 use native.Mathlib.Omega.{arith}
 use Rattle.refusal.specs.Outcome.{Outcome, passed, refused, orElse, unless}
+use Rattle.refusal.specs.Length as told
 
 pub orElse-assoc : (a b c : Outcome) → orElse (orElse a b) c ≡ orElse a (orElse b c)
 orElse-assoc passed b c = refl
@@ -21,6 +22,10 @@ orElse-idle (refused n p) b c h = refl
 
 pub refused-not-passed : {n p : ℕ} → refused n p ≡ passed → ⊥
 refused-not-passed {n} {p} e = let z : _≡_ {A = ℕ} 0 1 = cc in omega arith
+
+-- the same of what a call that writes says
+pub refused-not-written : {n p m : ℕ} → told.refused n p ≡ told.written m → ⊥
+refused-not-written e = let z : _≡_ {A = ℕ} 0 1 = cc in omega arith
 
 pub both-passed : (a b : Outcome) → orElse a b ≡ passed → (a ≡ passed) × (b ≡ passed)
 both-passed passed b e = (refl, e)
