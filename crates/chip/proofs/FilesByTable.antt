@@ -9,6 +9,7 @@ use lib.Dec.{eqb, leb, ltb}
 use lib.ListN.{length, take, drop, getD, set, length-set}
 use lib.Seq.{getD-set-same, getD-set-other}
 use Rattle.lent.proofs.Bools.{and-both}
+use Rattle.refusal.specs.Numbers.{Why}
 use Rattle.refusal.specs.Outcome.{Outcome, passed, refused, unless, orElse}
 use Rattle.tlv.specs.declared.Stretch.{Stretch}
 use Rattle.tlv.specs.Read.{Read, value, refusal, andThen, outcomeIn}
@@ -60,7 +61,7 @@ allGroups w (f ∷ fs) = isGroup (getD w (f .start) 0) && allGroups w fs
 
 all-groups : (k : ℕ) (w : List ℕ) (at : ℕ) (fs : List File) → filesFrom k w at ≡ value fs → allGroups w fs ≡ true
 unfolding filesFrom allGroups
-all-groups zero w at fs e = absurd (never-value 10 at fs e)
+all-groups zero w at fs e = absurd (never-value _ at fs e)
 all-groups (suc k) w at fs e = go (leb (length w) at) e (λ v more h. all-groups k w (v .to) more h)
   where
     rest : Read (List File)
@@ -208,14 +209,14 @@ module _ (w tags table : List ℕ) (at : ℕ) (t : outcomeIn (files w at) ≡ pa
   unfolding filesBy
   lent-on v h e p = rw (in-next w at v h e t .0, p)
 
-  pub lent-refused : (v : Stretch) (n p : ℕ) → at < length w → fileAt w at ≡ value v
+  pub lent-refused : (v : Stretch) (n : Why) (p : ℕ) → at < length w → fileAt w at ≡ value v
       → fileBy w tags (record { start = at; held = v }) (getD w at 0) (getD table (groupOf (getD w at 0)) 0) ≡ refused n p
       → refused n p ≡ filesBy w tags table (filesIn (files w at))
   unfolding filesBy
   lent-refused v n p h e q = rw (in-next w at v h e t .0, q)
 
   -- no file fails to be one
-  pub lent-never : (n p : ℕ) → at < length w → fileAt w at ≡ refusal n p → ⊥
+  pub lent-never : (n : Why) (p : ℕ) → at < length w → fileAt w at ≡ refusal n p → ⊥
   unfolding outcomeIn
   lent-never n p h e = refused-not-passed (sym (ap outcomeIn (files-refused w at n p h e)) ∙ t)
 

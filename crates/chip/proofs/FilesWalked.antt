@@ -7,6 +7,7 @@ use native.Mathlib.Omega.{arith}
 use borrow.Author.Tests.{le-leb, lt-leb}
 use lib.Dec.{leb}
 use lib.ListN.{length, getD}
+use Rattle.refusal.specs.Numbers.{Why}
 use Rattle.tlv.specs.declared.Stretch.{Stretch}
 use Rattle.tlv.specs.Read.{Read, value, refusal, andThen, outcomeIn}
 use Rattle.tlv.specs.Element.{element}
@@ -25,7 +26,7 @@ told-then (refusal n p) go = refl
 file-there : (w : List ℕ) (at : ℕ) (v : Stretch) → fileAt w at ≡ value v
     → (isGroup (getD w at 0) ≡ true) × (element w at (getD w at 0) ≡ value v)
 unfolding fileAt
-file-there w at v e = kept-value (isGroup (getD w at 0)) (element w at (getD w at 0)) 10 at v e
+file-there w at v e = kept-value (isGroup (getD w at 0)) (element w at (getD w at 0)) _ at v e
 
 pub group-there : (w : List ℕ) (at : ℕ) (v : Stretch) → fileAt w at ≡ value v → isGroup (getD w at 0) ≡ true
 group-there w at v e = file-there w at v e .0
@@ -47,7 +48,7 @@ module _ (w : List ℕ) (at : ℕ) (here : at < length w) where
   unfolding filesFrom andThen before
   files-more k v e = rw (some-left, e)
 
-  files-stop : (k n p : ℕ) → fileAt w at ≡ refusal n p → filesFrom (suc k) w at ≡ refusal n p
+  files-stop : (k : ℕ) (n : Why) (p : ℕ) → fileAt w at ≡ refusal n p → filesFrom (suc k) w at ≡ refusal n p
   unfolding filesFrom andThen
   files-stop k n p e = rw (some-left, e)
 
@@ -84,7 +85,7 @@ unfolding files
 files-next w at v h e =
     files-enough (length w) (suc (length w)) w at (omega arith) (omega arith) ∙ files-more w at h (suc (length w)) v e
 
-pub files-refused : (w : List ℕ) (at n p : ℕ) → at < length w → fileAt w at ≡ refusal n p → files w at ≡ refusal n p
+pub files-refused : (w : List ℕ) (at : ℕ) (n : Why) (p : ℕ) → at < length w → fileAt w at ≡ refusal n p → files w at ≡ refusal n p
 unfolding files
 files-refused w at n p h e =
     files-enough (length w) (suc (length w)) w at (omega arith) (omega arith) ∙ files-stop w at h (suc (length w)) n p e

@@ -4,6 +4,7 @@ use mathlib.Core.Path.{_≡_, refl}
 use mathlib.Core.List.{List}
 use borrow.Author.Tests.{eq-eqb, ne-eqb}
 use lib.ListN.{length, getD}
+use Rattle.refusal.specs.Numbers.{by}
 use Rattle.refusal.specs.Outcome.{passed}
 use Rattle.tlv.specs.declared.Stretch.{Stretch}
 use Rattle.tlv.specs.Read.{Read, value, refusal, andThen, outcomeIn}
@@ -32,6 +33,6 @@ module _ (w : List ℕ) (group at : ℕ) (t : outcomeIn (files w at) ≡ passed)
   unfolding firstFile
   first-on v h e g = rw (in-next w at v h e t .0, ne-eqb (groupOf (getD w at 0)) group g)
 
-  pub first-missing : length w ≤ at → refusal 14 (length w) ≡ firstFile w group (filesIn (files w at))
+  pub first-missing : length w ≤ at → refusal (by 14) (length w) ≡ firstFile w group (filesIn (files w at))
   unfolding firstFile filesIn
   first-missing h = rw (files-done w at h)

@@ -4,6 +4,7 @@ use mathlib.Core.Path.{_≡_}
 use mathlib.Core.List.{List}
 use native.Mathlib.Omega.{arith}
 use lib.ListN.{length, take, drop, length-take, length-drop}
+use Rattle.refusal.specs.Numbers.{Why}
 use Rattle.refusal.specs.Outcome.{refused}
 use Rattle.tlv.specs.declared.Stretch.{Stretch}
 use Rattle.tlv.specs.Cut.{cut}
@@ -11,7 +12,7 @@ use Rattle.text.specs.Read.{readText}
 use Rattle.text.proofs.Near.{text-near}
 
 -- and so does its place in what holds the text
-pub moved-near : (s : List ℕ) (v : Stretch) (n p : ℕ) → v .from ≤ length s → readText (cut s v) .outcome ≡ refused n p
+pub moved-near : (s : List ℕ) (v : Stretch) (n : Why) (p : ℕ) → v .from ≤ length s → readText (cut s v) .outcome ≡ refused n p
     → v .from + p ≤ length s + 180
 unfolding cut
 moved-near s v n p h e =

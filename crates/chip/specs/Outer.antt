@@ -5,7 +5,7 @@ use mathlib.Core.Bool.{cond}
 use mathlib.Core.List.{List, [], _∷_}
 use lib.Dec.{leb}
 use lib.ListN.{length, getD}
-use Rattle.refusal.specs.Numbers.{numberOf}
+use Rattle.refusal.specs.Numbers.{by, whyOf}
 use Rattle.refusal.specs.Outcome.{Outcome, unless}
 use Rattle.tlv.specs.declared.Stretch.{Stretch}
 use Rattle.tlv.specs.Read.{Read, value, refusal, andThen, checked}
@@ -27,11 +27,11 @@ pub record File : Type 0 where
 
 -- the file that stands at a place: a group's tag, and a value that ends within the bytes
 unfoldable pub fileAt : List ℕ → ℕ → Read Stretch
-fileAt w at = cond (isGroup (getD w at 0)) (element w at (getD w at 0)) (refusal 10 at)
+fileAt w at = cond (isGroup (getD w at 0)) (element w at (getD w at 0)) (refusal (by 10) at)
 
 -- then group tags only, every file ending within the bytes; here at most so many steps, of which the last finds the end
 unfoldable pub filesFrom : ℕ → List ℕ → ℕ → Read (List File)
-filesFrom zero w at = refusal 10 at
+filesFrom zero w at = refusal (by 10) at
 filesFrom (suc more) w at =
     cond (leb (length w) at) (value [])
     (andThen (fileAt w at) (λ held. andThen (filesFrom more w (held .to))
@@ -55,4 +55,4 @@ walked w = checked (sizeCheck w) (outer w)
 -- the paper's number and values of each case
 abbrev pub walkedOf : Walked → Read Outer
 walkedOf (Parts o) = value o
-walkedOf (Refused r) = refusal (numberOf (r .cause)) (r .place)
+walkedOf (Refused r) = refusal (whyOf (r .cause)) (r .place)

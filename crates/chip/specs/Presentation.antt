@@ -4,6 +4,7 @@ use mathlib.Core.Bool.{cond}
 use mathlib.Core.List.{List, [], _∷_}
 use lib.Dec.{eqb}
 use lib.ListN.{length, take, getD}
+use Rattle.refusal.specs.Numbers.{by}
 use Rattle.refusal.specs.Outcome as outcome
 use Rattle.zone.specs.Record.{blank}
 use Rattle.zone.specs.declared.record.Record.{Record}
@@ -22,16 +23,16 @@ use Rattle.chip.specs.Files.{filesCheck}
 
 -- the first file with that group's tag; where there is none, 14 at the presentation's length
 unfoldable pub firstFile : List ℕ → ℕ → List File → Read File
-firstFile w group [] = refusal 14 (length w)
+firstFile w group [] = refusal (by 14) (length w)
 firstFile w group (f ∷ fs) = cond (eqb (groupOf (getD w (f .start) 0)) group) (value f) (firstFile w group fs)
 
 -- then the text's refusals, at their places in the presentation
 unfoldable pub moved : ℕ → Answer → Read Record
-moved at a = checked (by (a .outcome)) (value (a .kept))
+moved at a = checked (shifted (a .outcome)) (value (a .kept))
   where
-    by : outcome.Outcome → outcome.Outcome
-    by outcome.passed = outcome.passed
-    by (outcome.refused n p) = outcome.refused n (at + p)
+    shifted : outcome.Outcome → outcome.Outcome
+    shifted outcome.passed = outcome.passed
+    shifted (outcome.refused n p) = outcome.refused n (at + p)
 
 -- inside group 1: 5F1F and the text, exactly filling 61
 unfoldable pub textAt : List ℕ → ℕ → Read Record

@@ -3,7 +3,7 @@ ghost use mathlib.Core.Path.{_≡_};
 ghost use Prim.Native.Nat.{ℕ, _+_, _<_, _^_};
 ghost use lib.ListN.{length};
 ghost use Rattle.refusal.specs.Outcome.{outcomeOf, passed, refused};
-ghost use Rattle.refusal.specs.Numbers.{numberOf};
+ghost use Rattle.refusal.specs.Numbers.{Why, whyOf};
 ghost use Rattle.tlv.specs.Read.{refusal, outcomeIn};
 ghost use Rattle.text.specs.Read.{answerOf};
 ghost use Rattle.chip.specs.Outer as O;
@@ -23,7 +23,7 @@ use zone::record::Record;
 
 // Every refusal gives the blank record.
 pub(crate) fn refuse(why: Refusal) -> Reading
-    ensures { λ r. ⌜ answerOf r ≡ answerBy (refusal (numberOf (why .cause)) (why .place)) ⌝ }
+    ensures { λ r. ⌜ answerOf r ≡ answerBy (refusal (whyOf (why .cause)) (why .place)) ⌝ }
 {
     Reading {
         verdict: Verdict::Refused(why),
@@ -33,7 +33,7 @@ pub(crate) fn refuse(why: Refusal) -> Reading
 
 // A text's refusal stands where the text does.
 fn move_by(at: usize, reading: Reading) -> Reading
-    requires { ⌜ ((n p : ℕ) → outcomeOf (reading .verdict) ≡ refused n p → at + p < 2 ^ 64) ⌝ }
+    requires { ⌜ ((n : Why) (p : ℕ) → outcomeOf (reading .verdict) ≡ refused n p → at + p < 2 ^ 64) ⌝ }
     ensures { λ r. ⌜ answerOf r ≡ answerBy (moved at (answerOf reading)) ⌝ }
 {
     let verdict = reading.verdict;

@@ -15,6 +15,7 @@ use Rattle.text.specs.Number.{spanOf}
 use Rattle.text.specs.Read.{recordBy}
 use Rattle.entry.specs.Entry.{entryOf}
 use Rattle.tlv.specs.declared.Stretch.{Stretch}
+use Rattle.refusal.specs.Numbers.{numberOf}
 use Rattle.tlv.specs.Read.{Read, value, refusal}
 use Rattle.tlv.specs.Element.{element}
 use Rattle.tlv.specs.Tags.{octetString}
@@ -42,8 +43,8 @@ isRead (value v) = true
 isRead (refusal n p) = false
 
 unfoldable pub isRefused : ℕ → Read Stretch → Bool
-isRefused by (value v) = false
-isRefused by (refusal n p) = eqb n by
+isRefused n (value v) = false
+isRefused n (refusal why p) = eqb (numberOf why) n
 
 -- an octet string with this length, and so many octets
 unfoldable pub told : List ℕ → ℕ → Read Stretch

@@ -31,13 +31,22 @@ digit-from : (s : List ℕ) → code "0" ≤ digitOf s
 unfolding digitOf
 digit-from s = omega arith
 
-pub digit-character : (s : List ℕ) → isCharacter (digitOf s) ≡ true
-unfolding isCharacter isDigit
-digit-character s = rw (
+pub digit-digit : (s : List ℕ) → isDigit (digitOf s) ≡ true
+unfolding isDigit
+digit-digit s = rw (
   le-leb (code "0") (digitOf s) (digit-from s),
   le-leb (digitOf s) (code "9")
       (omega (arith, digit-below s)),
 )
+
+-- what it counts is the check
+pub digit-number : (s : List ℕ) → digitOf s - code "0" ≡ checkOf s
+unfolding digitOf
+digit-number s = omega arith
+
+pub digit-character : (s : List ℕ) → isCharacter (digitOf s) ≡ true
+unfolding isCharacter
+digit-character s = rw (digit-digit s)
 
 pub digit-solid : (s : List ℕ) → isFiller (digitOf s) ≡ false
 unfolding isFiller

@@ -10,6 +10,7 @@ use lib.ListN.{length}
 use Rattle.lent.specs.Octets.{stands}
 use Rattle.lent.proofs.Bools.{and-both}
 use Rattle.lent.proofs.Left.{left, left-fewer, countFrom, stands-counted}
+use Rattle.refusal.specs.Numbers.{by}
 use Rattle.refusal.specs.Outcome.{passed, refused}
 use Rattle.refusal.proofs.Outcomes.{refused-not-passed}
 use Rattle.tlv.specs.Tags.{groupOf, isGroup}
@@ -43,8 +44,8 @@ unfolding knownFrom onceFrom
 tags-left p q [] before k o = omega arith
 tags-left p q (c ∷ t) before k o = go (isGroup c) refl (stands c before) refl k o (tags-left (suc p) (suc q) t (c ∷ before))
   where
-    go : (a : Bool) → isGroup c ≡ a → (b : Bool) → stands c before ≡ b → cond a (knownFrom (suc p) t) (refused 11 p) ≡ passed
-        → cond b (refused 11 q) (onceFrom (suc q) (c ∷ before) t) ≡ passed
+    go : (a : Bool) → isGroup c ≡ a → (b : Bool) → stands c before ≡ b → cond a (knownFrom (suc p) t) (refused (by 11) p) ≡ passed
+        → cond b (refused (by 11) q) (onceFrom (suc q) (c ∷ before) t) ≡ passed
         → (knownFrom (suc p) t ≡ passed → onceFrom (suc q) (c ∷ before) t ≡ passed → length t ≤ left groupTags (c ∷ before))
         → suc (length t) ≤ left groupTags before
     go true g false s k o rest = omega (arith, rest k o, left-fewer groupTags before c (group-tag c g) s)

@@ -7,6 +7,7 @@ use native.Mathlib.Numerals.{add-one}
 use native.Mathlib.Omega.{arith}
 use lib.ListN.{length, drop, getD, drop-of-length-le}
 use lib.Seq.{drop-cons}
+use Rattle.refusal.specs.Numbers.{by}
 use Rattle.refusal.specs.Outcome.{Outcome, passed, refused}
 use Rattle.lent.specs.Octets.{stands}
 use Rattle.tlv.specs.Tags.{isGroup}
@@ -19,7 +20,7 @@ module _ (s : List ℕ) (from i : ℕ) (r : Outcome) (left : knownFrom (from + i
   unfolding knownFrom
   known-more h t = let k : from + (i + 1) ≡ suc (from + i) = omega arith in rw (k, add-one i) (rw (drop-cons s i 0 h, t) at left)
 
-  pub known-stop : i < length s → isGroup (getD s i 0) ≡ false → refused 11 (from + i) ≡ r
+  pub known-stop : i < length s → isGroup (getD s i 0) ≡ false → refused (by 11) (from + i) ≡ r
   unfolding knownFrom
   known-stop h t = rw (drop-cons s i 0 h, t) at left
 
@@ -44,7 +45,7 @@ module _ (s : List ℕ) (from i : ℕ) (r : Outcome) (left : onceFrom (from + i)
   unfolding onceFrom backFrom
   once-more h t = let k : from + (i + 1) ≡ suc (from + i) = omega arith in rw (k, add-one i) (rw (drop-cons s i 0 h, t) at left)
 
-  pub once-stop : i < length s → stands (getD s i 0) (backFrom i s) ≡ true → refused 11 (from + i) ≡ r
+  pub once-stop : i < length s → stands (getD s i 0) (backFrom i s) ≡ true → refused (by 11) (from + i) ≡ r
   unfolding onceFrom
   once-stop h t = rw (drop-cons s i 0 h, t) at left
 

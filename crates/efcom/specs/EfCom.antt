@@ -3,6 +3,7 @@ use Prim.Native.Nat.{ℕ, suc}
 use mathlib.Core.Bool.{Bool, cond, _&&_}
 use mathlib.Core.List.{List, [], _∷_}
 use lib.ListN.{take}
+use Rattle.refusal.specs.Numbers.{by}
 use Rattle.refusal.specs.Outcome.{Outcome, passed, refused, unless, orElse}
 use Rattle.zone.specs.Alphabet.{isDigit, every}
 use Rattle.tlv.specs.declared.Stretch.{Stretch}
@@ -16,12 +17,12 @@ use Rattle.tlv.specs.Tags as Tag
 -- in the list, first an unknown tag, at its octet
 unfoldable pub knownFrom : ℕ → List ℕ → Outcome
 knownFrom place [] = passed
-knownFrom place (c ∷ t) = cond (isGroup c) (knownFrom (suc place) t) (refused 11 place)
+knownFrom place (c ∷ t) = cond (isGroup c) (knownFrom (suc place) t) (refused (by 11) place)
 
 -- then a repeated one, at its octet
 unfoldable pub onceFrom : ℕ → List ℕ → List ℕ → Outcome
 onceFrom place before [] = passed
-onceFrom place before (c ∷ t) = cond (stands c before) (refused 11 place) (onceFrom (suc place) (c ∷ before) t)
+onceFrom place before (c ∷ t) = cond (stands c before) (refused (by 11) place) (onceFrom (suc place) (c ∷ before) t)
 
 -- both; more than fifteen are never left to refuse (`fifteen-tags`)
 unfoldable pub tagsCheck : List ℕ → Stretch → Outcome

@@ -1,5 +1,6 @@
 // Stage 3, EF.COM: the version, the Unicode version and the tag list, each from where the one before it ends.
 ghost use mathlib.Core.Path.{_≡_};
+ghost use Rattle.refusal.specs.Numbers.{by};
 ghost use Rattle.zone.specs.Alphabet.{isDigit};
 ghost use Rattle.zone.specs.Alphabet.{every};
 ghost use Rattle.tlv.specs.Read.{value, refusal, checked};
@@ -24,7 +25,7 @@ use zone::alphabet::is_digit;
 
 // 11, at the element's tag or at a tag of the list.
 fn refuse(at: usize) -> Taken
-    ensures { λ r. ⌜ takenOf r ≡ refusal 11 at ⌝ }
+    ensures { λ r. ⌜ takenOf r ≡ refusal (by 11) at ⌝ }
 {
     Taken::Refused(Refusal::at(Cause::EfCom, at))
 }

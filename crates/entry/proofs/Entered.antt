@@ -8,6 +8,7 @@ use borrow.Author.Tests.{le-leb, leb-true}
 use lib.Dec.{leb}
 use lib.ListN.{length, drop}
 use Rattle.lent.proofs.Bools.{and-both}
+use Rattle.refusal.specs.Numbers.{Why, by}
 use Rattle.refusal.specs.Outcome.{Outcome, passed, refused}
 use Rattle.refusal.specs.Length as told
 use Rattle.refusal.proofs.Outcomes.{refused-not-written}
@@ -40,13 +41,13 @@ module _ (house : ℕ) (r : Record) (out : List ℕ) where
   entered-only passed n e = sides (isHouse house && isSound r) refl e
     where
       room : (b : Bool) → leb (size (r .«name_len»)) (length out) ≡ b
-          → cond b (told.written (size (r .«name_len»))) (told.refused 16 0) ≡ told.written n → b ≡ true
+          → cond b (told.written (size (r .«name_len»))) (told.refused (by 16) 0) ≡ told.written n → b ≡ true
       room true q k = refl
       room false q k = absurd (refused-not-written k)
 
       sides : (b : Bool) → isHouse house && isSound r ≡ b
-          → cond b (cond (leb (size (r .«name_len»)) (length out)) (told.written (size (r .«name_len»))) (told.refused 16 0))
-          (told.refused 17 0) ≡ told.written n → Enters passed house r out
+          → cond b (cond (leb (size (r .«name_len»)) (length out)) (told.written (size (r .«name_len»))) (told.refused (by 16) 0))
+          (told.refused (by 17) 0) ≡ told.written n → Enters passed house r out
       sides true q k =
           let both = and-both (isHouse house) (isSound r) q in
           let fits = leb-true (size (r .«name_len»)) (length out) (room (leb (size (r .«name_len»)) (length out)) refl k) in
@@ -54,13 +55,13 @@ module _ (house : ℕ) (r : Record) (out : List ℕ) where
       sides false q k = absurd (refused-not-written k)
 
   -- a refusal changes nothing
-  pub not-entered : (o : Outcome) (n p : ℕ) → enteredAnswer o house r out ≡ told.refused n p → enteredOut o house r out ≡ out
+  pub not-entered : (o : Outcome) (n : Why) (p : ℕ) → enteredAnswer o house r out ≡ told.refused n p → enteredOut o house r out ≡ out
   unfolding enteredAnswer enteredOut entryAnswer entryOut
   not-entered (refused m q) n p e = refl
   not-entered passed n p e = go (isHouse house && isSound r) (leb (size (r .«name_len»)) (length out)) e
     where
       go : (a b : Bool)
-          → cond a (cond b (told.written (size (r .«name_len»))) (told.refused 16 0)) (told.refused 17 0) ≡ told.refused n p
+          → cond a (cond b (told.written (size (r .«name_len»))) (told.refused (by 16) 0)) (told.refused (by 17) 0) ≡ told.refused n p
           → cond a (cond b (entryOf house r ++ drop (size (r .«name_len»)) out) out) out ≡ out
       go true true k = absurd (refused-not-written (sym k))
       go true false k = refl

@@ -6,6 +6,7 @@ use mathlib.Core.Path.{_≡_}
 use lib.Dec.{leb}
 use lib.ListN.{length, take, drop}
 use Rattle.refusal.specs.declared.Written.{Written}
+use Rattle.refusal.specs.Numbers.{by}
 use Rattle.refusal.specs.Length.{Length, written, refused, lengthOf}
 use Rattle.zone.specs.declared.record.Record.{Record}
 use Rattle.sound.specs.Sound.{isSound}
@@ -49,7 +50,7 @@ isHouse house = leb 1 house && leb house 32767
 unfoldable pub entryAnswer : ℕ → Record → List ℕ → Length
 entryAnswer house r out =
     cond (isHouse house && isSound r)
-    (cond (leb (size (r .«name_len»)) (length out)) (written (size (r .«name_len»))) (refused 16 0)) (refused 17 0)
+    (cond (leb (size (r .«name_len»)) (length out)) (written (size (r .«name_len»))) (refused (by 16) 0)) (refused (by 17) 0)
 
 -- a refusal changes no octet, a success those of the entry and no others
 unfoldable pub entryOut : ℕ → Record → List ℕ → List ℕ

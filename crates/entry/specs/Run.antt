@@ -4,7 +4,7 @@ use mathlib.Core.Bool.{Bool, cond, _&&_}
 use mathlib.Core.List.{List, [], _∷_}
 use lib.Dec.{eqb, leb, ltb}
 use lib.ListN.{length, drop}
-use Rattle.refusal.specs.Numbers.{numberOf}
+use Rattle.refusal.specs.Numbers.{Why, by, whyOf}
 use Rattle.zone.specs.declared.form.Form.{Form}
 use Rattle.zone.specs.declared.form.Recognised.{Recognised}
 use Rattle.zone.specs.declared.form.Recognised.the-variants.{As, Unknown}
@@ -26,13 +26,13 @@ use Rattle.entry.specs.declared.run.Standing as code
 pub data Onward : Type 0 where
   next : ℕ → Onward
   none : Onward
-  refused : (number place : ℕ) → Onward
+  refused : (why : Why) (place : ℕ) → Onward
 
 -- the paper's number and values of each case
 abbrev pub onwardOf : Step → Onward
 onwardOf (Next offset) = next offset
 onwardOf End = none
-onwardOf (Refused r) = refused (numberOf (r .cause)) (r .place)
+onwardOf (Refused r) = refused (whyOf (r .cause)) (r .place)
 
 -- what stands at an offset, in the paper's terms
 pub record Standing : Type 0 where
@@ -93,7 +93,7 @@ isEntry f s = isHouse (houseIn s) && (isWhole s && isSound (recordIn f s))
 
 -- 18, at the start of that entry: the blank record, house 0
 unfoldable pub noEntry : ℕ → Standing
-noEntry at = record { onward = refused 18 at; house = 0; kept = blank }
+noEntry at = record { onward = refused (by 18) at; house = 0; kept = blank }
 
 unfoldable pub entryBy : Recognised → List ℕ → ℕ → Standing
 entryBy (As f) s at =

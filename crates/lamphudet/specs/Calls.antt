@@ -4,6 +4,7 @@ use mathlib.Core.Bool.{Bool, false, cond}
 use mathlib.Core.List.{List}
 use lib.Dec.{eqb}
 use lib.ListN.{length}
+use Rattle.refusal.specs.Numbers.{by}
 use Rattle.refusal.specs.Length.{Length, refused}
 use Rattle.text.specs.Read as reading
 use Rattle.writing.specs.Answer.{textAnswer, textOut}
@@ -11,6 +12,7 @@ use Rattle.entry.specs.Entered.{enteredAnswer, enteredOut}
 use Rattle.entry.specs.Run as run
 use Rattle.tlv.specs.declared.Stretch as tlv
 use Rattle.lamphudet.specs.declared.AnswerInC.{AnswerInC}
+use Rattle.lamphudet.specs.Answer.{notRefused, refusedInC}
 use Rattle.lamphudet.specs.declared.StretchInC.{StretchInC}
 
 -- what was read is entered under the house
@@ -24,21 +26,21 @@ readOut house a out = enteredOut (a .outcome) house (a .kept) out
 unfoldable pub isOnly : run.Onward → ℕ → Bool
 isOnly (run.next offset) n = eqb offset n
 isOnly run.none n = false
-isOnly (run.refused number place) n = false
+isOnly (run.refused why place) n = false
 
 -- the text writer is given exactly one entry and tests 18 (at 0, also for none or anything after it), then 16
 unfoldable pub writtenAnswer : List ℕ → List ℕ → Length
 writtenAnswer e out = cond (isOnly (run.readEntry e 0 .onward) (length e)) (textAnswer (run.readEntry e 0 .kept) out)
-    (refused 18 0)
+    (refused (by 18) 0)
 
 unfoldable pub writtenOut : List ℕ → List ℕ → List ℕ
 writtenOut e out = cond (isOnly (run.readEntry e 0 .onward) (length e)) (textOut (run.readEntry e 0 .kept) out) out
 
 -- a run's call answers with the next offset alone; at the end with 0 and 0
 unfoldable pub nextInC : run.Onward → AnswerInC
-nextInC (run.next offset) = record { number = 0; value = offset }
-nextInC run.none = record { number = 0; value = 0 }
-nextInC (run.refused number place) = record { number = number; value = place }
+nextInC (run.next offset) = notRefused offset
+nextInC run.none = notRefused 0
+nextInC (run.refused why place) = refusedInC why place
 
 -- in C the file of a group is a start and a length
 unfoldable pub stretchInC : tlv.Stretch → StretchInC

@@ -1,10 +1,10 @@
-// What C receives of an answer: two numbers, or the fields of a record.
+// What C receives of an answer: its numbers, or the fields of a record.
 ghost use mathlib.Core.Path.{_≡_};
 ghost use Prim.Native.Nat.{_<_};
 ghost use Rattle.refusal.specs.Length.{lengthOf, refused};
-ghost use Rattle.refusal.specs.Numbers.{numberOf};
+ghost use Rattle.refusal.specs.Numbers.{whyOf};
 ghost use Rattle.entry.specs.Run.{onwardOf};
-ghost use Rattle.lamphudet.specs.Answer.{inC};
+ghost use Rattle.lamphudet.specs.Answer.{notRefused, inC};
 ghost use Rattle.lamphudet.specs.Calls.{nextInC, stretchInC};
 ghost use Rattle.lamphudet.specs.Opened.{recordInC};
 use crate::AnswerInC;
@@ -12,16 +12,28 @@ use crate::RecordInC;
 use crate::StretchInC;
 use entry::codes::form_code;
 use entry::run::Step;
+use refusal::NO_DIGIT;
 use refusal::Refusal;
 use refusal::Written;
 use zone::record::Record;
 
+fn not_refused(value: u64) -> AnswerInC
+    ensures { λ r. ⌜ r ≡ notRefused value ⌝ }
+{
+    AnswerInC {
+        number: 0,
+        expected: NO_DIGIT,
+        value,
+    }
+}
+
 fn denied(refusal: Refusal) -> AnswerInC
-    ensures { λ r. ⌜ r ≡ inC (refused (numberOf (refusal .cause)) (refusal .place)) ⌝ }
+    ensures { λ r. ⌜ r ≡ inC (refused (whyOf (refusal .cause)) (refusal .place)) ⌝ }
 {
     let cause = refusal.cause;
     AnswerInC {
         number: cause.number(),
+        expected: cause.expected(),
         value: refusal.place as u64,
     }
 }
@@ -30,10 +42,7 @@ pub fn in_c(answer: Written) -> AnswerInC
     ensures { λ r. ⌜ r ≡ inC (lengthOf answer) ⌝ }
 {
     match answer {
-        Written::Octets(n) => AnswerInC {
-            number: 0,
-            value: n as u64,
-        },
+        Written::Octets(n) => not_refused(n as u64),
         Written::Refused(refusal) => denied(refusal),
     }
 }
@@ -42,14 +51,8 @@ pub fn next_in_c(step: Step) -> AnswerInC
     ensures { λ r. ⌜ r ≡ nextInC (onwardOf step) ⌝ }
 {
     match step {
-        Step::Next(offset) => AnswerInC {
-            number: 0,
-            value: offset as u64,
-        },
-        Step::End => AnswerInC {
-            number: 0,
-            value: 0,
-        },
+        Step::Next(offset) => not_refused(offset as u64),
+        Step::End => not_refused(0),
         Step::Refused(refusal) => denied(refusal),
     }
 }

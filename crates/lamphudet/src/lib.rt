@@ -17,9 +17,11 @@ mod as_entry;
 mod border;
 
 // What C receives: number 0 and how many octets were written or where a run goes on, or the refusal's number and its place.
+// With a wrong check digit, 9, stands the digit that was expected, and 255 else.
 #[repr(C)]
 pub struct AnswerInC {
     pub number: u32,
+    pub expected: u32,
     pub value: u64,
 }
 

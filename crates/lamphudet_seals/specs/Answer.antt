@@ -2,6 +2,7 @@
 -- entry (document 01, "What the server lends and gets"); after the seal's own refusals come 17 and 16, as for a text.
 use Prim.Native.Nat.{ℕ, _-_}
 use mathlib.Core.List.{List}
+use Rattle.refusal.specs.Numbers.{noDigit, numberOf, expectedOf}
 use Rattle.refusal.specs.Length.{Length, written, refused}
 use Rattle.tlv.specs.declared.Stretch.{Stretch}
 use Rattle.entry.specs.Entered.{enteredAnswer, enteredOut}
@@ -20,10 +21,11 @@ dayInC d = record { year = d .year; month = d .month; day = d .day }
 unfoldable pub stretchInC : Stretch → StretchInC
 stretchInC v = record { start = v .from; length = v .to - v .from }
 
--- a number, a value and what a seal says
-unfoldable pub fieldsInC : (number value : ℕ) → Header → Stretch → SealInC
-fieldsInC number value h v = record {
+-- a number, an expected digit, a value and what a seal says
+unfoldable pub fieldsInC : (number expected value : ℕ) → Header → Stretch → SealInC
+fieldsInC number expected value h v = record {
   number = number;
+  expected = expected;
   value = value;
   signature = stretchInC v;
   issued = dayInC (h .issued);
@@ -39,8 +41,8 @@ fieldsInC number value h v = record {
 
 -- 0 and how many octets of entry were written; a refusal, 17 and 16 included, gives the blank header and no signature
 unfoldable pub sealInC : Length → Header → Stretch → SealInC
-sealInC (written n) h v = fieldsInC 0 n h v
-sealInC (refused number place) h v = fieldsInC number place blankHeader (record { from = 0; to = 0 })
+sealInC (written n) h v = fieldsInC 0 noDigit n h v
+sealInC (refused why place) h v = fieldsInC (numberOf why) (expectedOf why) place blankHeader (record { from = 0; to = 0 })
 
 unfoldable pub readSealInC : ℕ → List ℕ → List ℕ → SealInC
 readSealInC house s out =

@@ -1,10 +1,11 @@
-// An answer as it passes to C: a number, a value and the seal's own fields.
+// An answer as it passes to C: a number, an expected digit, a value and the seal's own fields.
 ghost use mathlib.Core.Path.{_≡_};
 ghost use Rattle.refusal.specs.Length.{lengthOf};
 ghost use Rattle.lamphudet_seals.specs.Answer.{dayInC, stretchInC, fieldsInC, sealInC};
 use crate::DayInC;
 use crate::SealInC;
 use crate::StretchInC;
+use refusal::NO_DIGIT;
 use refusal::Written;
 use seal_header::day::Day;
 use seal_header::header::Header;
@@ -31,8 +32,14 @@ fn stretch_in_c(v: Stretch) -> StretchInC
     }
 }
 
-fn fields_in_c(number: u32, value: u64, header: Header, signature: Stretch) -> SealInC
-    ensures { λ r. ⌜ r ≡ fieldsInC number value header signature ⌝ }
+fn fields_in_c(
+    number: u32,
+    expected: u32,
+    value: u64,
+    header: Header,
+    signature: Stretch,
+) -> SealInC
+    ensures { λ r. ⌜ r ≡ fieldsInC number expected value header signature ⌝ }
 {
     let issued = header.issued;
     let signed_on = header.signed_on;
@@ -41,6 +48,7 @@ fn fields_in_c(number: u32, value: u64, header: Header, signature: Stretch) -> S
     let reference = header.reference;
     SealInC {
         number,
+        expected,
         value,
         signature: stretch_in_c(signature),
         issued: day_in_c(issued),
@@ -60,12 +68,13 @@ pub(crate) fn seal_in_c(written: Written, header: Header, signature: Stretch) ->
     ensures { λ r. ⌜ r ≡ sealInC (lengthOf written) header signature ⌝ }
 {
     match written {
-        Written::Octets(n) => fields_in_c(0, n as u64, header, signature),
+        Written::Octets(n) => fields_in_c(0, NO_DIGIT, n as u64, header, signature),
         Written::Refused(refusal) => {
             let cause = refusal.cause;
             let none = Stretch { from: 0, to: 0 };
             let blank = Header::blank();
-            fields_in_c(cause.number(), refusal.place as u64, blank, none)
+            let expected = cause.expected();
+            fields_in_c(cause.number(), expected, refusal.place as u64, blank, none)
         }
     }
 }

@@ -21,10 +21,11 @@ pub struct StretchInC {
 }
 
 // What C receives: number 0, how many octets of entry were written, and what the seal says; or the refusal's number and its
-// place, over blank fields.
+// place, over blank fields. With a wrong check digit, 9, stands the digit that was expected, and 255 else.
 #[repr(C)]
 pub struct SealInC {
     pub number: u32,
+    pub expected: u32,
     pub value: u64,
     pub signature: StretchInC,
     pub issued: DayInC,

@@ -11,6 +11,7 @@ use borrow.Author.Tests.{eq-eqb, ne-eqb, eqb-true, eqb-false}
 use lib.Dec.{eqb, leb}
 use lib.ListN.{length, take, getD, set, length-set, length-replicate, getD-replicate}
 use lib.Seq.{getD-set-same, getD-set-other, ext-getD}
+use Rattle.refusal.specs.Numbers.{by}
 use Rattle.refusal.specs.Outcome.{Outcome, passed, refused, unless, orElse}
 use Rattle.tlv.specs.Read.{Read, value, refusal, andThen, checked, outcomeIn}
 use Rattle.object.specs.declared.entries.Seen.{Seen}
@@ -32,7 +33,7 @@ AllSound (e ∷ es) = EntrySound e × AllSound es
 
 pub all-sound : (k : ℕ) (s : List ℕ) (at : ℕ) (es : List GroupHash) → entriesFrom k s at ≡ value es → AllSound es
 unfolding entriesFrom AllSound
-all-sound zero s at es h = absurd (never-value 10 at es h)
+all-sound zero s at es h = absurd (never-value _ at es h)
 all-sound (suc k) s at es h = go (leb (length s) at) h (λ from rest. all-sound k s from rest)
   where
     go : (b : Bool)
@@ -111,7 +112,7 @@ tallied-kept (e ∷ es) t some =
 unfoldable repeatedAt : ℕ → Outcome
 repeatedAt p = unless (eqb p 0) 12 p
 
-repeated-some : (p : ℕ) → 0 < p → repeatedAt p ≡ refused 12 p
+repeated-some : (p : ℕ) → 0 < p → repeatedAt p ≡ refused (by 12) p
 unfolding repeatedAt
 repeated-some p h = rw (ne-eqb p 0 (λ z. omega arith))
 

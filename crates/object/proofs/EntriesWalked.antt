@@ -8,6 +8,7 @@ use native.Mathlib.Omega.{arith}
 use borrow.Author.Tests.{le-leb, lt-leb}
 use lib.Dec.{leb}
 use lib.ListN.{length}
+use Rattle.refusal.specs.Numbers.{Why}
 use Rattle.tlv.specs.Read.{Read, value, refusal, andThen}
 use Rattle.tlv.proofs.Steps.{steps-enough}
 use Rattle.object.specs.declared.entries.Seen.{Seen}
@@ -26,7 +27,7 @@ module _ (s : List ℕ) (at : ℕ) (here : at < length s) where
   unfolding entriesFrom andThen
   entries-more k e h = rw (some-left, h)
 
-  entries-stop : (k n p : ℕ) → entryAt s at ≡ refusal n p → entriesFrom (suc k) s at ≡ refusal n p
+  entries-stop : (k : ℕ) (n : Why) (p : ℕ) → entryAt s at ≡ refusal n p → entriesFrom (suc k) s at ≡ refusal n p
   unfolding entriesFrom andThen
   entries-stop k n p h = rw (some-left, h)
 
@@ -81,7 +82,7 @@ tally-step s at t e h q =
     sym (ap (λ m. andThen m (λ es. value (tallied t es))) (one-more s at ∙ entries-more s at h (suc (length s)) e q)
     ∙ counted-first (entries s (e .end)) t e)
 
-pub tally-refused : (s : List ℕ) (at : ℕ) (t : Seen) (n p : ℕ) → at < length s → entryAt s at ≡ refusal n p
+pub tally-refused : (s : List ℕ) (at : ℕ) (t : Seen) (n : Why) (p : ℕ) → at < length s → entryAt s at ≡ refusal n p
     → tallyFrom s at t ≡ refusal n p
 unfolding tallyFrom andThen
 tally-refused s at t n p h q = rw (one-more s at ∙ entries-stop s at h (suc (length s)) n p q)

@@ -7,6 +7,7 @@ use native.Mathlib.Omega.{arith}
 use lib.ListN.{length}
 use Rattle.lent.specs.Octets.{stands}
 use Rattle.lent.proofs.Left.{left, left-fewer, countFrom, stands-counted}
+use Rattle.refusal.specs.Numbers.{by}
 use Rattle.refusal.specs.Outcome.{passed, refused}
 use Rattle.refusal.proofs.Outcomes.{refused-not-passed}
 use Rattle.tlv.specs.Read.{value}
@@ -26,7 +27,7 @@ entries-left [] before n o = omega arith
 entries-left (e ∷ es) before n o = go (stands (e .group) before) refl o (entries-left es (e .group ∷ before) (n .1))
   where
     go : (b : Bool) → stands (e .group) before ≡ b
-        → cond b (refused 12 (e .place)) (numbersOnce (e .group ∷ before) es) ≡ passed
+        → cond b (refused (by 12) (e .place)) (numbersOnce (e .group ∷ before) es) ≡ passed
         → (numbersOnce (e .group ∷ before) es ≡ passed → count es ≤ left (countFrom 16 1) (e .group ∷ before))
         → suc (count es) ≤ left (countFrom 16 1) before
     go true s o rest = absurd (refused-not-passed o)

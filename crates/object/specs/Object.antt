@@ -5,6 +5,7 @@ use mathlib.Core.Bool.{Bool, cond, _&&_, _||_}
 use mathlib.Core.List.{List, [], _∷_, _++_}
 use lib.Dec.{eqb, leb}
 use lib.ListN.{length, take, getD}
+use Rattle.refusal.specs.Numbers.{by}
 use Rattle.refusal.specs.Outcome.{Outcome, passed, refused, unless, orElse}
 use Rattle.tlv.specs.declared.Stretch.{Stretch}
 use Rattle.tlv.specs.Read.{Read, value, refusal, andThen, checked}
@@ -41,7 +42,7 @@ entryAt s at = andThen (element s at Tag.sequence) (λ v. numberAt (take (v .to)
 
 -- entries to the end of what holds them; here at most so many steps, of which the last finds the end
 unfoldable pub entriesFrom : ℕ → List ℕ → ℕ → Read (List GroupHash)
-entriesFrom zero s at = refusal 10 at
+entriesFrom zero s at = refusal (by 10) at
 entriesFrom (suc more) s at =
     cond (leb (length s) at) (value [])
     (andThen (entryAt s at) (λ e. andThen (entriesFrom more s (e .end)) (λ rest. value (e ∷ rest))))
@@ -53,7 +54,7 @@ entries s at = entriesFrom (suc (length s)) s at
 -- after all entries: a repeated number (12 at its integer)
 unfoldable pub numbersOnce : List ℕ → List GroupHash → Outcome
 numbersOnce before [] = passed
-numbersOnce before (e ∷ es) = cond (stands (e .group) before) (refused 12 (e .place)) (numbersOnce (e .group ∷ before) es)
+numbersOnce before (e ∷ es) = cond (stands (e .group) before) (refused (by 12) (e .place)) (numbersOnce (e .group ∷ before) es)
 
 -- the number of entries
 unfoldable pub count : List GroupHash → ℕ

@@ -1,7 +1,7 @@
 // The entries of a security object, walked once.
 ghost use mathlib.Core.Path.{_≡_};
 ghost use Prim.Native.Nat.{_<_, _^_};
-ghost use Rattle.refusal.specs.Numbers.{numberOf};
+ghost use Rattle.refusal.specs.Numbers.{whyOf};
 ghost use Rattle.refusal.specs.Outcome.{outcomeOf};
 ghost use Rattle.tlv.specs.Read.{refusal, outcomeIn};
 ghost use Rattle.object.specs.Object as O;
@@ -43,7 +43,7 @@ pub struct Walk {
 }
 
 fn refuse(cause: Cause, at: usize) -> HashRead
-    ensures { λ r. ⌜ T.groupHashOf r ≡ refusal (numberOf cause) at ⌝ }
+    ensures { λ r. ⌜ T.groupHashOf r ≡ refusal (whyOf cause) at ⌝ }
 {
     HashRead::Refused(Refusal::at(cause, at))
 }

@@ -1,6 +1,6 @@
 // Stage 4, the security object: the version, the algorithm and the entries, each from where the one before it ends.
 ghost use mathlib.Core.Path.{_≡_};
-ghost use Rattle.refusal.specs.Numbers.{numberOf};
+ghost use Rattle.refusal.specs.Numbers.{whyOf};
 ghost use Rattle.refusal.specs.Outcome.{outcomeOf};
 ghost use Rattle.tlv.specs.Read.{value, refusal, outcomeIn};
 ghost use Rattle.object.specs.Object as O;
@@ -28,7 +28,7 @@ pub struct ObjectRead {
 }
 
 fn refused(why: Refusal) -> ObjectRead
-    ensures { λ r. ⌜ T.objectAnswerOf r ≡ T.objectAnswer (refusal (numberOf (why .cause)) (why .place)) ⌝ }
+    ensures { λ r. ⌜ T.objectAnswerOf r ≡ T.objectAnswer (refusal (whyOf (why .cause)) (why .place)) ⌝ }
 {
     ObjectRead {
         verdict: Verdict::Refused(why),

@@ -6,6 +6,7 @@ use mathlib.Core.Logic.{_↔_}
 use mathlib.Core.Bool.{true}
 use mathlib.Core.List.{List, [], _++_}
 use lib.ListN.{length, drop}
+use Rattle.refusal.specs.Numbers.{Why}
 use Rattle.refusal.specs.Outcome.{passed, refused}
 use Rattle.zone.specs.declared.record.Record.{Record}
 use Rattle.zone.specs.Record.{blank}
@@ -169,7 +170,7 @@ passed-value (value r) e = (r, refl, refl)
 passed-value (refusal n p) e = absurd (refused-not-passed e)
 
 -- every refusal gives the blank record
-pub presentation-blank : (w : List ℕ) (n p : ℕ) → readPresentation w .outcome ≡ refused n p → readPresentation w .kept ≡ blank
+pub presentation-blank : (w : List ℕ) (n : Why) (p : ℕ) → readPresentation w .outcome ≡ refused n p → readPresentation w .kept ≡ blank
 unfolding readPresentation answerBy
 presentation-blank w n p e = go (readStages w) e
   where

@@ -9,6 +9,7 @@ use borrow.Author.Tests.{not-true}
 use lib.ListN.{length, take, drop}
 use lib.Seq.{length-take-le}
 use Rattle.lent.proofs.Bools.{and-both, both-and, not-so}
+use Rattle.refusal.specs.Numbers.{by}
 use Rattle.refusal.specs.Outcome.{passed, refused, unless}
 use Rattle.zone.specs.Alphabet.{isDigit, every}
 use Rattle.tlv.specs.declared.Stretch.{Stretch}
@@ -36,7 +37,7 @@ unfolding knownFrom every
 known place [] e = refl
 known place (c ∷ t) e = go (isGroup c) refl e (known (suc place) t)
   where
-    go : (b : Bool) → isGroup c ≡ b → cond b (knownFrom (suc place) t) (refused 11 place) ≡ passed
+    go : (b : Bool) → isGroup c ≡ b → cond b (knownFrom (suc place) t) (refused (by 11) place) ≡ passed
         → (knownFrom (suc place) t ≡ passed → every isGroup t ≡ true)
         → isGroup c && every isGroup t ≡ true
     go true f h rest = both-and f (rest h)
@@ -53,7 +54,7 @@ unfolding onceFrom onceAfter
 once place before [] e = refl
 once place before (c ∷ t) e = go (stands c before) refl e (once (suc place) (c ∷ before) t)
   where
-    go : (b : Bool) → stands c before ≡ b → cond b (refused 11 place) (onceFrom (suc place) (c ∷ before) t) ≡ passed
+    go : (b : Bool) → stands c before ≡ b → cond b (refused (by 11) place) (onceFrom (suc place) (c ∷ before) t) ≡ passed
         → (onceFrom (suc place) (c ∷ before) t ≡ passed → onceAfter (c ∷ before) t ≡ true)
         → not (stands c before) && onceAfter (c ∷ before) t ≡ true
     go true f h rest = absurd (refused-not-passed h)

@@ -11,6 +11,7 @@ use borrow.Author.Tests.{leb-true, lt-leb, eq-eqb, ne-eqb}
 use lib.Dec.{eqb, leb}
 use lib.ListN.{length, take, drop, getD, length-append, length-drop}
 use lib.Seq.{drop-at, take-at}
+use Rattle.refusal.specs.Numbers.{by}
 use Rattle.lent.proofs.Bools.{and-both}
 use Rattle.tlv.specs.declared.Stretch.{Stretch}
 use Rattle.tlv.specs.Read.{Read, value, refusal, andThen}
@@ -91,7 +92,7 @@ first-there : (before : List Lent) (l : Lent) (after : List Lent) (g more : ℕ)
     → (f : File) × (firstFile w g fs ≡ value f) × (f .start ≡ at + length (allLent before))
     × (f .held .to ≡ at + length (allLent before) + length (fileOf l))
 unfolding firstFile EachGroup NoFile allLent isIn filesFrom
-first-there before l after g zero w at fs most groups e none its walk = absurd (never-value 10 at fs walk)
+first-there before l after g zero w at fs most groups e none its walk = absurd (never-value _ at fs walk)
 first-there [] l after g (suc more) w at fs most groups e none its walk =
     let s = step more w at l (allLent after) fs most (groups l (inl refl)) e walk in
     let f : File = record { start = at; held = s .held } in
@@ -115,7 +116,7 @@ first-there (b ∷ before) l after g (suc more) w at fs most groups e none its w
     let long = length-append (fileOf b) (allLent before) in
     (f, subst (λ (q : List File). firstFile w g q ≡ value f) (s .fs-so) found, omega (arith, rest .2), omega (arith, rest .3))
 
-no-file : (w : List ℕ) (g : ℕ) (fs : List File) → NoFile g (lentIn w fs) → firstFile w g fs ≡ refusal 14 (length w)
+no-file : (w : List ℕ) (g : ℕ) (fs : List File) → NoFile g (lentIn w fs) → firstFile w g fs ≡ refusal (by 14) (length w)
 unfolding firstFile lentIn lentAt NoFile isIn
 no-file w g [] h = refl
 no-file w g (f ∷ fs) h = rw (ne-eqb (groupOf (getD w (f .start) 0)) g (λ e. h (lentAt w f) (inl refl) e))

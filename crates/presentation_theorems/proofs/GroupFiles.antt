@@ -91,7 +91,7 @@ module _ (w : List ℕ) (at : ℕ) where
       → (isGroup (getD w at 0) ≡ true) × FileStands w (record { start = at; held = held })
   unfolding fileAt FileStands
   file-read small held e =
-      let a = kept-value (isGroup (getD w at 0)) (element w at (getD w at 0)) 10 at held e in
+      let a = kept-value (isGroup (getD w at 0)) (element w at (getD w at 0)) _ at held e in
       (a .0, read-element w at (getD w at 0) small held (a .1))
 
   more-files : (held : Stretch) (fs : List File) → isGroup (getD w at 0) ≡ true
@@ -116,7 +116,7 @@ module _ (w : List ℕ) (at : ℕ) where
 pub files-read : (more : ℕ) (w : List ℕ) (at : ℕ) (fs : List File) → areOctets w → at ≤ length w → filesFrom more w at ≡ value fs
     → FilesRead w at fs
 unfolding filesFrom
-files-read zero w at fs small h e = absurd (never-value 10 at fs e)
+files-read zero w at fs small h e = absurd (never-value _ at fs e)
 files-read (suc more) w at fs small h e =
     go (leb (length w) at) refl e (λ (n : ℕ) (gs : List File) i f. files-read more w n gs small i f)
   where

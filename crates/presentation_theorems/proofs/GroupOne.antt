@@ -104,7 +104,7 @@ module _ (s : List ℕ) (at : ℕ) where
 first-found : (w : List ℕ) (g : ℕ) (fs : List File) (f : File) → firstFile w g fs ≡ value f
     → isIn f fs × isIn (lentAt w f) (lentIn w fs) × (groupOf (getD w (f .start) 0) ≡ g)
 unfolding firstFile isIn lentIn
-first-found w g [] f e = absurd (never-value 14 (length w) f e)
+first-found w g [] f e = absurd (never-value _ (length w) f e)
 first-found w g (x ∷ fs) f e = go (eqb (groupOf (getD w (x .start) 0)) g) refl e (first-found w g fs f)
   where
     go : (b : Bool) → eqb (groupOf (getD w (x .start) 0)) g ≡ b → cond b (value x) (firstFile w g fs) ≡ value f

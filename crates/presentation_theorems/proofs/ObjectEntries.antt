@@ -11,6 +11,7 @@ use lib.Dec.{leb}
 use lib.ListN.{length, take, drop, length-append, length-drop, drop-of-length-le}
 use lib.Seq.{length-take-le}
 use Rattle.lent.proofs.Bools.{and-both, both-and, not-so}
+use Rattle.refusal.specs.Numbers.{by}
 use Rattle.refusal.specs.Outcome.{passed, refused, unless}
 use Rattle.tlv.specs.declared.Stretch.{Stretch}
 use Rattle.tlv.specs.Read.{Read, value, andThen, checked}
@@ -66,7 +67,7 @@ entries-read : (more : ℕ) (s : List ℕ) (at : ℕ) (es : List GroupHash) → 
     → entriesFrom more s at ≡ value es
     → EntriesRead s at es
 unfolding entriesFrom
-entries-read zero s at es small h e = absurd (never-value 10 at es e)
+entries-read zero s at es small h e = absurd (never-value _ at es e)
 entries-read (suc more) s at es small h e =
     go (leb (length s) at) refl e (λ (n : ℕ) (fs : List GroupHash) i f. entries-read more s n fs small i f)
   where
@@ -128,7 +129,7 @@ unfolding numbersOnce onceAfter numbers signedIn signedAt
 once-numbers s before [] e = refl
 once-numbers s before (x ∷ es) e = go (stands (x .group) before) refl e (once-numbers s (x .group ∷ before) es)
   where
-    go : (b : Bool) → stands (x .group) before ≡ b → cond b (refused 12 (x .place)) (numbersOnce (x .group ∷ before) es) ≡ passed
+    go : (b : Bool) → stands (x .group) before ≡ b → cond b (refused (by 12) (x .place)) (numbersOnce (x .group ∷ before) es) ≡ passed
         → (numbersOnce (x .group ∷ before) es ≡ passed → onceAfter (x .group ∷ before) (numbers (signedIn s es)) ≡ true)
         → not (stands (x .group) before) && onceAfter (x .group ∷ before) (numbers (signedIn s es)) ≡ true
     go true f h rest = absurd (refused-not-passed h)

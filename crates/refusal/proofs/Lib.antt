@@ -1,4 +1,6 @@
 -- `orElse`: what stands in what order decides
 pub mod Outcomes
--- a number and a place tell the refusal (`number-tells`, `outcome-tells`, `length-tells`)
+-- why and where tell the refusal (`why-tells`, `outcome-tells`, `length-tells`)
 pub mod Numbers
+-- what every refusal of checks in their order has (`Each`)
+pub mod Each

@@ -1,4 +1,4 @@
--- The paper's number and place tell the refusal: no two causes share a number.
+-- Why and where tell the refusal: no two causes share a number, and of 9 the digit tells.
 use Prim.Native.Nat.{ℕ}
 use mathlib.Core.Path.{_≡_, refl, ap, sym, _∙_}
 use mathlib.Core.List.{List, [], _∷_}
@@ -13,20 +13,23 @@ use Rattle.refusal.specs.declared.Verdict.{Verdict}
 use Rattle.refusal.specs.declared.Verdict.the-variants.{Passed, Refused}
 use Rattle.refusal.specs.declared.Written.{Written}
 use Rattle.refusal.specs.declared.Written.the-variants.{Octets, Refused as Denied}
-use Rattle.refusal.specs.Numbers.{numberOf}
+use Rattle.refusal.specs.Numbers.{Why, by, expecting, whyOf}
 use Rattle.refusal.specs.Outcome.{Outcome, passed, refused, outcomeOf}
 use Rattle.refusal.specs.Length.{Length as Answered, written, refused as denied, lengthOf}
 
--- the cause of a number
+-- the cause of a number. (0 and 19 to 23 are none's yet, and 9 is told with its digit.)
 causes : List Cause
 causes =
-    Length ∷ Length ∷ Character ∷ Code ∷ State ∷ Number ∷ Date ∷ Sex ∷ Name ∷ Digit
+    Length ∷ Length ∷ Character ∷ Code ∷ State ∷ Number ∷ Date ∷ Sex ∷ Name ∷ Length
     ∷ Encoding ∷ EfCom ∷ SecurityObject ∷ Algorithm ∷ Group ∷ Digest ∷ Output ∷ Unsound ∷ Entry
-    -- 19 to 23 are no number yet
     ∷ Length ∷ Length ∷ Length ∷ Length ∷ Length ∷ SealHeader ∷ SealFeature ∷ SealText ∷ SealSignature ∷ []
 
-cause-of : (c : Cause) → getD causes (numberOf c) Length ≡ c
-unfolding causes
+causeOf : Why → Cause
+causeOf (by n) = getD causes n Length
+causeOf (expecting d) = Digit d
+
+cause-of : (c : Cause) → causeOf (whyOf c) ≡ c
+unfolding causeOf causes
 cause-of Length = refl
 cause-of Character = refl
 cause-of Code = refl
@@ -35,7 +38,7 @@ cause-of Number = refl
 cause-of Date = refl
 cause-of Sex = refl
 cause-of Name = refl
-cause-of Digit = refl
+cause-of (Digit d) = refl
 cause-of Encoding = refl
 cause-of EfCom = refl
 cause-of SecurityObject = refl
@@ -50,12 +53,12 @@ cause-of SealFeature = refl
 cause-of SealText = refl
 cause-of SealSignature = refl
 
-pub number-tells : (c d : Cause) → numberOf c ≡ numberOf d → c ≡ d
-number-tells c d e = sym (cause-of c) ∙ (ap (λ (n : ℕ). getD causes n Length) e ∙ cause-of d)
+pub why-tells : (c d : Cause) → whyOf c ≡ whyOf d → c ≡ d
+why-tells c d e = sym (cause-of c) ∙ (ap causeOf e ∙ cause-of d)
 
-pub refused-tells : (r s : Refusal) → refused (numberOf (r .cause)) (r .place) ≡ refused (numberOf (s .cause)) (s .place) → r ≡ s
+pub refused-tells : (r s : Refusal) → refused (whyOf (r .cause)) (r .place) ≡ refused (whyOf (s .cause)) (s .place) → r ≡ s
 refused-tells r s e =
-    let p : r .cause ≡ s .cause = number-tells (r .cause) (s .cause) (cc) in
+    let p : r .cause ≡ s .cause = why-tells (r .cause) (s .cause) (cc) in
     let q : r .place ≡ s .place = cc in
     λ i. record { cause = p i; place = q i }
 
@@ -68,7 +71,7 @@ outcome-tells (Refused r) (Refused s) e = ap Refused (refused-tells r s e)
 -- a length or a refusal
 refusalOf : Answered → Outcome
 refusalOf (written n) = passed
-refusalOf (denied n p) = refused n p
+refusalOf (denied why p) = refused why p
 
 pub length-tells : (v w : Written) → lengthOf v ≡ lengthOf w → v ≡ w
 unfolding refusalOf

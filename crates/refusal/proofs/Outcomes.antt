@@ -3,7 +3,8 @@ use Prim.Native.Nat.{ℕ}
 use mathlib.Core.Path.{_≡_, refl}
 use mathlib.Core.Bool.{Bool, true, false}
 use native.Mathlib.Omega.{arith}
-use Rattle.refusal.specs.Outcome.{Outcome, passed, refused, orElse, unless}
+use Rattle.refusal.specs.Numbers.{Why, by}
+use Rattle.refusal.specs.Outcome.{Outcome, passed, refused, orElse, refusedUnless, unless}
 use Rattle.refusal.specs.Length as told
 
 pub orElse-assoc : (a b c : Outcome) → orElse (orElse a b) c ≡ orElse a (orElse b c)
@@ -20,20 +21,26 @@ orElse-idle passed passed c h = h refl refl
 orElse-idle passed (refused n p) c h = refl
 orElse-idle (refused n p) b c h = refl
 
-pub refused-not-passed : {n p : ℕ} → refused n p ≡ passed → ⊥
-refused-not-passed {n} {p} e = let z : _≡_ {A = ℕ} 0 1 = cc in omega arith
+pub refused-not-passed : {why : Why} {p : ℕ} → refused why p ≡ passed → ⊥
+refused-not-passed {why} {p} e = let z : _≡_ {A = ℕ} 0 1 = cc in omega arith
 
 -- the same of what a call that writes says
-pub refused-not-written : {n p m : ℕ} → told.refused n p ≡ told.written m → ⊥
+pub refused-not-written : {why : Why} {p m : ℕ} → told.refused why p ≡ told.written m → ⊥
 refused-not-written e = let z : _≡_ {A = ℕ} 0 1 = cc in omega arith
 
 pub both-passed : (a b : Outcome) → orElse a b ≡ passed → (a ≡ passed) × (b ≡ passed)
 both-passed passed b e = (refl, e)
 both-passed (refused n p) b e = absurd (refused-not-passed e)
 
+pub rule-kept : (b : Bool) (why : Why) (p : ℕ) → refusedUnless b why p ≡ passed → b ≡ true
+rule-kept true why p e = refl
+rule-kept false why p e = absurd (refused-not-passed e)
+
+pub kept-rule : (b : Bool) (why : Why) (p : ℕ) → b ≡ true → refusedUnless b why p ≡ passed
+kept-rule b why p e = rw e
+
 pub unless-kept : (b : Bool) (n p : ℕ) → unless b n p ≡ passed → b ≡ true
-unless-kept true n p e = refl
-unless-kept false n p e = absurd (refused-not-passed e)
+unless-kept b n p = rule-kept b (by n) p
 
 pub kept-unless : (b : Bool) (n p : ℕ) → b ≡ true → unless b n p ≡ passed
-kept-unless b n p e = rw e
+kept-unless b n p = kept-rule b (by n) p

@@ -1,9 +1,13 @@
 // Why an input is refused, and where: the cause, its number in document 01, and its place.
 ghost use mathlib.Core.Path.{_≡_};
-ghost use Rattle.refusal.specs.Numbers.{numberOf};
-ghost use Rattle.refusal.specs.Outcome.{outcomeOf, orElse, unless};
+ghost use Rattle.refusal.specs.Numbers.{noDigit, whyOf, numberOf, expectedOf};
+ghost use Rattle.refusal.specs.Outcome.{outcomeOf, orElse, refusedUnless};
 
-// The causes in the order of their numbers: 1 to 18 of document 01, "Refusal numbers", 24 to 27 of document 02, 2026-08.
+// What stands where no digit is expected.
+pub const NO_DIGIT: u32 = 255;
+
+// The causes in the order of their numbers: 1 to 18 of document 01, "Refusal numbers", 24 to 27 of document 02, 2026-08. A check
+// digit holds the one that was expected, 0 to 9.
 pub enum Cause {
     Length,
     Character,
@@ -13,7 +17,7 @@ pub enum Cause {
     Date,
     Sex,
     Name,
-    Digit,
+    Digit(u8),
     Encoding,
     EfCom,
     SecurityObject,
@@ -32,7 +36,7 @@ pub enum Cause {
 impl Cause {
     // The paper's number of the cause.
     pub fn number(self) -> u32
-        ensures { λ r. ⌜ r ≡ numberOf self ⌝ }
+        ensures { λ r. ⌜ r ≡ numberOf (whyOf self) ⌝ }
     {
         match self {
             Cause::Length => 1,
@@ -43,7 +47,7 @@ impl Cause {
             Cause::Date => 6,
             Cause::Sex => 7,
             Cause::Name => 8,
-            Cause::Digit => 9,
+            Cause::Digit(_) => 9,
             Cause::Encoding => 10,
             Cause::EfCom => 11,
             Cause::SecurityObject => 12,
@@ -57,6 +61,16 @@ impl Cause {
             Cause::SealFeature => 25,
             Cause::SealText => 26,
             Cause::SealSignature => 27,
+        }
+    }
+
+    // The digit that was expected.
+    pub fn expected(self) -> u32
+        ensures { λ r. ⌜ r ≡ expectedOf (whyOf self) ⌝ }
+    {
+        match self {
+            Cause::Digit(digit) => digit as u32,
+            _ => NO_DIGIT,
         }
     }
 }
@@ -95,7 +109,7 @@ pub enum Verdict {
 impl Verdict {
     // A rule that holds passes; one that does not is refused at its place.
     pub fn judged(holds: bool, cause: Cause, place: usize) -> Verdict
-        ensures { λ r. ⌜ outcomeOf r ≡ unless holds (numberOf cause) place ⌝ }
+        ensures { λ r. ⌜ outcomeOf r ≡ refusedUnless holds (whyOf cause) place ⌝ }
     {
         if holds {
             Verdict::Passed

@@ -9,6 +9,7 @@ use mathlib.Core.List.{List, [], _∷_, _++_, append-nil, append-assoc}
 use native.Mathlib.Nat.{add-zero, zero-add}
 use native.Mathlib.Omega.{arith}
 use lib.ListN.{length, drop, length-append, drop-of-length-le}
+use Rattle.refusal.specs.Numbers.{by}
 use Rattle.entry.specs.Entry.{entryOf}
 use Rattle.entry.specs.Run.{Onward, next, none, refused, readEntry}
 use Rattle.zone.specs.Octets.{areOctets}
@@ -20,7 +21,7 @@ use Rattle.run_theorems.proofs.OneAnswer.{none-not-refused, none-end, r
 use Rattle.run_theorems.proofs.ReadThenWritten.{passed-over, passed-there}
 
 unfoldable Stop : List ℕ → ℕ → Onward → Type 0
-Stop w p o = ((o ≡ none) × (p ≡ length w)) ⊎ ((o ≡ refused 18 p) × (p < length w) × NoEntry (drop p w))
+Stop w p o = ((o ≡ none) × (p ≡ length w)) ⊎ ((o ≡ refused (by 18) p) × (p < length w) × NoEntry (drop p w))
 
 -- what a reading from an offset says of the bytes there
 record From (w : List ℕ) (at : ℕ) (x : Reading) : Type 0 where
@@ -86,7 +87,7 @@ read-any w small = let f = read-from (suc (length w)) w 0 small (omega arith) (o
 
 ends-all : {w : List ℕ} {ls : List Line} {o : Onward} → Ends w ls o → o ≡ none → w ≡ joined ls
 ends-all (ended p) e = p
-ends-all (broken p a b c d) e = absurd (none-not-refused 18 p (sym e))
+ends-all (broken p a b c d) e = absurd (none-not-refused _ p (sym e))
 
 -- bytes are accepted exactly when some list gives them
 pub run-accepted-exactly : (w : List ℕ) → areOctets w
@@ -97,10 +98,10 @@ run-accepted-exactly w small = (
 )
 
 -- and all others are refused by 18
-ends-else : {w : List ℕ} {ls : List Line} {o : Onward} → Ends w ls o → (w ≡ joined ls → ⊥) → (p : ℕ) × (o ≡ refused 18 p)
+ends-else : {w : List ℕ} {ls : List Line} {o : Onward} → Ends w ls o → (w ≡ joined ls → ⊥) → (p : ℕ) × (o ≡ refused (by 18) p)
 ends-else (ended p) h = absurd (h p)
 ends-else (broken p a b c d) h = (p, refl)
 
 pub others-refused : (w : List ℕ) → areOctets w → ((ls : List Line) → allKept ls ≡ true → w ≡ joined ls → ⊥)
-    → (p : ℕ) × (readRun w .stop ≡ refused 18 p)
+    → (p : ℕ) × (readRun w .stop ≡ refused (by 18) p)
 others-refused w small h = ends-else (read-any w small .1) (h (readRun w .lines) (read-any w small .0))

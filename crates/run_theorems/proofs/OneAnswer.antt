@@ -8,6 +8,7 @@ use native.Mathlib.Omega.{arith}
 use borrow.Author.Tests.{eqb-true, eqb-false}
 use lib.Dec.{eqb, ltb}
 use lib.ListN.{length, drop}
+use Rattle.refusal.specs.Numbers.{Why, by}
 use Rattle.lent.proofs.Bools.{both-and}
 use Rattle.zone.specs.declared.form.Recognised.{Recognised}
 use Rattle.zone.specs.declared.form.Recognised.the-variants.{As, Unknown}
@@ -21,10 +22,10 @@ use Rattle.run_theorems.proofs.WrittenThenRead.{read-where-stands}
 use Rattle.run_theorems.proofs.ListReadBack.{kept-both}
 use Rattle.run_theorems.proofs.ReadThenWritten.{passed-over, passed-there}
 
-pub none-not-refused : (k p : ℕ) → none ≡ refused k p → ⊥
+pub none-not-refused : (k : Why) (p : ℕ) → none ≡ refused k p → ⊥
 none-not-refused k p e = let z : _≡_ {A = ℕ} 0 1 = cc in omega arith
 
-next-not-refused : (n k p : ℕ) → next n ≡ refused k p → ⊥
+next-not-refused : (n : ℕ) (k : Why) (p : ℕ) → next n ≡ refused k p → ⊥
 next-not-refused n k p e = let z : _≡_ {A = ℕ} 0 1 = cc in omega arith
 
 next-not-none : (n : ℕ) → next n ≡ none → ⊥
@@ -32,7 +33,7 @@ next-not-none n e = let z : _≡_ {A = ℕ} 0 1 = cc in omega arith
 
 -- an entry is passed over, or the answer is 18 here
 entry-or-not : (told : Recognised) (s : List ℕ) (at : ℕ) (o : Onward) → entryBy told s at .onward ≡ o
-    → (o ≡ next (at + size (nameLength s))) ⊎ (o ≡ refused 18 at)
+    → (o ≡ next (at + size (nameLength s))) ⊎ (o ≡ refused (by 18) at)
 unfolding entryBy noEntry
 entry-or-not Unknown s at o e = inr (sym e)
 entry-or-not (As f) s at o e = go (isEntry f s) e
@@ -40,7 +41,7 @@ entry-or-not (As f) s at o e = go (isEntry f s) e
     go : (x : Bool)
         → cond x (record { onward = next (at + size (nameLength s)); house = houseIn s; kept = recordIn f s })
         (noEntry at) .onward ≡ o
-        → (o ≡ next (at + size (nameLength s))) ⊎ (o ≡ refused 18 at)
+        → (o ≡ next (at + size (nameLength s))) ⊎ (o ≡ refused (by 18) at)
     go true h = inl (sym h)
     go false h = inr (sym h)
 
@@ -49,37 +50,37 @@ module _ (w : List ℕ) (at : ℕ) where
   unfolding readEntry noEntry
   none-end e = go (eqb at (length w)) refl (ltb (length w) at) e
     where
-      other : (none ≡ next (at + size (nameLength (drop at w)))) ⊎ (none ≡ refused 18 at) → ⊥
+      other : (none ≡ next (at + size (nameLength (drop at w)))) ⊎ (none ≡ refused (by 18) at) → ⊥
       other (inl h) = next-not-none (at + size (nameLength (drop at w))) (sym h)
-      other (inr h) = none-not-refused 18 at h
+      other (inr h) = none-not-refused _ at h
 
       go : (a : Bool) → eqb at (length w) ≡ a → (b : Bool)
           → cond a (record { onward = none; house = 0; kept = blank })
           (cond b (noEntry at) (entryBy (formIn (drop at w)) (drop at w) at)) .onward ≡ none
           → at ≡ length w
       go true p b h = eqb-true at (length w) p
-      go false p true h = absurd (none-not-refused 18 at (sym h))
+      go false p true h = absurd (none-not-refused _ at (sym h))
       go false p false h = absurd (other (entry-or-not (formIn (drop at w)) (drop at w) at none h))
 
-  pub refused-here : (k p : ℕ) → readEntry w at .onward ≡ refused k p → (refused k p ≡ refused 18 at) × (at ≡ length w → ⊥)
+  pub refused-here : (k : Why) (p : ℕ) → readEntry w at .onward ≡ refused k p → (refused k p ≡ refused (by 18) at) × (at ≡ length w → ⊥)
   unfolding readEntry noEntry
   refused-here k p e = go (eqb at (length w)) refl (ltb (length w) at) e
     where
-      other : (refused k p ≡ next (at + size (nameLength (drop at w)))) ⊎ (refused k p ≡ refused 18 at)
-          → refused k p ≡ refused 18 at
+      other : (refused k p ≡ next (at + size (nameLength (drop at w)))) ⊎ (refused k p ≡ refused (by 18) at)
+          → refused k p ≡ refused (by 18) at
       other (inl h) = absurd (next-not-refused (at + size (nameLength (drop at w))) k p (sym h))
       other (inr h) = h
 
       go : (a : Bool) → eqb at (length w) ≡ a → (b : Bool)
           → cond a (record { onward = none; house = 0; kept = blank })
           (cond b (noEntry at) (entryBy (formIn (drop at w)) (drop at w) at)) .onward ≡ refused k p
-          → (refused k p ≡ refused 18 at) × (at ≡ length w → ⊥)
+          → (refused k p ≡ refused (by 18) at) × (at ≡ length w → ⊥)
       go true q b h = absurd (none-not-refused k p h)
       go false q true h = (sym h, eqb-false at (length w) q)
       go false q false h = (other (entry-or-not (formIn (drop at w)) (drop at w) at (refused k p) h), eqb-false at (length w) q)
 
   -- where an entry stands, the answer is no refusal
-  pub no-entry : at ≤ length w → (k p : ℕ) → readEntry w at .onward ≡ refused k p → NoEntry (drop at w)
+  pub no-entry : at ≤ length w → (k : Why) (p : ℕ) → readEntry w at .onward ≡ refused k p → NoEntry (drop at w)
   no-entry h k p e l rest kept there =
       let both = kept-both l kept in
       let read = read-where-stands (l .house) (l .kept) (both .0) (both .1) w at rest h there in

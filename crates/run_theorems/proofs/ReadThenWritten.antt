@@ -10,6 +10,7 @@ use borrow.Author.Tests.{leb-true, eqb-true, ltb-false, lt-ltb}
 use lib.Dec.{eqb, leb, ltb}
 use lib.ListN.{length, take, drop, getD, length-drop, take-append-drop}
 use lib.Seq.{take-at, take-all, length-take-le, drop-drop}
+use Rattle.refusal.specs.Numbers.{Why}
 use Rattle.lent.proofs.Bools.{and-both}
 use Rattle.zone.specs.declared.form.Form.{Form}
 use Rattle.zone.specs.declared.form.Recognised.{Recognised}
@@ -147,7 +148,7 @@ module _ (f : Form) (s : List ℕ) (told : formIn s ≡ As f) (t : Tests f s) wh
 
 -- ---- reading at an offset
 
-refused-not-next : (k p n : ℕ) → refused k p ≡ next n → ⊥
+refused-not-next : (k : Why) (p n : ℕ) → refused k p ≡ next n → ⊥
 refused-not-next k p n e = let z : _≡_ {A = ℕ} 0 1 = cc in omega arith
 
 none-not-next : (n : ℕ) → none ≡ next n → ⊥
@@ -181,7 +182,7 @@ module _ (w : List ℕ) (at n : ℕ) (small : areOctets w) (there : at ≤ lengt
   passed-by : (told : Recognised) → formIn (drop at w) ≡ told → entryBy told (drop at w) at .onward ≡ next n
       → Passed w at n (entryBy told (drop at w) at .house) (entryBy told (drop at w) at .kept)
   unfolding entryBy noEntry
-  passed-by Unknown p e = absurd (refused-not-next 18 at n e)
+  passed-by Unknown p e = absurd (refused-not-next _ at n e)
   passed-by (As f) p e = go (isEntry f (drop at w)) refl e
     where
       answer : Bool → Standing
@@ -194,7 +195,7 @@ module _ (w : List ℕ) (at n : ℕ) (small : areOctets w) (there : at ≤ lengt
 
       go : (x : Bool) → isEntry f (drop at w) ≡ x → answer x .onward ≡ next n → Passed w at n (answer x .house) (answer x .kept)
       go true q h = passed-entry f p q h
-      go false q h = absurd (refused-not-next 18 at n h)
+      go false q h = absurd (refused-not-next _ at n h)
 
 -- every lent byte is below 256, place by place
 pub lent-octets : (w : List ℕ) → ((i : ℕ) → i < length w → getD w i 0 < 256) → areOctets w
@@ -212,7 +213,7 @@ passed-over w at n small e = go (eqb at (length w)) (ltb (length w) at) refl e
 
     go : (a b : Bool) → ltb (length w) at ≡ b → answer a b .onward ≡ next n → Passed w at n (answer a b .house) (answer a b .kept)
     go true b q h = absurd (none-not-next n h)
-    go false true q h = absurd (refused-not-next 18 at n h)
+    go false true q h = absurd (refused-not-next _ at n h)
     go false false q h = passed-by w at n small (ltb-false (length w) at q) (formIn (drop at w)) refl h
 
 -- what was passed over, and what follows it

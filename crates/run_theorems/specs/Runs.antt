@@ -5,6 +5,7 @@ use mathlib.Core.Path.{_≡_}
 use mathlib.Core.Bool.{Bool, true, _&&_}
 use mathlib.Core.List.{List, [], _∷_, _++_}
 use lib.ListN.{length, take, drop}
+use Rattle.refusal.specs.Numbers.{by}
 use Rattle.zone.specs.declared.record.Record.{Record}
 use Rattle.zone.specs.Alphabet.{every}
 use Rattle.sound.specs.Sound.{isSound}
@@ -47,7 +48,7 @@ lineAt w at = record { house = readEntry w at .house; kept = readEntry w at .kep
 
 -- "A run is read entry by entry, each with the offset of the next", here at most so many steps, of which the last finds the end
 unfoldable pub readFrom : ℕ → List ℕ → ℕ → Reading
-readFrom zero w at = record { lines = []; stop = refused 18 at }
+readFrom zero w at = record { lines = []; stop = refused (by 18) at }
 readFrom (suc most) w at = onwards (readEntry w at .onward) (lineAt w at) (readFrom most w)
 
 -- the whole run: no entry is empty, so there are no more of them than bytes
@@ -72,4 +73,4 @@ pub data Ends (w : List ℕ) (ls : List Line) : Onward → Type 0 where
   ended : w ≡ joined ls → Ends w ls none
   -- 18, "start of that entry": the bytes begin with those of the list, go on behind them, and no entry stands there
   broken : (p : ℕ) → p ≡ length (joined ls) → p < length w → w ≡ joined ls ++ drop p w → NoEntry (drop p w)
-      → Ends w ls (refused 18 p)
+      → Ends w ls (refused (by 18) p)

@@ -8,6 +8,7 @@ use native.Mathlib.Omega.{arith}
 use borrow.Author.Tests.{leb-false}
 use lib.Dec.{eqb, leb}
 use lib.ListN.{length, getD}
+use Rattle.refusal.specs.Numbers.{Why, by}
 use Rattle.refusal.specs.Outcome.{passed, unless}
 use Rattle.tlv.specs.declared.Stretch.{Stretch}
 use Rattle.tlv.specs.Read.{Read, value, refusal, andThen, checked}
@@ -17,12 +18,12 @@ use Rattle.tlv.proofs.Past.{value-within}
 use Rattle.seal.specs.declared.features.Features.{Features}
 use Rattle.seal.specs.Features.{numbered, featureRule, featureAt, isEnd, textPlace, featuresFrom, signatureTag}
 
-pub numbered-value : {A : Type 0} (n : ℕ) (m : Read A) (a : A) → numbered n m ≡ value a → m ≡ value a
+pub numbered-value : {A : Type 0} (n : Why) (m : Read A) (a : A) → numbered n m ≡ value a → m ≡ value a
 unfolding numbered
 numbered-value n (value b) a e = e
 numbered-value n (refusal k p) a e = absurd (never-value n p a e)
 
-pub value-numbered : {A : Type 0} (n : ℕ) (m : Read A) (a : A) → m ≡ value a → numbered n m ≡ value a
+pub value-numbered : {A : Type 0} (n : Why) (m : Read A) (a : A) → m ≡ value a → numbered n m ≡ value a
 unfolding numbered
 value-numbered n m a e = rw e
 
@@ -31,11 +32,11 @@ pub feature-value : (s : List ℕ) (at text : ℕ) (v : Stretch) → featureAt s
     → (element s at (getD s at 0) ≡ value v) × (unless (featureRule s at text v) 25 at ≡ passed)
 unfolding featureAt
 feature-value s at text v e =
-    let a = first-value (numbered 25 (element s at (getD s at 0)))
+    let a = first-value (numbered (by 25) (element s at (getD s at 0)))
     (λ (u : Stretch). checked (unless (featureRule s at text u) 25 at) (value u)) v e in
     let b = checked-value (unless (featureRule s at text (a .0)) 25 at) (value (a .0)) v (a .2) in
     let same : a .0 ≡ v = same-value (b .1) in (
-      numbered-value 25 (element s at (getD s at 0)) v (a .1 ∙ ap value same),
+      numbered-value _ (element s at (getD s at 0)) v (a .1 ∙ ap value same),
       subst (λ (u : Stretch). unless (featureRule s at text u) 25 at ≡ passed) same (b .0),
     )
 
@@ -61,7 +62,7 @@ pub walk-ends : (k : ℕ) (s : List ℕ) (at text : ℕ) → isEnd s at ≡ true
 unfolding featuresFrom
 walk-ends k s at text e = rw e
 
-pub walk-refused : (k : ℕ) (s : List ℕ) (at text n p : ℕ) → isEnd s at ≡ false → featureAt s at text ≡ refusal n p
+pub walk-refused : (k : ℕ) (s : List ℕ) (at text : ℕ) (n : Why) (p : ℕ) → isEnd s at ≡ false → featureAt s at text ≡ refusal n p
     → featuresFrom (suc k) s at text ≡ refusal n p
 unfolding featuresFrom andThen
 walk-refused k s at text n p e r = rw (e, r)

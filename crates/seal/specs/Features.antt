@@ -5,7 +5,7 @@ use mathlib.Core.Bool.{Bool, true, cond, _&&_, _||_}
 use mathlib.Core.List.{List}
 use lib.Dec.{eqb, leb}
 use lib.ListN.{length, getD}
-use Rattle.refusal.specs.Numbers.{numberOf}
+use Rattle.refusal.specs.Numbers.{Why, by, whyOf}
 use Rattle.refusal.specs.Outcome.{unless}
 use Rattle.tlv.specs.declared.Stretch.{Stretch}
 use Rattle.tlv.specs.Read.{Read, value, refusal, andThen, checked}
@@ -16,7 +16,7 @@ use Rattle.seal.specs.declared.features.Walked.{Walked}
 use Rattle.seal.specs.declared.features.Walked.the-variants.{Found, Refused}
 
 -- a reading whose refusals have a number of their own
-unfoldable pub numbered : {A : Type 0} → ℕ → Read A → Read A
+unfoldable pub numbered : {A : Type 0} → Why → Read A → Read A
 numbered n (value a) = value a
 numbered n (refusal m p) = refusal n p
 
@@ -34,7 +34,7 @@ featureRule s at text v = cond (eqb (getD s at 0) textTag) (hasOctets 48 v && eq
 
 unfoldable pub featureAt : List ℕ → (at text : ℕ) → Read Stretch
 featureAt s at text =
-    andThen (numbered 25 (element s at (getD s at 0))) (λ v. checked (unless (featureRule s at text v) 25 at) (value v))
+    andThen (numbered (by 25) (element s at (getD s at 0))) (λ v. checked (unless (featureRule s at text v) 25 at) (value v))
 
 -- the features end at FF or, without one, at the seal's end
 unfoldable pub isEnd : List ℕ → ℕ → Bool
@@ -45,7 +45,7 @@ textPlace s at text = cond (eqb (getD s at 0) textTag) at text
 
 -- one pass from the left, the first bad one deciding; here at most so many steps, of which the last finds the end
 unfoldable pub featuresFrom : ℕ → List ℕ → (at text : ℕ) → Read Features
-featuresFrom zero s at text = refusal 25 at
+featuresFrom zero s at text = refusal (by 25) at
 featuresFrom (suc more) s at text =
     cond (isEnd s at) (value (record { text = text; end = at }))
     (andThen (featureAt s at text) (λ v. featuresFrom more s (v .to) (textPlace s at text)))
@@ -57,4 +57,4 @@ features s at = featuresFrom (suc (length s)) s at 0
 -- the paper's number and values of each case
 abbrev pub walkedOf : Walked → Read Features
 walkedOf (Found f) = value f
-walkedOf (Refused r) = refusal (numberOf (r .cause)) (r .place)
+walkedOf (Refused r) = refusal (whyOf (r .cause)) (r .place)

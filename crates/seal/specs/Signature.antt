@@ -4,6 +4,7 @@ use Prim.Native.Nat.{ℕ}
 use mathlib.Core.List.{List}
 use lib.Dec.{eqb}
 use lib.ListN.{length}
+use Rattle.refusal.specs.Numbers.{by}
 use Rattle.refusal.specs.Outcome.{unless}
 use Rattle.tlv.specs.declared.Stretch.{Stretch}
 use Rattle.tlv.specs.Read.{Read, value, andThen, checked}
@@ -12,4 +13,4 @@ use Rattle.seal.specs.Features.{numbered, signatureTag}
 
 unfoldable pub signatureAt : List ℕ → ℕ → Read Stretch
 signatureAt s at =
-    andThen (numbered 27 (element s at signatureTag)) (λ v. checked (unless (eqb (v .to) (length s)) 27 at) (value v))
+    andThen (numbered (by 27) (element s at signatureTag)) (λ v. checked (unless (eqb (v .to) (length s)) 27 at) (value v))

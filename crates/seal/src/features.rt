@@ -1,6 +1,6 @@
 // The features, walked once from the left: unknown ones are passed over, feature 02 is found.
 ghost use mathlib.Core.Path.{_≡_};
-ghost use Rattle.refusal.specs.Numbers.{numberOf};
+ghost use Rattle.refusal.specs.Numbers.{whyOf};
 ghost use Rattle.tlv.specs.Element.{takenOf};
 ghost use Rattle.seal.specs.Features as F;
 use refusal::Cause;
@@ -27,7 +27,7 @@ pub enum Walked {
 
 // A refusal of an element has another number in a seal.
 pub(crate) fn numbered(taken: Taken, cause: Cause) -> Taken
-    ensures { λ r. ⌜ takenOf r ≡ F.numbered (numberOf cause) (takenOf taken) ⌝ }
+    ensures { λ r. ⌜ takenOf r ≡ F.numbered (whyOf cause) (takenOf taken) ⌝ }
 {
     match taken {
         Taken::Value(v) => Taken::Value(v),

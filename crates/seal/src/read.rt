@@ -1,7 +1,7 @@
 // Reading a seal: its header, its features, the image in feature 02, its signature, then the text.
 ghost use mathlib.Core.Path.{_≡_};
 ghost use Rattle.tlv.specs.Read.{refusal};
-ghost use Rattle.refusal.specs.Numbers.{numberOf};
+ghost use Rattle.refusal.specs.Numbers.{whyOf};
 ghost use Rattle.text.specs.Read as T;
 ghost use Rattle.seal.specs.Seal as S;
 use crate::features::Features;
@@ -30,7 +30,7 @@ pub struct Seal {
 
 // Every refusal gives the blank header, the blank record and no signature.
 fn refuse(why: Refusal) -> Seal
-    ensures { λ r. ⌜ S.answerOf r ≡ S.answerBy (refusal (numberOf (why .cause)) (why .place)) ⌝ }
+    ensures { λ r. ⌜ S.answerOf r ≡ S.answerBy (refusal (whyOf (why .cause)) (why .place)) ⌝ }
 {
     Seal {
         verdict: Verdict::Refused(why),

@@ -7,6 +7,7 @@ use mathlib.Core.List.{List, _++_}
 use native.Mathlib.Omega.{arith}
 use lib.ListN.{take, drop}
 use lib.Seq.{take-append-le}
+use Rattle.refusal.specs.Numbers.{Why, noDigit, numberOf, expectedOf}
 use Rattle.refusal.specs.Length as told
 use Rattle.refusal.specs.Length.{Length}
 use Rattle.entry.specs.Entry.{entryOf, size}
@@ -33,9 +34,10 @@ module _ (house : ℕ) (s out : List ℕ) where
   -- 0, how many octets, header and signature, and the entry in front of the range; or a refusal over blank fields, and nothing is
   -- changed
   pub data Told : Type 0 where
-    kept : Kept → readSealInC house s out ≡ fieldsInC 0 octets (readSeal s .header) (readSeal s .signature)
+    kept : Kept → readSealInC house s out ≡ fieldsInC 0 noDigit octets (readSeal s .header) (readSeal s .signature)
         → readSealOut house s out ≡ entryOf house (readSeal s .kept) ++ drop octets out → Told
-    denied : (number place : ℕ) → readSealInC house s out ≡ fieldsInC number place blankHeader (record { from = 0; to = 0 })
+    denied : (why : Why) (place : ℕ)
+        → readSealInC house s out ≡ fieldsInC (numberOf why) (expectedOf why) place blankHeader (record { from = 0; to = 0 })
         → readSealOut house s out ≡ out → Told
 
   pub seal-told : Told
@@ -47,8 +49,8 @@ module _ (house : ℕ) (s out : List ℕ) where
           let h = entered-only house (readSeal s .kept) out (readSeal s .outcome) n e in
           let w = entered house (readSeal s .kept) out (readSeal s .outcome) h in
           kept h (rw (w .0)) (w .1)
-      go (told.refused number place) e =
-          denied number place (rw e) (not-entered house (readSeal s .kept) out (readSeal s .outcome) number place e)
+      go (told.refused why place) e =
+          denied why place (rw e) (not-entered house (readSeal s .kept) out (readSeal s .outcome) why place e)
 
   -- an accepted call leaves an entry, which begins with its key
   pub seal-begins : Kept → take 30 (readSealOut house s out) ≡ keyOf house (readSeal s .kept)

@@ -94,7 +94,7 @@ pub features-found : (more : ℕ) (s : List ℕ) (at text : ℕ) (f : Features) 
     → featuresFrom more s at text ≡ value f
     → Found s at text f
 unfolding featuresFrom isEnd joined areOthers every
-features-found zero s at text f small some e = absurd (never-value 25 at f e)
+features-found zero s at text f small some e = absurd (never-value _ at f e)
 features-found (suc more) s at text f small some e =
     go (isEnd s at) refl e (λ (n m : ℕ) k q. features-found more s n m f small k q)
   where

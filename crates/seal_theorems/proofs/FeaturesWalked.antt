@@ -9,6 +9,7 @@ use borrow.Author.Tests.{eq-eqb, lt-leb, ltb-true, not-true}
 use lib.Dec.{eqb, leb, ltb}
 use lib.ListN.{length, drop, getD, length-append, length-drop}
 use Rattle.lent.proofs.Bools.{and-both, both-and}
+use Rattle.refusal.specs.Numbers.{by}
 use Rattle.refusal.specs.Outcome.{unless}
 use Rattle.refusal.proofs.Outcomes.{kept-unless}
 use Rattle.zone.specs.Alphabet.{every}
@@ -66,8 +67,8 @@ module _ (s : List ℕ) (most : length s ≤ 65535) where
         (λ p. octets-had s at t c r v h 48 (rule p .0)) (λ p. eq-eqb text 0 (rule p .1))) in
         let go : Stretch → Read Stretch = λ u. checked (unless (featureRule s at text u) 25 at) (value u) in (
           v,
-          value-then (numbered 25 (element s at (getD s at 0))) go v (value v)
-              (rw tag-there (value-numbered 25 (element s at t) v (a .1)))
+          value-then (numbered (by 25) (element s at (getD s at 0))) go v (value v)
+              (rw tag-there (value-numbered (by 25) (element s at t) v (a .1)))
               (value-checked (unless (featureRule s at text v) 25 at) (value v) (value v)
               (kept-unless (featureRule s at text v) 25 at kept) refl),
           to-behind s at t c r v h,

@@ -7,6 +7,7 @@ use mathlib.Core.Bool.{Bool, true, false, cond, not, _&&_, _||_}
 use mathlib.Core.List.{List, [], _∷_, map}
 use lib.Dec.{eqb, leb}
 use lib.ListN.{length, getD}
+use Rattle.refusal.specs.Numbers.{Why, by}
 use Rattle.refusal.specs.Outcome.{Outcome, passed, refused, orElse, unless}
 use Rattle.refusal.proofs.Outcomes.{orElse-assoc, orElse-passed}
 use Rattle.field.specs.Letters.{stateRule}
@@ -87,12 +88,12 @@ module _ (s : List ℕ) (h : Header) (f : Features) where
       rows : List Outcome
       rows = map (placed (f .text)) (checksOf (filled (textIn s f)))
 
-      go : (m : Read Stretch) → ((n p : ℕ) → m ≡ refusal n p → p ≡ f .end)
-          → outcomeIn (andThen (andThen (numbered 27 m) zone) text) ≡ firstOf (signatureChecks s (f .end) m rows)
+      go : (m : Read Stretch) → ((n : Why) (p : ℕ) → m ≡ refusal n p → p ≡ f .end)
+          → outcomeIn (andThen (andThen (numbered (by 27) m) zone) text) ≡ firstOf (signatureChecks s (f .end) m rows)
       go (value v) place =
           let o = unless (eqb (v .to) (length s)) 27 (f .end) in
           then-outcome o v text ∙ ap (orElse o) (text-first h (f .text) (filled (textIn s f)) v)
-      go (refusal n p) place = ap (refused 27) (place n p refl)
+      go (refusal n p) place = ap (refused (by 27)) (place n p refl)
 
   behind-first : outcomeIn (withFeatures s h f) ≡ firstOf (checksBehind s f)
   unfolding withFeatures checksBehind firstOf
@@ -128,14 +129,14 @@ module _ (s : List ℕ) (h : Header) where
       rest : Features → Read Said
       rest f = withFeatures s h f
 
-      go : (m : Read Stretch) → ((n p : ℕ) → m ≡ refusal n p → p ≡ at)
-          → outcomeIn (andThen (andThen (andThen (numbered 25 m) rule) next) rest) ≡ firstOf (featureChecks s at text m rows)
+      go : (m : Read Stretch) → ((n : Why) (p : ℕ) → m ≡ refusal n p → p ≡ at)
+          → outcomeIn (andThen (andThen (andThen (numbered (by 25) m) rule) next) rest) ≡ firstOf (featureChecks s at text m rows)
       go (value v) place =
           let o = unless (featureRule s at text v) 25 at in
           ap (λ (m : Read Said). outcomeIn m) (then-then (rule v) next rest)
           ∙ then-outcome o v (λ (u : Stretch). andThen (next u) rest) ∙ ap (orElse o) (known v)
           ∙ rule-rows (eqb (getD s at 0) textTag) (hasOctets 48 v) (eqb text 0) 25 at (firstOf (rows v))
-      go (refusal n p) place = ap (refused 25) (place n p refl)
+      go (refusal n p) place = ap (refused (by 25)) (place n p refl)
 
   walk-first : (more at text : ℕ)
       → outcomeIn (andThen (featuresFrom more s at text) (λ f. withFeatures s h f)) ≡ firstOf (checksFrom more s at text)
@@ -173,7 +174,7 @@ seal-first s =
     ∙ ap (orElse (firstOf (headerChecks s))) (walk-first s (headerOf s) (suc (length s)) (headerEnd s) 0)
     ∙ sym (first-append (headerChecks s) rows))
 
-pub seal-refused-exactly : (s : List ℕ) (n p : ℕ) → (readSeal s .outcome ≡ refused n p) ↔ FirstFailing (sealChecks s) n p
+pub seal-refused-exactly : (s : List ℕ) (n : Why) (p : ℕ) → (readSeal s .outcome ≡ refused n p) ↔ FirstFailing (sealChecks s) n p
 seal-refused-exactly s n p = (
   λ e. first-failing (sealChecks s) n p (sym (seal-first s) ∙ e),
   λ h. seal-first s ∙ failing-first (sealChecks s) n p h,

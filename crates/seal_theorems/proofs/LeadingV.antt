@@ -10,6 +10,7 @@ use borrow.Author.Tests.{eq-eqb}
 use lib.Dec.{eqb}
 use lib.ListN.{length, getD}
 use Rattle.lent.proofs.Bools.{and-both, both-and}
+use Rattle.refusal.specs.Numbers.{by}
 use Rattle.refusal.specs.Outcome.{passed, refused}
 use Rattle.refusal.proofs.Outcomes.{kept-unless}
 use Rattle.zone.specs.Alphabet.{isDigit, isLetter, isFiller, isCharacter, isForeign, every, firstForeign, filler}
@@ -60,7 +61,7 @@ all-characters t e =
     (eq-eqb (firstForeign t) (length t) (every-first isCharacter t e))
 
 -- TD2 knows no code that begins with V
-code-v : (u : List ℕ) → inOrder (fieldCheck Td2 (code "V" ∷ u) (spanOf Td2 (code "V" ∷ u))) (parts Td2) ≡ refused 3 0
+code-v : (u : List ℕ) → inOrder (fieldCheck Td2 (code "V" ∷ u) (spanOf Td2 (code "V" ∷ u))) (parts Td2) ≡ refused (by 3) 0
 unfolding inOrder parts partOf layout fieldCheck codeRule cardRule isCardLetter field start startIn width widthIn same rank
 code-v u = refl
 
@@ -70,20 +71,20 @@ filled-v [] h e = absurd (omega arith)
 filled-v (c ∷ t) h e = (filled t, rw e)
 
 pub text-leading-v : (t : List ℕ) → length t ≡ 72 → every isC40 t ≡ true → getD t 0 0 ≡ code "V"
-    → readText (filled t) .outcome ≡ refused 3 0
+    → readText (filled t) .outcome ≡ refused (by 3) 0
 unfolding verdictBy total
 text-leading-v t n p e =
     let l = filled t in
     let v = filled-v t (omega arith) e in
     let span = spanOf Td2 l in
-    let first : inOrder (fieldCheck Td2 l span) (parts Td2) ≡ refused 3 0 =
+    let first : inOrder (fieldCheck Td2 l span) (parts Td2) ≡ refused (by 3) 0 =
     ap (λ (m : List ℕ). inOrder (fieldCheck Td2 m (spanOf Td2 m)) (parts Td2)) (v .1) ∙ code-v (v .0) in
     ap (λ (a : Answer). a .outcome) (read-as Td2 l (length-filled t ∙ n))
     ∙ answered-outcome (verdictBy Td2 l span) (recordBy Td2 l span)
     ∙ rw (all-characters l (filled-characters t p), first)
 
 pub seal-leading-v : (p : Contents) → Shaped p → getD (p .text) 0 0 ≡ code "V"
-    → readSeal (octetsOf p) .outcome ≡ refused 3 (featurePlace p)
+    → readSeal (octetsOf p) .outcome ≡ refused (by 3) (featurePlace p)
 unfolding readSeal answerBy withText checked placed
 seal-leading-v p k v =
     ap (λ (m : Read seal.Said). answerBy m .outcome) (shaped-answer p k)

@@ -3,6 +3,7 @@
 use Prim.Native.Nat.{ℕ}
 use mathlib.Core.Path.{_≡_, ap, sym, _∙_}
 use mathlib.Core.List.{List}
+use Rattle.refusal.specs.Numbers.{Why}
 use Rattle.refusal.specs.Outcome.{refused}
 use Rattle.refusal.proofs.Outcomes.{refused-not-passed}
 use Rattle.refusal.proofs.Numbers.{outcome-tells}
@@ -25,7 +26,7 @@ seal-tells r q e =
 pub only-seal : (s : List ℕ) (r q : Seal) → answerOf r ≡ readSeal s → answerOf q ≡ readSeal s → r ≡ q
 only-seal s r q e f = seal-tells r q (e ∙ sym f)
 
-pub seal-blank : (s : List ℕ) (n p : ℕ) → readSeal s .outcome ≡ refused n p
+pub seal-blank : (s : List ℕ) (n : Why) (p : ℕ) → readSeal s .outcome ≡ refused n p
     → readSeal s
     ≡ record { outcome = refused n p; header = blankHeader; kept = blank; signature = record { from = 0; to = 0 } }
 unfolding readSeal answerBy

@@ -7,6 +7,7 @@ use borrow.Author.Tests.{eq-eqb, eqb-true}
 use lib.Dec.{eqb}
 use lib.ListN.{length, take, drop, length-drop}
 use lib.Seq.{drop-length}
+use Rattle.refusal.specs.Numbers.{by}
 use Rattle.refusal.specs.Outcome.{unless}
 use Rattle.refusal.proofs.Outcomes.{unless-kept, kept-unless}
 use Rattle.zone.specs.Octets.{areOctets}
@@ -27,10 +28,10 @@ pub signature-read : (s : List ℕ) (at : ℕ) → areOctets s → (v : Stretch)
 unfolding signatureAt cut
 signature-read s at small v e =
     let go : Stretch → Read Stretch = λ u. checked (unless (eqb (u .to) (length s)) 27 at) (value u) in
-    let a = first-value (numbered 27 (element s at signatureTag)) go v e in
+    let a = first-value (numbered (by 27) (element s at signatureTag)) go v e in
     let u = a .0 in
     let b = checked-value (unless (eqb (u .to) (length s)) 27 at) (value u) v (a .2) in
-    let h = reads s at signatureTag (octet-below s small) u (numbered-value 27 (element s at signatureTag) u (a .1)) in
+    let h = reads s at signatureTag (octet-below s small) u (numbered-value (by 27) (element s at signatureTag) u (a .1)) in
     let c = take (u .to - u .from) (drop (u .from) s) in
     let end : u .to ≡ length s = eqb-true (u .to) (length s) (unless-kept (eqb (u .to) (length s)) 27 at (b .0)) in
     let none : drop (u .to) s ≡ [] = rw end (drop-length s) in
@@ -51,8 +52,8 @@ read-signature s at g most e =
     let from : v .from ≡ length s - length g = omega (arith, h .to-place) in
     let same : _≡_ {A = Stretch} v (record { from = length s - length g; to = length s }) =
     λ i. record { from = from i; to = to i } in (
-      value-then (numbered 27 (element s at signatureTag)) go v (value v)
-          (value-numbered 27 (element s at signatureTag) v (a .1))
+      value-then (numbered (by 27) (element s at signatureTag)) go v (value v)
+          (value-numbered (by 27) (element s at signatureTag) v (a .1))
           (value-checked (unless (eqb (v .to) (length s)) 27 at) (value v) (value v)
           (kept-unless (eqb (v .to) (length s)) 27 at (eq-eqb (v .to) (length s) to)) refl)
           ∙ ap (λ (u : Stretch). value u) same,

@@ -5,6 +5,7 @@ use mathlib.Core.Bool.{cond, not, _||_}
 use mathlib.Core.List.{List, [], _∷_, _++_, map}
 use lib.Dec.{eqb, leb}
 use lib.ListN.{length, getD}
+use Rattle.refusal.specs.Numbers.{by}
 use Rattle.refusal.specs.Outcome.{Outcome, passed, refused, unless}
 use Rattle.field.specs.Letters.{stateRule}
 use Rattle.tlv.specs.declared.Stretch.{Stretch}
@@ -37,7 +38,7 @@ headerChecks s =
 -- "27, signature zone missing, wrongly coded, cut off or followed by anything, at FF or the end"; then what follows
 unfoldable pub signatureChecks : List ℕ → (at : ℕ) → Read Stretch → List Outcome → List Outcome
 signatureChecks s at (value v) next = passed ∷ unless (eqb (v .to) (length s)) 27 at ∷ next
-signatureChecks s at (refusal n p) next = refused 27 at ∷ []
+signatureChecks s at (refusal n p) next = refused (by 27) at ∷ []
 
 -- behind the features: "absent, at FF or, without one, the end; 26, the C40 of feature 02 bad or not 72 characters, at the
 -- feature"; the signature; "then those of the text, at the feature's first octet"
@@ -54,12 +55,12 @@ featureChecks s at text (value v) next =
     ∷ unless (not (eqb (getD s at 0) textTag) || hasOctets 48 v) 25 at
     ∷ unless (not (eqb (getD s at 0) textTag) || eqb text 0) 25 at
     ∷ next v
-featureChecks s at text (refusal n p) next = refused 25 at ∷ []
+featureChecks s at text (refusal n p) next = refused (by 25) at ∷ []
 
 -- the features from a place on, where text is the place of the feature 02 that stood before, 0 where none did; here at most so
 -- many steps, of which the last finds the end
 unfoldable pub checksFrom : ℕ → List ℕ → (at text : ℕ) → List Outcome
-checksFrom zero s at text = refused 25 at ∷ []
+checksFrom zero s at text = refused (by 25) at ∷ []
 checksFrom (suc more) s at text =
     cond (isEnd s at) (checksBehind s (record { text = text; end = at }))
     (featureChecks s at text (element s at (getD s at 0)) (λ v. checksFrom more s (v .to) (textPlace s at text)))

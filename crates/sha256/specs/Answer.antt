@@ -6,13 +6,14 @@ use Prim.Native.Nat.{ℕ}
 use lib.Dec.{leb}
 use lib.ListN.{length, drop}
 use Rattle.refusal.specs.declared.Written.{Written}
+use Rattle.refusal.specs.Numbers.{by}
 use Rattle.refusal.specs.Length.{Length, written, refused, lengthOf}
 use Rattle.sha256.specs.Hash.{sha256}
 
 -- 1 for an input over 65,535 octets, then 16 for an output under 32; else 32 octets are written
 unfoldable pub digestAnswer : List ℕ → List ℕ → Length
 digestAnswer input out =
-    cond (leb (length input) 65535) (cond (leb 32 (length out)) (written 32) (refused 16 0)) (refused 1 0)
+    cond (leb (length input) 65535) (cond (leb 32 (length out)) (written 32) (refused (by 16) 0)) (refused (by 1) 0)
 
 -- a refusal changes no octet, a success the first 32 and no others
 unfoldable pub digestOut : List ℕ → List ℕ → List ℕ

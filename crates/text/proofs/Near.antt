@@ -7,7 +7,8 @@ use native.Mathlib.Omega.{arith}
 use borrow.Author.Tests.{leb-true, le-leb}
 use lib.Dec.{leb, eqb}
 use lib.ListN.{length, getD}
-use Rattle.refusal.specs.Outcome.{Outcome, passed, refused, unless, orElse}
+use Rattle.refusal.specs.Numbers.{Why, by, expecting}
+use Rattle.refusal.specs.Outcome.{Outcome, passed, refused, refusedUnless, unless, orElse}
 use Rattle.zone.specs.declared.form.Form.{Form}
 use Rattle.zone.specs.declared.form.Recognised.{Recognised}
 use Rattle.zone.specs.declared.form.Recognised.the-variants.{As, Unknown}
@@ -22,7 +23,7 @@ use Rattle.field.specs.Letters.{stateRule, sexRule, nameRule}
 use Rattle.field.specs.Date.{birthRule, expiryRule}
 use Rattle.text.specs.declared.number.Span.{Span}
 use Rattle.text.specs.declared.number.Span.the-variants.{Short, Long, Bad}
-use Rattle.digit.specs.Check.{digitOf}
+use Rattle.digit.specs.Check.{checkOf, digitOf}
 use Rattle.text.specs.Number.{spanOf, checkedBy, numberRule}
 use Rattle.text.specs.Order.{characters, fieldCheck, digitAt, numberDigit, furtherDigit, digitCheck, inOrder, verdictBy}
 use Rattle.text.specs.Read.{readText, readBy, answered, recordBy}
@@ -38,10 +39,13 @@ near-else : (m : ℕ) (a b : Outcome) → isNear m a ≡ true → isNear m b ≡
 near-else m passed b p q = q
 near-else m (refused n k) b p q = p
 
-near-unless : (m : ℕ) (b : Bool) (n p : ℕ) → p ≤ m → isNear m (unless b n p) ≡ true
+near-rule : (m : ℕ) (b : Bool) (n : Why) (p : ℕ) → p ≤ m → isNear m (refusedUnless b n p) ≡ true
 unfolding isNear
-near-unless m true n p h = refl
-near-unless m false n p h = le-leb p m h
+near-rule m true n p h = refl
+near-rule m false n p h = le-leb p m h
+
+near-unless : (m : ℕ) (b : Bool) (n p : ℕ) → p ≤ m → isNear m (unless b n p) ≡ true
+near-unless m b n p = near-rule m b (by n) p
 
 near-order : (m : ℕ) (check : Part → Outcome) → ((x : Part) → isNear m (check x) ≡ true) → (xs : List Part)
     → isNear m (inOrder check xs) ≡ true
@@ -75,7 +79,7 @@ module _ (m : ℕ) (big : 180 ≤ m) where
 
   near-place : (t : List ℕ) (place : ℕ) (covers : List ℕ) → place ≤ m → isNear m (digitAt t place covers) ≡ true
   unfolding digitAt
-  near-place t place covers h = near-unless m (eqb (getD t place 0) (digitOf covers)) 9 place h
+  near-place t place covers h = near-rule m (eqb (getD t place 0) (digitOf covers)) (expecting (checkOf covers)) place h
 
   near-digit : (f : Form) (t : List ℕ) (x : Part) (covers : List ℕ) → isNear m (digitAt t (start f x) covers) ≡ true
   near-digit f t x covers = near-place t (start f x) covers (near-start f x)
@@ -137,8 +141,8 @@ unfolding readBy isNear
 near-told (As f) t =
     near-answered (length t + 180) (verdictBy f t (spanOf f t)) (recordBy f t (spanOf f t))
     (near-verdict (length t + 180) (omega arith) f t (omega arith))
-near-told Unknown t = near-answered (length t + 180) (refused 1 0) _ (le-leb 0 (length t + 180) (omega arith))
+near-told Unknown t = near-answered (length t + 180) (refused (by 1) 0) _ (le-leb 0 (length t + 180) (omega arith))
 
-pub text-near : (t : List ℕ) (n p : ℕ) → readText t .outcome ≡ refused n p → p ≤ length t + 180
+pub text-near : (t : List ℕ) (n : Why) (p : ℕ) → readText t .outcome ≡ refused n p → p ≤ length t + 180
 unfolding readText isNear
 text-near t n p e = leb-true p (length t + 180) (rw e at (near-told (formOf (length t)) t))

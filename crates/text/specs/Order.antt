@@ -3,13 +3,14 @@ use Prim.Native.Nat.{ℕ, _+_}
 use mathlib.Core.List.{List, [], _∷_}
 use lib.ListN.{length, getD}
 use lib.Dec.{eqb}
-use Rattle.refusal.specs.Outcome.{Outcome, passed, orElse, unless}
+use Rattle.refusal.specs.Numbers.{expecting}
+use Rattle.refusal.specs.Outcome.{Outcome, passed, orElse, refusedUnless, unless}
 use Rattle.zone.specs.Alphabet.{firstForeign}
 use Rattle.zone.specs.Part.{Part, code, state, number, numberCheck, optional, birth, birthCheck, sex, expiry, expiryCheck}
 use Rattle.zone.specs.Part.{nationality, optional2, composite, name, personal, personalCheck}
 use Rattle.zone.specs.Form.{parts, start, field, covered}
 use Rattle.zone.specs.declared.form.Form.{Form}
-use Rattle.digit.specs.Check.{digitOf}
+use Rattle.digit.specs.Check.{checkOf, digitOf}
 use Rattle.field.specs.Code.{codeRule}
 use Rattle.field.specs.Letters.{stateRule, sexRule, nameRule}
 use Rattle.field.specs.Date.{birthRule, expiryRule}
@@ -40,9 +41,9 @@ fieldCheck f t span composite = passed
 fieldCheck f t span personal = passed
 fieldCheck f t span personalCheck = passed
 
--- 9: a place that does not hold the check digit of what it covers
+-- 9: a place that does not hold the check digit of what it covers; the refusal carries the digit worked out (document 02, 2026-07)
 unfoldable pub digitAt : List ℕ → ℕ → List ℕ → Outcome
-digitAt t place covers = unless (eqb (getD t place 0) (digitOf covers)) 9 place
+digitAt t place covers = refusedUnless (eqb (getD t place 0) (digitOf covers)) (expecting (checkOf covers)) place
 
 -- a short number's digit stands at its check place, a long one's in the optional field behind the further characters
 unfoldable pub numberDigit : Form → List ℕ → Span → Outcome

@@ -2,6 +2,7 @@
 use Prim.Native.Nat.{ℕ}
 use mathlib.Core.List.{List}
 use lib.ListN.{length, getD}
+use Rattle.refusal.specs.Numbers.{by}
 use Rattle.refusal.specs.Outcome.{Outcome, passed, refused, outcomeOf}
 use Rattle.zone.specs.Part.{code, state, nationality, birth, sex, expiry, name}
 use Rattle.zone.specs.Form.{formOf, start, field}
@@ -46,12 +47,12 @@ recordBy f t span = record {
 -- every refusal gives the blank record
 unfoldable pub answered : Outcome → Record → Answer
 answered passed r = record { outcome = passed; kept = r }
-answered (refused number place) r = record { outcome = refused number place; kept = blank }
+answered (refused why place) r = record { outcome = refused why place; kept = blank }
 
 -- 1: a text not 72, 88 or 90, at its start
 unfoldable pub readBy : Recognised → List ℕ → Answer
 readBy (As f) t = answered (verdictBy f t (spanOf f t)) (recordBy f t (spanOf f t))
-readBy Unknown t = answered (refused 1 0) blank
+readBy Unknown t = answered (refused (by 1) 0) blank
 
 unfoldable pub readText : List ℕ → Answer
 readText t = readBy (formOf (length t)) t

@@ -1,15 +1,15 @@
 // The check digits, 9: each judged at its place, and all of them in text order.
 ghost use mathlib.Core.Path.{_≡_};
-ghost use lib.Dec.{eqb};
-ghost use lib.ListN.{take, drop, getD};
-ghost use Prim.Native.Nat.{_+_};
-ghost use Rattle.refusal.specs.Outcome.{outcomeOf, unless, orElse};
+ghost use mathlib.Core.Bool.{true};
+ghost use lib.ListN.{take, drop};
+ghost use Rattle.refusal.specs.Outcome.{outcomeOf, orElse};
+ghost use Rattle.zone.specs.Alphabet.{isDigit};
 ghost use Rattle.zone.specs.Form.{parts};
 ghost use Rattle.zone.specs.Part.{number, numberCheck, optional, birthCheck, expiryCheck, personal, personalCheck, composite};
 ghost use Rattle.digit.specs.Check.{digitOf};
 ghost use Rattle.text.specs.Order.{digitAt, digitCheck, inOrder};
 ghost use Rattle.text.specs.Number.{checkedBy};
-ghost use Rattle.text.specs.Inner.Checks.{ifHas};
+ghost use Rattle.text.specs.Inner.Checks.{writtenAt, ifHas};
 ghost use Rattle.text.specs.declared.number.Span.{Span};
 ghost use Rattle.text.specs.declared.number.Span.the-variants.{Long};
 use crate::number::Span;
@@ -20,11 +20,16 @@ use refusal::Cause;
 use refusal::Verdict;
 use zone::form::Form;
 
-// Whether a place holds a digit.
+// Whether a place holds the digit that was worked out, which the refusal carries as its number.
 fn judged_digit(text: &[u8], place: usize, digit: u8) -> Verdict
-    ensures { λ r. ⌜ outcomeOf r ≡ unless (eqb (getD (now (text .entry)) place 0) digit) 9 place ⌝ }
+    requires { ⌜ isDigit digit ≡ true ⌝ }
+    ensures { λ r. ⌜ outcomeOf r ≡ writtenAt (now (text .entry)) place digit ⌝ }
 {
-    Verdict::judged(lent::octet(text, place) == digit, Cause::Digit, place)
+    Verdict::judged(
+        lent::octet(text, place) == digit,
+        Cause::Digit(digit - b'0'),
+        place,
+    )
 }
 
 // Whether a place holds the check digit of a field.

@@ -1,7 +1,7 @@
 // Reading a text: its form by its length, its characters, its fields, its check digits, and then its record.
 ghost use mathlib.Core.Path.{_≡_};
 ghost use Rattle.refusal.specs.Outcome.{outcomeOf, refused};
-ghost use Rattle.refusal.specs.Numbers.{numberOf};
+ghost use Rattle.refusal.specs.Numbers.{whyOf};
 ghost use Rattle.zone.specs.Record.{blank};
 ghost use Rattle.text.specs.Order.{characters, verdictBy};
 ghost use Rattle.text.specs.Read.{answerOf, answered, readBy, readText};
@@ -40,7 +40,7 @@ fn verdict_by(form: Form, text: &[u8], span: Span) -> Verdict
 
 // Every refusal gives the blank record.
 fn refuse(refusal: Refusal) -> Reading
-    ensures { λ r. ⌜ answerOf r ≡ answered (refused (numberOf (refusal .cause)) (refusal .place)) blank ⌝ }
+    ensures { λ r. ⌜ answerOf r ≡ answered (refused (whyOf (refusal .cause)) (refusal .place)) blank ⌝ }
 {
     Reading {
         verdict: Verdict::Refused(refusal),

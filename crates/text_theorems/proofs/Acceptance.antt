@@ -8,6 +8,7 @@ use lib.ListN.{length, take, getD}
 use borrow.Author.Tests.{eqb-true, eq-eqb}
 use lib.Dec.{eqb}
 use Rattle.lent.proofs.Bools.{and-both}
+use Rattle.refusal.specs.Numbers.{by}
 use Rattle.refusal.specs.Outcome.{passed, refused, orElse}
 use Rattle.zone.specs.declared.form.Form.{Form}
 use Rattle.zone.specs.declared.form.Recognised.{Recognised}
@@ -199,7 +200,7 @@ read-as f t e = rw (told-by f (length t) e)
 accepted-by : (told : Recognised) (t : List ℕ) → readBy told t .outcome ≡ passed
     → (f : Form) × (told ≡ As f) × (verdictBy f t (spanOf f t) ≡ passed)
 unfolding readBy
-accepted-by Unknown t e = absurd (refused-not-passed (sym (answered-outcome (refused 1 0) _) ∙ e))
+accepted-by Unknown t e = absurd (refused-not-passed (sym (answered-outcome (refused (by 1) 0) _) ∙ e))
 accepted-by (As f) t e = (f, refl, sym (answered-outcome (verdictBy f t (spanOf f t)) (recordBy f t (spanOf f t))) ∙ e)
 
 -- the form of an accepted text, and that its checks passed

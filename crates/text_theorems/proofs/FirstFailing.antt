@@ -7,6 +7,7 @@ use mathlib.Core.List.{List, [], _∷_, _++_, map}
 use mathlib.Core.Bool.{true}
 use lib.ListN.{length}
 use native.Mathlib.Omega.{arith}
+use Rattle.refusal.specs.Numbers.{Why, by}
 use Rattle.refusal.specs.Outcome.{Outcome, passed, refused, orElse}
 use Rattle.zone.specs.declared.form.Recognised.{Recognised}
 use Rattle.zone.specs.declared.form.Recognised.the-variants.{As, Unknown}
@@ -23,7 +24,7 @@ use Rattle.text.specs.Read.{readText, readBy, answered, recordBy}
 use Rattle.zone.specs.declared.record.Record.{Record}
 use Rattle.text_theorems.specs.Ordered.{checksBy, checksOf, FirstFailing, here, later, isRising}
 
-never : (n p : ℕ) → passed ≡ refused n p → ⊥
+never : (n : Why) (p : ℕ) → passed ≡ refused n p → ⊥
 never n p e = let z : _≡_ {A = ℕ} 0 1 = cc in omega arith
 
 -- the first of a list that is a refusal
@@ -47,14 +48,14 @@ unfolding answered
 answered-outcome passed r = refl
 answered-outcome (refused n p) r = refl
 
-answered-blank : (o : Outcome) (r : Record) (n p : ℕ) → answered o r .outcome ≡ refused n p → answered o r .kept ≡ blank
+answered-blank : (o : Outcome) (r : Record) (n : Why) (p : ℕ) → answered o r .outcome ≡ refused n p → answered o r .kept ≡ blank
 unfolding answered
 answered-blank passed r n p e = absurd (never n p e)
 answered-blank (refused m q) r n p e = refl
 
 read-first-by : (told : Recognised) (t : List ℕ) → readBy told t .outcome ≡ firstOf (checksBy told t)
 unfolding readBy checksBy verdictBy firstOf
-read-first-by Unknown t = answered-outcome (refused 1 0) _
+read-first-by Unknown t = answered-outcome (refused (by 1) 0) _
 read-first-by (As f) t =
     answered-outcome (verdictBy f t (spanOf f t)) (recordBy f t (spanOf f t))
     ∙ rw (
@@ -67,7 +68,7 @@ pub read-first : (t : List ℕ) → readText t .outcome ≡ firstOf (checksOf t)
 unfolding readText checksOf
 read-first t = read-first-by (formOf (length t)) t
 
-pub first-failing : (os : List Outcome) (n p : ℕ) → firstOf os ≡ refused n p → FirstFailing os n p
+pub first-failing : (os : List Outcome) (n : Why) (p : ℕ) → firstOf os ≡ refused n p → FirstFailing os n p
 unfolding firstOf
 first-failing [] n p e = absurd (never n p e)
 first-failing (passed ∷ os) n p e = later (first-failing os n p e)
@@ -79,21 +80,21 @@ first-failing (refused m q ∷ os) n p e = rw (sym same-number, sym same-place) 
     same-place : q ≡ p
     same-place = cc
 
-pub failing-first : (os : List Outcome) (n p : ℕ) → FirstFailing os n p → firstOf os ≡ refused n p
+pub failing-first : (os : List Outcome) (n : Why) (p : ℕ) → FirstFailing os n p → firstOf os ≡ refused n p
 unfolding firstOf
 failing-first (refused m q ∷ os) n p here = refl
 failing-first (passed ∷ os) n p (later h) = failing-first os n p h
 
 -- every refusal gives the blank record
-pub refused-blank : (t : List ℕ) (n p : ℕ) → readText t .outcome ≡ refused n p → readText t .kept ≡ blank
+pub refused-blank : (t : List ℕ) (n : Why) (p : ℕ) → readText t .outcome ≡ refused n p → readText t .kept ≡ blank
 unfolding readText readBy
 refused-blank t n p e = by-told (formOf (length t)) e
   where
     by-told : (told : Recognised) → readBy told t .outcome ≡ refused n p → readBy told t .kept ≡ blank
-    by-told Unknown h = answered-blank (refused 1 0) blank n p h
+    by-told Unknown h = answered-blank (refused (by 1) 0) blank n p h
     by-told (As f) h = answered-blank (verdictBy f t (spanOf f t)) (recordBy f t (spanOf f t)) n p h
 
-pub refused-exactly : (t : List ℕ) (n p : ℕ) → (readText t .outcome ≡ refused n p) ↔ FirstFailing (checksOf t) n p
+pub refused-exactly : (t : List ℕ) (n : Why) (p : ℕ) → (readText t .outcome ≡ refused n p) ↔ FirstFailing (checksOf t) n p
 refused-exactly t n p =
     (λ e. first-failing (checksOf t) n p (sym (read-first t) ∙ e), λ h. read-first t ∙ failing-first (checksOf t) n p h)
 

@@ -7,22 +7,23 @@ use native.Mathlib.Omega.{arith}
 use borrow.Author.Tests.{eqb-true, eq-eqb}
 use lib.Dec.{eqb}
 use lib.ListN.{getD}
+use Rattle.refusal.specs.Numbers.{expecting}
 use Rattle.refusal.specs.Outcome.{Outcome, passed}
-use Rattle.refusal.proofs.Outcomes.{both-passed, unless-kept, kept-unless}
+use Rattle.refusal.proofs.Outcomes.{both-passed, rule-kept, kept-rule}
 use Rattle.zone.specs.Part.{Part, same}
 use Rattle.text.specs.Order.{inOrder, digitAt}
-use Rattle.digit.specs.Check.{digitOf}
+use Rattle.digit.specs.Check.{checkOf, digitOf}
 use Rattle.text_theorems.specs.Accepted.{among}
 use Rattle.zone.proofs.Parts.{same-one, same-self}
 
 pub digit-kept : (t : List ℕ) (place : ℕ) (covers : List ℕ) → digitAt t place covers ≡ passed → getD t place 0 ≡ digitOf covers
 unfolding digitAt
 digit-kept t place covers e = eqb-true (getD t place 0) (digitOf covers)
-    (unless-kept (eqb (getD t place 0) (digitOf covers)) 9 place e)
+    (rule-kept (eqb (getD t place 0) (digitOf covers)) (expecting (checkOf covers)) place e)
 
 pub kept-digit : (t : List ℕ) (place : ℕ) (covers : List ℕ) → getD t place 0 ≡ digitOf covers → digitAt t place covers ≡ passed
 unfolding digitAt
-kept-digit t place covers e = kept-unless (eqb (getD t place 0) (digitOf covers)) 9 place
+kept-digit t place covers e = kept-rule (eqb (getD t place 0) (digitOf covers)) (expecting (checkOf covers)) place
     (eq-eqb (getD t place 0) (digitOf covers) e)
 
 pub walk-each : (check : Part → Outcome) (xs : List Part) → inOrder check xs ≡ passed → (x : Part) → among x xs ≡ true

@@ -4,6 +4,7 @@ use mathlib.Core.List.{List, [], _∷_, _++_, map}
 use mathlib.Core.Bool.{Bool, true, _&&_}
 use lib.Dec.{ltb}
 use lib.ListN.{length}
+use Rattle.refusal.specs.Numbers.{Why, by}
 use Rattle.refusal.specs.Outcome.{Outcome, passed, refused}
 use Rattle.zone.specs.declared.form.Recognised.{Recognised}
 use Rattle.zone.specs.declared.form.Recognised.the-variants.{As, Unknown}
@@ -13,16 +14,16 @@ use Rattle.text.specs.Order.{characters, fieldCheck, digitCheck}
 
 -- 1, 2, then 3 to 8 by field in text order, then check digits in text order
 unfoldable pub checksBy : Recognised → List ℕ → List Outcome
-checksBy Unknown t = refused 1 0 ∷ []
+checksBy Unknown t = refused (by 1) 0 ∷ []
 checksBy (As f) t = characters t ∷ (map (fieldCheck f t (spanOf f t)) (parts f) ++ map (digitCheck f t (spanOf f t)) (parts f))
 
 unfoldable pub checksOf : List ℕ → List Outcome
 checksOf t = checksBy (formOf (length t)) t
 
 -- every check before it passed, and this one did not
-pub data FirstFailing : List Outcome → ℕ → ℕ → Type 0 where
-  here : {n p : ℕ} {rest : List Outcome} → FirstFailing (refused n p ∷ rest) n p
-  later : {n p : ℕ} {rest : List Outcome} → FirstFailing rest n p → FirstFailing (passed ∷ rest) n p
+pub data FirstFailing : List Outcome → Why → ℕ → Type 0 where
+  here : {n : Why} {p : ℕ} {rest : List Outcome} → FirstFailing (refused n p ∷ rest) n p
+  later : {n : Why} {p : ℕ} {rest : List Outcome} → FirstFailing rest n p → FirstFailing (passed ∷ rest) n p
 
 -- each number is below the next
 unfoldable pub isRising : List ℕ → Bool

@@ -234,7 +234,7 @@ module _ (s : List ℕ) (at tag : ℕ) where
       let place = at + tagWidth tag in
       let a = place + n .told in
       let b = a + n .count in
-      let kept = kept-value (leb b (length s)) (value (record { from = a; to = b })) 10 at v f in
+      let kept = kept-value (leb b (length s)) (value (record { from = a; to = b })) _ at v f in
       let fits : b ≤ length s = leb-true b (length s) (kept .0) in
       let t = told s place small n told-so in
       let content = take (b - a) (drop a s) in
@@ -270,13 +270,13 @@ module _ (s : List ℕ) (at tag : ℕ) where
   unfolding element sized
   reads small v e =
       let place = at + tagWidth tag in
-      let kept = kept-value (eqb (tagAt s at tag) tag) (sized s at place (sizeAt s place)) 10 at v e in
+      let kept = kept-value (eqb (tagAt s at tag) tag) (sized s at place (sizeAt s place)) _ at v e in
       go (eqb-true (tagAt s at tag) tag (kept .0)) (sizeAt s place) refl (kept .1)
     where
       go : tagAt s at tag ≡ tag → (n : Size) → sizeAt s (at + tagWidth tag) ≡ n → sized s at (at + tagWidth tag) n ≡ value v
           → Stands s at tag (take (v .to - v .from) (drop (v .from) s)) (drop (v .to) s) v
       go t (Of n) f h = sized-stands small t n f v h
-      go t Unknown f h = absurd (never-value 10 at v h)
+      go t Unknown f h = absurd (never-value _ at v h)
 
   -- where an encoding stands, it is read
   pub back : (c rest : List ℕ) → length c ≤ 65535 → drop at s ≡ tlv tag c ++ rest

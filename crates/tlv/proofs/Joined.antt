@@ -3,12 +3,13 @@ use Prim.Native.Nat.{ℕ}
 use mathlib.Core.Path.{_≡_, refl, ap, sym}
 use mathlib.Core.Bool.{Bool, true, false, cond}
 use native.Mathlib.Omega.{arith}
+use Rattle.refusal.specs.Numbers.{Why, by}
 use Rattle.refusal.specs.Outcome.{Outcome, passed, refused, orElse}
 use Rattle.refusal.proofs.Outcomes.{refused-not-passed}
 use Rattle.tlv.specs.Read.{Read, value, refusal, andThen, checked, outcomeIn}
 
 refusedAs : {A : Type 0} → Outcome → Read A
-refusedAs passed = refusal 0 0
+refusedAs passed = refusal (by 0) 0
 refusedAs (refused n p) = refusal n p
 
 pub passed-then : {A B : Type 0} (m : Read A) (b : B) → outcomeIn m ≡ passed → andThen m (λ a. value b) ≡ value b
@@ -16,7 +17,7 @@ unfolding outcomeIn andThen
 passed-then (value a) b e = refl
 passed-then (refusal n p) b e = absurd (refused-not-passed e)
 
-pub refused-then : {A B : Type 0} (m : Read A) (go : A → Read B) (n p : ℕ) → outcomeIn m ≡ refused n p
+pub refused-then : {A B : Type 0} (m : Read A) (go : A → Read B) (n : Why) (p : ℕ) → outcomeIn m ≡ refused n p
     → andThen m go ≡ refusal n p
 unfolding outcomeIn andThen refusedAs
 refused-then (value a) go n p e = absurd (refused-not-passed (sym e))
@@ -24,7 +25,7 @@ refused-then {A} {B} (refusal k q) go n p e = ap (refusedAs {A = B}) e
 
 -- ---- what must have been, where a joined reading gave a value
 
-pub never-value : {A : Type 0} (n p : ℕ) (a : A) → _≡_ {A = Read A} (refusal n p) (value a) → ⊥
+pub never-value : {A : Type 0} (n : Why) (p : ℕ) (a : A) → _≡_ {A = Read A} (refusal n p) (value a) → ⊥
 never-value n p a e = let z : _≡_ {A = ℕ} 0 1 = cc in omega arith
 
 pub same-value : {A : Type 0} {a b : A} → _≡_ {A = Read A} (value a) (value b) → a ≡ b
@@ -41,7 +42,7 @@ unfolding checked
 checked-value passed m a e = (refl, e)
 checked-value (refused n p) m a e = absurd (never-value n p a e)
 
-pub kept-value : {A : Type 0} (b : Bool) (m : Read A) (n p : ℕ) (a : A) → cond b m (refusal n p) ≡ value a
+pub kept-value : {A : Type 0} (b : Bool) (m : Read A) (n : Why) (p : ℕ) (a : A) → cond b m (refusal n p) ≡ value a
     → (b ≡ true) × (m ≡ value a)
 kept-value true m n p a e = (refl, e)
 kept-value false m n p a e = absurd (never-value n p a e)

@@ -10,3 +10,5 @@ pub mod Encoded
 pub mod Standing
 -- stretches
 pub mod Stretches
+-- what every refusal of steps in their order has (`EachRead`)
+pub mod Each

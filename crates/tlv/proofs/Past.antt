@@ -7,6 +7,7 @@ use native.Mathlib.Omega.{arith}
 use borrow.Author.Tests.{lt-leb, leb-true}
 use lib.Dec.{eqb, leb, ltb}
 use lib.ListN.{length}
+use Rattle.refusal.specs.Numbers.{Why, by}
 use Rattle.tlv.specs.declared.Stretch.{Stretch}
 use Rattle.tlv.specs.declared.Size.{Size}
 use Rattle.tlv.specs.declared.Size.the-variants.{Of, Unknown}
@@ -14,7 +15,7 @@ use Rattle.tlv.specs.Read.{Read, value, refusal}
 use Rattle.tlv.proofs.Joined.{never-value, same-value, kept-value}
 use Rattle.tlv.specs.Element.{sized, sizeAt, endsWithin, tagAt, tagWidth, element}
 
-sized-past : (s : List ℕ) (at place : ℕ) (z : Size) → length s < place → sized s at place z ≡ refusal 10 at
+sized-past : (s : List ℕ) (at place : ℕ) (z : Size) → length s < place → sized s at place z ≡ refusal (by 10) at
 unfolding sized endsWithin
 sized-past s at place (Of z) h = rw (lt-leb (place + z .told + z .count) (length s) (omega arith))
 sized-past s at place Unknown h = refl
@@ -27,15 +28,15 @@ some-tag tag = go (ltb tag 256)
     go true = omega arith
     go false = omega arith
 
-pub none-past : (s : List ℕ) (at tag : ℕ) → length s ≤ at → refusal 10 at ≡ element s at tag
+pub none-past : (s : List ℕ) (at tag : ℕ) → length s ≤ at → refusal (by 10) at ≡ element s at tag
 unfolding element
 none-past s at tag h =
     let p = at + tagWidth tag in
-    let e : sized s at p (sizeAt s p) ≡ refusal 10 at = sized-past s at p (sizeAt s p) (omega (arith, some-tag tag)) in
+    let e : sized s at p (sizeAt s p) ≡ refusal (by 10) at = sized-past s at p (sizeAt s p) (omega (arith, some-tag tag)) in
     go (eqb (tagAt s at tag) tag) e
   where
-    go : (b : Bool) → sized s at (at + tagWidth tag) (sizeAt s (at + tagWidth tag)) ≡ refusal 10 at
-        → refusal 10 at ≡ cond b (sized s at (at + tagWidth tag) (sizeAt s (at + tagWidth tag))) (refusal 10 at)
+    go : (b : Bool) → sized s at (at + tagWidth tag) (sizeAt s (at + tagWidth tag)) ≡ refusal (by 10) at
+        → refusal (by 10) at ≡ cond b (sized s at (at + tagWidth tag) (sizeAt s (at + tagWidth tag))) (refusal (by 10) at)
     go true e = sym e
     go false e = refl
 
@@ -46,39 +47,39 @@ unfolding sized endsWithin
 sized-within s at place (Of z) v e =
     let a = place + z .told in
     let b = a + z .count in
-    let k = kept-value (leb b (length s)) (value (record { from = a; to = b })) 10 at v e in
+    let k = kept-value (leb b (length s)) (value (record { from = a; to = b })) _ at v e in
     let within : b ≤ length s = leb-true b (length s) (k .0) in
     rw (← same-value (k .1)) (omega arith, omega arith, within)
-sized-within s at place Unknown v e = absurd (never-value 10 at v e)
+sized-within s at place Unknown v e = absurd (never-value _ at v e)
 
 pub value-within : (s : List ℕ) (at tag : ℕ) (v : Stretch) → element s at tag ≡ value v
     → (at < v .from) × (v .from ≤ v .to) × (v .to ≤ length s)
 unfolding element
 value-within s at tag v e =
     let p = at + tagWidth tag in
-    let k = sized-within s at p (sizeAt s p) v (kept-value (eqb (tagAt s at tag) tag) (sized s at p (sizeAt s p)) 10 at v e .1) in
+    let k = sized-within s at p (sizeAt s p) v (kept-value (eqb (tagAt s at tag) tag) (sized s at p (sizeAt s p)) _ at v e .1) in
     (omega (arith, some-tag tag, k .0), k .1, k .2)
 
 -- what is refused is refused at its place
-place-told : {A : Type 0} {n m p q : ℕ} → _≡_ {A = Read A} (refusal n p) (refusal m q) → p ≡ q
+place-told : {A : Type 0} {n m : Why} {p q : ℕ} → _≡_ {A = Read A} (refusal n p) (refusal m q) → p ≡ q
 place-told e = cc
 
-value-or-refused : {A : Type 0} (b : Bool) (a : A) (at n p : ℕ) → cond b (value a) (refusal 10 at) ≡ refusal n p → p ≡ at
+value-or-refused : {A : Type 0} (b : Bool) (a : A) (at : ℕ) (n : Why) (p : ℕ) → cond b (value a) (refusal (by 10) at) ≡ refusal n p → p ≡ at
 value-or-refused true a at n p e = absurd (never-value n p a (sym e))
 value-or-refused false a at n p e = sym (place-told e)
 
-sized-refused : (s : List ℕ) (at place : ℕ) (z : Size) (n p : ℕ) → sized s at place z ≡ refusal n p → p ≡ at
+sized-refused : (s : List ℕ) (at place : ℕ) (z : Size) (n : Why) (p : ℕ) → sized s at place z ≡ refusal n p → p ≡ at
 unfolding sized endsWithin
 sized-refused s at place Unknown n p e = sym (place-told e)
 sized-refused s at place (Of z) n p e = value-or-refused (leb (place + z .told + z .count) (length s)) _ at n p e
 
-pub refused-there : (s : List ℕ) (at tag n p : ℕ) → element s at tag ≡ refusal n p → p ≡ at
+pub refused-there : (s : List ℕ) (at tag : ℕ) (n : Why) (p : ℕ) → element s at tag ≡ refusal n p → p ≡ at
 unfolding element
 refused-there s at tag n p e = go (eqb (tagAt s at tag) tag) e
   where
     place : ℕ
     place = at + tagWidth tag
 
-    go : (b : Bool) → cond b (sized s at place (sizeAt s place)) (refusal 10 at) ≡ refusal n p → p ≡ at
+    go : (b : Bool) → cond b (sized s at place (sizeAt s place)) (refusal (by 10) at) ≡ refusal n p → p ≡ at
     go true f = sized-refused s at place (sizeAt s place) n p f
     go false f = sym (place-told f)

@@ -5,6 +5,7 @@ use mathlib.Core.Bool.{Bool, true, false}
 use native.Mathlib.Omega.{arith}
 use borrow.Author.Tests.{ltb-true, ltb-false}
 use lib.Dec.{ltb}
+use Rattle.refusal.specs.Numbers.{Why}
 use Rattle.tlv.specs.Read.{Read, value, refusal}
 
 -- n: where what is walked ends; what stands at a place, and where it ends; how it is joined to what follows
@@ -12,12 +13,12 @@ module _ {A R : Type 0} (n : ℕ) (step : ℕ → Read A) (end : A → ℕ) (joi
     (walk : ℕ → ℕ → Read R)
     (ends : (k at : ℕ) → n ≤ at → walk k at ≡ done)
     (more : (k at : ℕ) (a : A) → at < n → step at ≡ value a → walk (suc k) at ≡ join at a (walk k (end a)))
-    (stop : (k at number place : ℕ) → at < n → step at ≡ refusal number place → walk (suc k) at ≡ refusal number place)
+    (stop : (k at : ℕ) (why : Why) (place : ℕ) → at < n → step at ≡ refusal why place → walk (suc k) at ≡ refusal why place)
     (behind : (at : ℕ) (a : A) → step at ≡ value a → at < end a) where
   here : (k m at : ℕ) (x : Read A) → step at ≡ x → at < n → ((a : A) → at < end a → walk k (end a) ≡ walk m (end a))
       → walk (suc k) at ≡ walk (suc m) at
   here k m at (value a) e h ih = more k at a h e ∙ (ap (join at a) (ih a (behind at a e)) ∙ sym (more m at a h e))
-  here k m at (refusal number place) e h ih = stop k at number place h e ∙ sym (stop m at number place h e)
+  here k m at (refusal why place) e h ih = stop k at why place h e ∙ sym (stop m at why place h e)
 
   either : (k m at : ℕ) (b : Bool) → ltb at n ≡ b → ((a : A) → at < end a → walk k (end a) ≡ walk m (end a))
       → walk (suc k) at ≡ walk (suc m) at

@@ -4,7 +4,7 @@ use mathlib.Core.Bool.{cond, _&&_}
 use mathlib.Core.List.{List, [], _∷_, _++_}
 use lib.Dec.{eqb, leb, ltb}
 use lib.ListN.{length, getD}
-use Rattle.refusal.specs.Numbers.{numberOf}
+use Rattle.refusal.specs.Numbers.{by, whyOf}
 use Rattle.tlv.specs.declared.Stretch.{Stretch}
 use Rattle.tlv.specs.declared.Size.{Size}
 use Rattle.tlv.specs.declared.Size.the-variants.{Of, Unknown}
@@ -44,20 +44,20 @@ tagAt s at tag = cond (ltb tag 256) (getD s at 0) (getD s at 0 * 256 + getD s (a
 
 -- the octets from the one place to the other, if they end within what holds them; else 10 at the element's tag
 unfoldable pub endsWithin : List ℕ → (at from to : ℕ) → Read Stretch
-endsWithin s at from to = cond (leb to (length s)) (value (record { from = from; to = to })) (refusal 10 at)
+endsWithin s at from to = cond (leb to (length s)) (value (record { from = from; to = to })) (refusal (by 10) at)
 
 unfoldable pub sized : List ℕ → (at place : ℕ) → Size → Read Stretch
 sized s at place (Of z) = endsWithin s at (place + z .told) (place + z .told + z .count)
-sized s at place Unknown = refusal 10 at
+sized s at place Unknown = refusal (by 10) at
 
 unfoldable pub sizeAt : List ℕ → ℕ → Size
 sizeAt s place = sizeOf (getD s place 0) (getD s (place + 1) 0) (getD s (place + 2) 0)
 
 -- the value of the element with this tag that stands at a place of what holds it, or 10 there
 unfoldable pub element : List ℕ → (at tag : ℕ) → Read Stretch
-element s at tag = cond (eqb (tagAt s at tag) tag) (sized s at (at + tagWidth tag) (sizeAt s (at + tagWidth tag))) (refusal 10 at)
+element s at tag = cond (eqb (tagAt s at tag) tag) (sized s at (at + tagWidth tag) (sizeAt s (at + tagWidth tag))) (refusal (by 10) at)
 
 -- the paper's number and values of each case
 abbrev pub takenOf : Taken → Read Stretch
 takenOf (Value v) = value v
-takenOf (Refused r) = refusal (numberOf (r .cause)) (r .place)
+takenOf (Refused r) = refusal (whyOf (r .cause)) (r .place)

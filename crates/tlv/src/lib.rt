@@ -1,6 +1,7 @@
 // Elements of tag, length and value, as they stand in a chip's files: one walker for every stage of a presentation.
 ghost use mathlib.Core.Path.{_≡_};
 ghost use Prim.Native.Nat.{_+_, _<_, _≤_, _^_};
+ghost use Rattle.refusal.specs.Numbers.{by};
 ghost use Rattle.tlv.specs.Read.{refusal};
 ghost use Rattle.tlv.specs.Element.{sizeOf, sizeAt, tagAt, tagWidth, endsWithin, sized, element, takenOf};
 ghost use Rattle.tlv.specs.Inner.Counts.{countIn};
@@ -69,7 +70,7 @@ pub fn size_of(a: u8, b: u8, c: u8) -> Size
 
 // 10, at the tag of the element that fails or should stand there.
 pub fn refuse(at: usize) -> Taken
-    ensures { λ r. ⌜ takenOf r ≡ refusal 10 at ⌝ }
+    ensures { λ r. ⌜ takenOf r ≡ refusal (by 10) at ⌝ }
 {
     Taken::Refused(Refusal::at(Cause::Encoding, at))
 }

@@ -161,7 +161,7 @@ fn words(cause: Cause) {
         Cause::Date => say(b"date"),
         Cause::Sex => say(b"sex"),
         Cause::Name => say(b"name"),
-        Cause::Digit => say(b"check digit"),
+        Cause::Digit(_) => say(b"check digit"),
         _ => say(b"none of a text's causes"),
     }
 }

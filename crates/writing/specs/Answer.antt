@@ -6,6 +6,7 @@ use mathlib.Core.Path.{_≡_}
 use lib.Dec.{leb}
 use lib.ListN.{length, drop}
 use Rattle.refusal.specs.declared.Written.{Written}
+use Rattle.refusal.specs.Numbers.{by}
 use Rattle.refusal.specs.Length.{Length, written, refused, lengthOf}
 use Rattle.zone.specs.Form.{total}
 use Rattle.zone.specs.declared.record.Record.{Record}
@@ -15,7 +16,7 @@ use Rattle.writing.specs.Text.{textOf}
 -- 17 for a record that is not sound, then 16; else 72, 88 or 90 octets are written
 unfoldable pub textAnswer : Record → List ℕ → Length
 textAnswer r out =
-    cond (isSound r) (cond (leb (total (r .form)) (length out)) (written (total (r .form))) (refused 16 0)) (refused 17 0)
+    cond (isSound r) (cond (leb (total (r .form)) (length out)) (written (total (r .form))) (refused (by 16) 0)) (refused (by 17) 0)
 
 -- a refusal changes no octet, a success those of the text and no others
 unfoldable pub textOut : Record → List ℕ → List ℕ

@@ -5,7 +5,7 @@ use mathlib.Core.Bool.{Bool, cond}
 use mathlib.Core.List.{List, [], _∷_}
 use lib.Dec.{eqb, leb}
 use lib.ListN.{take, getD, set, replicate}
-use Rattle.refusal.specs.Numbers.{numberOf}
+use Rattle.refusal.specs.Numbers.{whyOf}
 use Rattle.refusal.specs.Outcome.{Outcome, passed, refused, unless, orElse, outcomeOf}
 use Rattle.tlv.specs.declared.Stretch.{Stretch}
 use Rattle.tlv.specs.Read.{Read, value, refusal, andThen, checked, outcomeIn}
@@ -21,7 +21,7 @@ use Rattle.object.specs.Object.{digestFor}
 
 abbrev pub groupHashOf : HashRead → Read O.GroupHash
 groupHashOf (Value e) = value (record { group = e .group; place = e .place; digest = e .digest; end = e .end })
-groupHashOf (Refused r) = refusal (numberOf (r .cause)) (r .place)
+groupHashOf (Refused r) = refusal (whyOf (r .cause)) (r .place)
 
 -- ---- what was seen of the entries
 

@@ -1,10 +1,19 @@
 -- No words of the paper: how the code's promises are joined.
+use Prim.Native.Nat.{ℕ, _-_}
+use Prim.Native.Char.{code}
 use mathlib.Core.Bool.{Bool, cond}
-use lib.Dec.{ltb}
-use Rattle.refusal.specs.Outcome.{Outcome, passed, orElse}
+use mathlib.Core.List.{List}
+use lib.Dec.{eqb, ltb}
+use lib.ListN.{getD}
+use Rattle.refusal.specs.Numbers.{expecting}
+use Rattle.refusal.specs.Outcome.{Outcome, passed, orElse, refusedUnless}
 use Rattle.zone.specs.Part.{Part}
 use Rattle.zone.specs.Form.{width}
 use Rattle.zone.specs.declared.form.Form.{Form}
+
+-- a place against a digit that was worked out, which the refusal carries as its number
+unfoldable pub writtenAt : List ℕ → (place digit : ℕ) → Outcome
+writtenAt t place digit = refusedUnless (eqb (getD t place 0) digit) (expecting (digit - code "0")) place
 
 -- a check of a part, in forms that have it
 unfoldable pub ifHas : Form → Part → Outcome → Outcome

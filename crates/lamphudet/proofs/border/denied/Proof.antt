@@ -1,4 +1,4 @@
--- The cause has its own number.
+-- The cause has its own number, and its digit.
 use borrow.Author.Needs.{needs}
 use Rattle.lamphudet.specs.Answer.{inC}
 use Rattle.lamphudet.proofs.border.denied.Statement.{statement}
@@ -6,4 +6,7 @@ use Rattle.lamphudet.proofs.border.denied.Tie as tie
 
 pub denied-spec : {M : Type 1} → statement M
 unfolding inC
-denied-spec = tie.close (tie.spec (λ c κs. search needs) (λ c. rw (c .number .ensures)))
+denied-spec = tie.close (tie.spec
+    (λ c κs. search needs)
+    (λ c κs. search needs)
+    (λ c. rw (c .expected .ensures, c .before .number .ensures)))

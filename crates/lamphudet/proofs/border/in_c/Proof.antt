@@ -10,7 +10,8 @@ in-c-spec =
     tie.close
     (tie.spec
     (λ c. search needs)
+    (λ c κs. search needs)
     (λ c. search needs)
     (λ c κs. search needs)
-    (λ c. rw (c .before .answer .given .1))
+    (λ c. rw (c .not-refused .ensures, c .before .before .answer .given .1))
     (λ c. rw (c .denied .ensures, c .before .before .answer2 .given .1)))

@@ -11,9 +11,11 @@ next-in-c-spec =
     tie.close
     (tie.spec
     (λ c. search needs)
-    (λ c. search needs)
+    (λ c κs. search needs)
     (λ c. search needs)
     (λ c κs. search needs)
-    (λ c. rw (c .before .step .given .1))
-    (λ c. rw (c .enum-told .given .1))
+    (λ c. search needs)
+    (λ c κs. search needs)
+    (λ c. rw (c .not-refused .ensures, c .before .before .step .given .1))
+    (λ c. rw (c .not-refused2 .ensures, c .before .enum-told .given .1))
     (λ c. rw (c .denied .ensures, c .before .before .step2 .given .1)))

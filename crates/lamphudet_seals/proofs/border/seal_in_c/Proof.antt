@@ -15,10 +15,12 @@ seal-in-c-spec =
     (λ c κs. search needs)
     (λ c κs. search needs)
     (λ c κs. search needs)
+    (λ c κs. search needs)
     (λ c. rw (c .fields-in-c .ensures, c .before .before .written .given .1))
     (λ c. rw (
       c .fields-in-c2 .ensures,
       c .before .number .ensures,
-      c .before .before .blank .ensures,
-      c .before .before .before .before .written2 .given .1,
+      c .before .before .expected .ensures,
+      c .before .before .before .blank .ensures,
+      c .before .before .before .before .before .written2 .given .1,
     )))

@@ -5,7 +5,7 @@ use Rattle.object.proofs.EntryPlaces.{entry-stands}
 use Rattle.object.proofs.EntriesWalked.{tally-step, tally-refused, tally-done}
 use Rattle.object.proofs.EntriesByTable.{counted-count}
 use Rattle.tlv.specs.Read.{outcomeIn}
-use Rattle.refusal.specs.Numbers.{numberOf}
+use Rattle.refusal.specs.Numbers.{whyOf}
 use borrow.Author.Needs.{needs}
 use denote.Ref.{now}
 use native.Mathlib.Omega.{arith}
@@ -67,7 +67,7 @@ returns c =
     let r = c .before .before .refusal .given .0 .0 in
     let read = sym (c .before .before .before .before .entry-at .ensures)
     ∙ ap groupHashOf (c .before .before .refusal .given .1) in
-    let q = sym (l .inv .1) ∙ tally-refused s (l .at) (l .seen) (numberOf (r .cause)) (r .place) here read in
+    let q = sym (l .inv .1) ∙ tally-refused s (l .at) (l .seen) (whyOf (r .cause)) (r .place) here read in
     (rw q, rw (q, c .none2 .ensures))
 
 returns-2 : tie.Need-returns-2 Inv-loop μ-loop

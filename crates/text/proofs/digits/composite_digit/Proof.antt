@@ -1,14 +1,16 @@
 -- One call on what the digit covers.
 use borrow.Author.Needs.{needs}
 use Rattle.zone.specs.Inner.Places.{placesOf}
-use Rattle.text.specs.Order.{digitAt, digitCheck}
+use Rattle.digit.proofs.Written.{digit-digit}
+use Rattle.text.specs.Order.{digitCheck}
+use Rattle.text.proofs.Written.{written-digit}
 use Rattle.text.proofs.digits.composite_digit.Statement.{statement}
 use Rattle.text.proofs.digits.composite_digit.Tie as tie
 
 returns : tie.Need-returns
-unfolding digitCheck digitAt placesOf
+unfolding digitCheck placesOf
 returns c =
-    λ span. rw (c .judged-digit .ensures, c .before .covered-digit .ensures, c .before .before .places .ensures)
+    λ span. rw (c .judged-digit .ensures, c .before .covered-digit .ensures, c .before .before .places .ensures, written-digit)
 
 pub composite-digit-spec : {M : Type 1} → statement M
 composite-digit-spec =
@@ -16,5 +18,5 @@ composite-digit-spec =
     (tie.spec
     (λ c κs. search needs)
     (λ c κs. search needs)
-    (λ c κs. search needs)
+    (λ c κs. rw (c .covered-digit .ensures) (digit-digit _))
     returns)

@@ -1,15 +1,15 @@
 -- The digit worked out, judged.
 use borrow.Author.Needs.{needs}
-use Rattle.text.specs.Order.{digitAt}
+use Rattle.digit.proofs.Written.{digit-digit}
+use Rattle.text.proofs.Written.{written-digit}
 use Rattle.text.proofs.digits.field_digit.Statement.{statement}
 use Rattle.text.proofs.digits.field_digit.Tie as tie
 
 pub field-digit-spec : {M : Type 1} → statement M
-unfolding digitAt
 field-digit-spec =
     tie.close
     (tie.spec
     (λ c κs. search needs)
     (λ c κs. search needs)
-    (λ c κs. search needs)
-    (λ c. rw (c .judged-digit .ensures, c .before .of .ensures, c .before .before .part .ensures)))
+    (λ c κs. rw (c .of .ensures) (digit-digit _))
+    (λ c. rw (c .judged-digit .ensures, c .before .of .ensures, c .before .before .part .ensures, written-digit)))

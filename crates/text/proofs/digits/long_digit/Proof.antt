@@ -6,7 +6,9 @@ use Rattle.zone.specs.Part.{optional}
 use Rattle.zone.specs.Inner.Places.{placesOf}
 use Rattle.zone.specs.declared.form.Places.{Places}
 use Rattle.zone.proofs.Widths.{within, total-le}
-use Rattle.text.specs.Order.{digitAt, furtherDigit, digitCheck}
+use Rattle.digit.proofs.Written.{digit-digit}
+use Rattle.text.specs.Order.{furtherDigit, digitCheck}
+use Rattle.text.proofs.Written.{written-digit}
 use Rattle.text.proofs.digits.long_digit.Statement.{statement}
 use Rattle.text.proofs.digits.long_digit.Tie as tie
 
@@ -17,12 +19,17 @@ add-judged-digit c =
     omega (arith, ap (λ (p : Places). p .optional) (c .before .places .ensures), within form optional, total-le form)
 
 pub long-digit-spec : {M : Type 1} → statement M
-unfolding digitCheck furtherDigit digitAt placesOf
+unfolding digitCheck furtherDigit placesOf
 long-digit-spec =
     tie.close
     (tie.spec
     (λ c κs. search needs)
     add-judged-digit
     (λ c κs. search needs)
-    (λ c κs. search needs)
-    (λ c. rw (c .judged-digit .ensures, c .before .long-sum .ensures, c .before .before .before .places .ensures)))
+    (λ c κs. rw (c .long-sum .ensures) (digit-digit _))
+    (λ c. rw (
+      c .judged-digit .ensures,
+      c .before .long-sum .ensures,
+      c .before .before .before .places .ensures,
+      written-digit,
+    )))
