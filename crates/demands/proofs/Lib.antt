@@ -4,3 +4,5 @@ pub mod Starred
 pub mod NoSecondAnswer
 -- DEMAND 3: the key, for all that is read (`accepted-key`)
 pub mod KeyOfAnswers
+-- the expected digit at the C border (`text-digit-told`, `presentation-digit-told`)
+pub mod ExpectedInC

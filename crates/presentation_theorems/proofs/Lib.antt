@@ -28,3 +28,5 @@ pub mod TextsCarried
 pub mod Few
 -- no two contents have the same octets (`octets-tell`)
 pub mod ContentsByOctets
+-- DEMAND 2: the digit that a refusal 9 carries is the text's (`expected-carried`, `presentation-nine`)
+pub mod Expected

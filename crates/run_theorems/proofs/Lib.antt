@@ -12,3 +12,5 @@ pub mod OneAnswer
 pub mod AnyRun
 -- DEMAND 3: 278 + 6n bits rounded up (`entry-length`)
 pub mod EntryLengths
+-- the expected digit where what was read is entered (`entered-told`)
+pub mod Expected

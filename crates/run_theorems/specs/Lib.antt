@@ -2,3 +2,5 @@
 pub mod Runs
 -- demand 3: what two entries with one key have in common
 pub mod Keys
+-- the expected digit where what was read is entered
+pub mod Expected

@@ -36,3 +36,5 @@ pub mod FirstFailing
 pub mod AtTheBorder
 -- the examples of the papers hold (`printed-hold`)
 pub mod Printed
+-- the digit that a refusal 9 carries is the text's (`seal-expected`, `seal-nine`)
+pub mod Expected

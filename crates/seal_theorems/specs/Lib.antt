@@ -4,3 +4,5 @@ pub mod Sealed
 pub mod SealChecks
 -- the examples of the papers
 pub mod Examples
+-- the digit that a refusal 9 carries is the text's
+pub mod Expected

@@ -6,6 +6,8 @@ pub mod NumberSpan
 pub mod FormByLength
 -- DEMAND 2: the answer is the first failing check (`refused-exactly`); a refusal gives the blank record
 pub mod FirstFailing
+-- DEMAND 2: the digit that a refusal 9 carries (`expected-exactly`, `digit-told`, `nine-tells`)
+pub mod Expected
 -- DEMAND 2: accepted exactly when every rule is kept (`accepted-exactly`)
 pub mod Acceptance
 -- DEMAND 2: the record of an accepted text holds its fields, and is sound (`kept-and-sound`)

@@ -4,3 +4,5 @@ pub mod Accepted
 pub mod Ordered
 -- what the record of an accepted text holds
 pub mod Held
+-- the digit that a refusal 9 carries
+pub mod Expected

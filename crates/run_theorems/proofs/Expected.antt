@@ -1,0 +1,77 @@
+-- The expected digit where what was read is entered: with 9 stands the digit that reading worked out, and 255 else.
+use Prim.Native.Nat.{ℕ}
+use mathlib.Core.Path.{_≡_, refl, sym}
+use mathlib.Core.Bool.{Bool, true, false, cond, _&&_}
+use mathlib.Core.List.{List}
+use native.Mathlib.Omega.{arith}
+use lib.Dec.{leb}
+use lib.ListN.{length}
+use Rattle.refusal.specs.Numbers.{Why, by, expecting, noDigit, numberOf, expectedOf}
+use Rattle.refusal.specs.Outcome.{Outcome, passed, refused}
+use Rattle.refusal.specs.Length as told
+use Rattle.refusal.proofs.Outcomes.{refused-not-passed}
+use Rattle.zone.specs.declared.record.Record.{Record}
+use Rattle.sound.specs.Sound.{isSound}
+use Rattle.entry.specs.Entry.{size, isHouse, entryAnswer}
+use Rattle.entry.specs.Entered.{enteredAnswer}
+use Rattle.run_theorems.specs.Expected.{DigitTold}
+
+-- the numbers of what a call that writes says
+abbrev pub numberTold : told.Length → ℕ
+numberTold (told.written n) = 0
+numberTold (told.refused why p) = numberOf why
+
+abbrev pub expectedTold : told.Length → ℕ
+expectedTold (told.written n) = noDigit
+expectedTold (told.refused why p) = expectedOf why
+
+abbrev pub valueTold : told.Length → ℕ
+valueTold (told.written n) = n
+valueTold (told.refused why p) = p
+
+-- not 9, and no digit
+abbrev pub NoDigit : told.Length → Type 0
+NoDigit l = (numberTold l ≡ 9 → ⊥) × (expectedTold l ≡ 255)
+
+pub none-written : (n : ℕ) → NoDigit (told.written n)
+none-written n = (λ e. omega arith, refl)
+
+pub none-refused : (n p : ℕ) → (n ≡ 9 → ⊥) → NoDigit (told.refused (by n) p)
+none-refused n p h = (h, refl)
+
+pub none-either : (b : Bool) (x y : told.Length) → NoDigit x → NoDigit y → NoDigit (cond b x y)
+none-either true x y h k = h
+none-either false x y h k = k
+
+module _ (house : ℕ) (r : Record) (out : List ℕ) where
+  none-entry : NoDigit (entryAnswer house r out)
+  unfolding entryAnswer
+  none-entry =
+      none-either (isHouse house && isSound r) _ _
+      (none-either (leb (size (r .«name_len»)) (length out)) _ _ (none-written (size (r .«name_len»)))
+      (none-refused 16 0 (λ e. omega arith)))
+      (none-refused 17 0 (λ e. omega arith))
+
+  -- of a reader whose refusals 9 carry a digit
+  pub entered-told : (o : Outcome) → ((n : Why) (p : ℕ) → o ≡ refused n p → numberOf n ≡ 9 → (d : ℕ) × (n ≡ expecting d))
+      → DigitTold o (numberTold (enteredAnswer o house r out)) (expectedTold (enteredAnswer o house r out))
+      (valueTold (enteredAnswer o house r out))
+  unfolding enteredAnswer
+  entered-told passed nine = record {
+    carried = λ d p e. absurd (refused-not-passed (sym e));
+    of-a-digit = λ e. absurd (none-entry .0 e);
+    else-none = λ h. none-entry .1;
+  }
+  entered-told (refused (by n) p) nine = record {
+    carried = λ d q e. absurd (let z : _≡_ {A = ℕ} 0 1 = cc in omega arith);
+    of-a-digit = λ e. absurd (never (nine (by n) p refl e));
+    else-none = λ h. refl;
+  }
+    where
+      never : (d : ℕ) × (by n ≡ expecting d) → ⊥
+      never (d, e) = let z : _≡_ {A = ℕ} 0 1 = cc in omega arith
+  entered-told (refused (expecting d) p) nine = record {
+    carried = λ k q e. (refl, cc, cc);
+    of-a-digit = λ e. (d, p, refl);
+    else-none = λ h. absurd (h refl);
+  }

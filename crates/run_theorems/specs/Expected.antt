@@ -1,0 +1,14 @@
+-- The expected digit where what was read is entered: document 02, 2026-07, "every refusal 9 shall carry that digit up through text
+-- and presentation to the C host. Every other refusal, and a success at the C host, has 255 there."
+use Prim.Native.Nat.{ℕ}
+use mathlib.Core.Path.{_≡_}
+use Rattle.refusal.specs.Numbers.{expecting}
+use Rattle.refusal.specs.Outcome.{Outcome, refused}
+
+-- the numbers that a host is told where this was read
+pub record DigitTold (o : Outcome) (number expected value : ℕ) : Type 0 where
+  -- a wrong check digit: its digit and its place, as they were read
+  pub carried : (d p : ℕ) → o ≡ refused (expecting d) p → (number ≡ 9) × (expected ≡ d) × (value ≡ p)
+  -- 9 is told of nothing else
+  pub of-a-digit : number ≡ 9 → (d p : ℕ) × (o ≡ refused (expecting d) p)
+  pub else-none : (number ≡ 9 → ⊥) → expected ≡ 255

@@ -1,0 +1,229 @@
+-- DEMAND 2, the digit of a refusal 9 (document 02, 2026-07): it is the check of the characters that document 01 has its place run
+-- over, it is one digit, and it is not what stands there; and every refusal 9 carries one.
+use Prim.Native.Nat.{ℕ, _+_, _≤_, _<_}
+use Prim.Native.Char.{code}
+use mathlib.Core.Path.{_≡_, refl, ap, sym, _∙_}
+use mathlib.Core.Bool.{Bool, true, false, cond}
+use mathlib.Core.List.{List, [], _∷_}
+use mathlib.Core.Logic.{_↔_, _⊎_, inl, inr}
+use native.Mathlib.Nat.{mod-lt}
+use native.Mathlib.Omega.{arith}
+use borrow.Author.Tests.{ne-eqb, eqb-false}
+use lib.Dec.{eqb, lit<}
+use lib.ListN.{length, getD}
+use Rattle.refusal.specs.Numbers.{Why, by, expecting, numberOf}
+use Rattle.refusal.specs.Outcome.{Outcome, passed, refused, refusedUnless}
+use Rattle.refusal.proofs.Each.{Each, each-passed, each-refused, each-else, each-rule, each-unless}
+use Rattle.zone.specs.declared.form.Form.{Form}
+use Rattle.zone.specs.declared.form.Form.the-variants.{Td1, Td2, Td3}
+use Rattle.zone.specs.declared.form.Recognised.{Recognised}
+use Rattle.zone.specs.declared.form.Recognised.the-variants.{As, Unknown}
+use Rattle.zone.specs.Alphabet.{firstForeign}
+use Rattle.zone.specs.Record.{blank}
+use Rattle.zone.specs.Part.{Part, code as codePart, state, number, numberCheck, optional, birth, birthCheck, sex, expiry, expiryCheck}
+use Rattle.zone.specs.Part.{nationality, optional2, composite, name, personal, personalCheck, rank, same}
+use Rattle.zone.specs.Form.{formOf, layout, parts, start, startIn, width, widthIn, field, covered}
+use Rattle.digit.specs.Check.{sumFrom, checkOf, digitOf}
+use Rattle.field.specs.Code.{codeRule}
+use Rattle.field.specs.Letters.{stateRule, sexRule, nameRule}
+use Rattle.field.specs.Date.{birthRule, expiryRule}
+use Rattle.text.specs.declared.number.Span.{Span}
+use Rattle.text.specs.declared.number.Span.the-variants.{Short, Long, Bad}
+use Rattle.text.specs.Number.{spanOf, checkedBy, numberRule}
+use Rattle.text.specs.Order.{characters, fieldCheck, digitAt, numberDigit, furtherDigit, digitCheck, inOrder, verdictBy}
+use Rattle.text.specs.Read.{readText, readBy, recordBy}
+use Rattle.text.proofs.Numbers.{span-within}
+use Rattle.text_theorems.specs.Ordered.{checksOf, FirstFailing}
+use Rattle.text_theorems.specs.Expected.{coveredAt, Expected}
+use Rattle.text_theorems.proofs.FirstFailing.{answered-outcome, refused-exactly}
+
+-- what a refusal of a text tells: 9 is told with the digit that was expected, and with that alone
+abbrev pub Tells : Form → List ℕ → Why → ℕ → Type 0
+Tells f t (by n) p = n ≡ 9 → ⊥
+Tells f t (expecting d) p = Expected f t d p
+
+-- ---- what each check place runs over
+
+birth-covered : (f : Form) (t : List ℕ) → coveredAt f t (start f birthCheck) ≡ field f birth t
+unfolding coveredAt start startIn layout same rank
+birth-covered Td1 t = refl
+birth-covered Td2 t = refl
+birth-covered Td3 t = refl
+
+expiry-covered : (f : Form) (t : List ℕ) → coveredAt f t (start f expiryCheck) ≡ field f expiry t
+unfolding coveredAt start startIn layout same rank
+expiry-covered Td1 t = refl
+expiry-covered Td2 t = refl
+expiry-covered Td3 t = refl
+
+personal-covered : (f : Form) (t : List ℕ) → coveredAt f t (start f personalCheck) ≡ field f personal t
+unfolding coveredAt start startIn layout same rank
+personal-covered Td1 t = refl
+personal-covered Td2 t = refl
+personal-covered Td3 t = refl
+
+composite-covered : (f : Form) (t : List ℕ) → coveredAt f t (start f composite) ≡ covered f t
+unfolding coveredAt start startIn layout same rank
+composite-covered Td1 t = refl
+composite-covered Td2 t = refl
+composite-covered Td3 t = refl
+
+short-covered : (f : Form) (t : List ℕ) → coveredAt f t (start f numberCheck) ≡ checkedBy f t (spanOf f t)
+unfolding coveredAt start startIn layout same rank
+short-covered Td1 t = refl
+short-covered Td2 t = refl
+short-covered Td3 t = refl
+
+long-covered : (f : Form) (t : List ℕ) (n : ℕ) → n < width f optional
+    → coveredAt f t (start f optional + n) ≡ checkedBy f t (spanOf f t)
+unfolding coveredAt start startIn width widthIn layout same rank
+long-covered Td1 t n h =
+    rw (ne-eqb (15 + n) 36 (λ e. omega arith), ne-eqb (15 + n) 44 (λ e. omega arith), ne-eqb (15 + n) 90 (λ e. omega arith), ne-eqb (15 + n) 59 (λ e. omega arith))
+long-covered Td2 t n h =
+    rw (ne-eqb (64 + n) 55 (λ e. omega arith), ne-eqb (64 + n) 63 (λ e. omega arith), ne-eqb (64 + n) 72 (λ e. omega arith), ne-eqb (64 + n) 71 (λ e. omega arith))
+long-covered Td3 t n h = absurd (omega (arith, h))
+
+-- ---- the checks
+
+expected-at : (f : Form) (t : List ℕ) (p : ℕ) (covers : List ℕ) → covers ≡ coveredAt f t p → eqb (getD t p 0) (digitOf covers) ≡ false
+    → Expected f t (checkOf covers) p
+unfolding digitOf checkOf
+expected-at f t p covers same wrong = record {
+  worked-out = ap checkOf same;
+  one-digit = omega (arith, mod-lt (sumFrom 0 covers) (lit< {m = 0} {n = 10} tt));
+  not-there = eqb-false (getD t p 0) (digitOf covers) wrong;
+}
+
+each-digit : (f : Form) (t : List ℕ) (p : ℕ) (covers : List ℕ) → covers ≡ coveredAt f t p → Each (Tells f t) (digitAt t p covers)
+unfolding digitAt
+each-digit f t p covers same = go (eqb (getD t p 0) (digitOf covers)) refl
+  where
+    go : (b : Bool) → eqb (getD t p 0) (digitOf covers) ≡ b → Each (Tells f t) (refusedUnless b (expecting (checkOf covers)) p)
+    go true h = each-passed (Tells f t)
+    go false h = each-refused (Tells f t) (expecting (checkOf covers)) p (expected-at f t p covers same h)
+
+each-number : (f : Form) (t : List ℕ) (span : Span) → spanOf f t ≡ span
+    → Each (Tells f t) (numberDigit f t span) × Each (Tells f t) (furtherDigit f t span)
+unfolding numberDigit furtherDigit
+each-number f t Short e = (
+  each-digit f t (start f numberCheck) (checkedBy f t Short) (ap (checkedBy f t) (sym e) ∙ sym (short-covered f t)),
+  each-passed (Tells f t),
+)
+each-number f t (Long n) e = (
+  each-passed (Tells f t),
+  each-digit f t (start f optional + n) (checkedBy f t (Long n))
+      (ap (checkedBy f t) (sym e) ∙ sym (long-covered f t n (span-within f t n e))),
+)
+each-number f t Bad e = (each-passed (Tells f t), each-passed (Tells f t))
+
+each-check : (f : Form) (t : List ℕ) (x : Part) → Each (Tells f t) (digitCheck f t (spanOf f t) x)
+unfolding digitCheck
+each-check f t numberCheck = each-number f t (spanOf f t) refl .0
+each-check f t optional = each-number f t (spanOf f t) refl .1
+each-check f t birthCheck = each-digit f t (start f birthCheck) (field f birth t) (sym (birth-covered f t))
+each-check f t expiryCheck = each-digit f t (start f expiryCheck) (field f expiry t) (sym (expiry-covered f t))
+each-check f t personalCheck = each-digit f t (start f personalCheck) (field f personal t) (sym (personal-covered f t))
+each-check f t composite = each-digit f t (start f composite) (covered f t) (sym (composite-covered f t))
+each-check f t codePart = each-passed (Tells f t)
+each-check f t state = each-passed (Tells f t)
+each-check f t number = each-passed (Tells f t)
+each-check f t birth = each-passed (Tells f t)
+each-check f t sex = each-passed (Tells f t)
+each-check f t expiry = each-passed (Tells f t)
+each-check f t nationality = each-passed (Tells f t)
+each-check f t optional2 = each-passed (Tells f t)
+each-check f t name = each-passed (Tells f t)
+each-check f t personal = each-passed (Tells f t)
+
+-- a field is refused by another number
+each-field : (f : Form) (t : List ℕ) (span : Span) (x : Part) → Each (Tells f t) (fieldCheck f t span x)
+unfolding fieldCheck
+each-field f t span codePart = each-unless (Tells f t) (codeRule f (field f codePart t)) 3 (start f codePart) (λ e. omega arith)
+each-field f t span state = each-unless (Tells f t) (stateRule (field f state t)) 4 (start f state) (λ e. omega arith)
+each-field f t span nationality = each-unless (Tells f t) (stateRule (field f nationality t)) 4 (start f nationality) (λ e. omega arith)
+each-field f t span number = each-unless (Tells f t) (numberRule f t span) 5 (start f number) (λ e. omega arith)
+each-field f t span birth = each-unless (Tells f t) (birthRule (field f birth t)) 6 (start f birth) (λ e. omega arith)
+each-field f t span expiry = each-unless (Tells f t) (expiryRule (field f expiry t)) 6 (start f expiry) (λ e. omega arith)
+each-field f t span sex = each-unless (Tells f t) (sexRule (getD t (start f sex) 0)) 7 (start f sex) (λ e. omega arith)
+each-field f t span name = each-unless (Tells f t) (nameRule (field f name t)) 8 (start f name) (λ e. omega arith)
+each-field f t span numberCheck = each-passed (Tells f t)
+each-field f t span optional = each-passed (Tells f t)
+each-field f t span birthCheck = each-passed (Tells f t)
+each-field f t span expiryCheck = each-passed (Tells f t)
+each-field f t span optional2 = each-passed (Tells f t)
+each-field f t span composite = each-passed (Tells f t)
+each-field f t span personal = each-passed (Tells f t)
+each-field f t span personalCheck = each-passed (Tells f t)
+
+each-order : (P : Why → ℕ → Type 0) (check : Part → Outcome) → ((x : Part) → Each P (check x)) → (xs : List Part)
+    → Each P (inOrder check xs)
+unfolding inOrder
+each-order P check each [] = each-passed P
+each-order P check each (x ∷ xs) = each-else P (check x) (inOrder check xs) (each x) (each-order P check each xs)
+
+each-verdict : (f : Form) (t : List ℕ) → Each (Tells f t) (verdictBy f t (spanOf f t))
+unfolding verdictBy characters
+each-verdict f t =
+    let P = Tells f t in
+    each-else P (characters t) _ (each-unless P (eqb (firstForeign t) (length t)) 2 (firstForeign t) (λ e. omega arith))
+    (each-else P (inOrder (fieldCheck f t (spanOf f t)) (parts f)) _ (each-order P _ (each-field f t (spanOf f t)) (parts f))
+    (each-order P _ (each-check f t) (parts f)))
+
+-- ---- the text
+
+-- every refusal of a text of a form tells what it should; that of another length is 1
+pub text-tells : (t : List ℕ) (n : Why) (p : ℕ) → readText t .outcome ≡ refused n p
+    → (n ≡ by 1) ⊎ ((f : Form) × (formOf (length t) ≡ As f) × Tells f t n p)
+unfolding readText readBy
+text-tells t n p e = go (formOf (length t)) refl e
+  where
+    go : (told : Recognised) → formOf (length t) ≡ told → readBy told t .outcome ≡ refused n p
+        → (n ≡ by 1) ⊎ ((f : Form) × (formOf (length t) ≡ As f) × Tells f t n p)
+    go Unknown h r = inl (let q : refused (by 1) 0 ≡ refused n p = sym (answered-outcome (refused (by 1) 0) blank) ∙ r in cc)
+    go (As f) h r = inr (
+      f,
+      h,
+      each-verdict f t n p (sym (answered-outcome (verdictBy f t (spanOf f t)) (recordBy f t (spanOf f t))) ∙ r),
+    )
+
+-- a refusal 9 carries a digit
+pub nine-tells : (t : List ℕ) (n : Why) (p : ℕ) → readText t .outcome ≡ refused n p → numberOf n ≡ 9 → (d : ℕ) × (n ≡ expecting d)
+nine-tells t (expecting d) p e h = (d, refl)
+nine-tells t (by n) p e h = absurd (go (text-tells t (by n) p e))
+  where
+    go : (by n ≡ by 1) ⊎ ((f : Form) × (formOf (length t) ≡ As f) × (n ≡ 9 → ⊥)) → ⊥
+    go (inl q) = let z : n ≡ 1 = cc in omega (arith, h)
+    go (inr q) = q .2 h
+
+-- and the digit is the one expected at its place
+pub digit-told : (t : List ℕ) (d p : ℕ) → readText t .outcome ≡ refused (expecting d) p
+    → (f : Form) × (formOf (length t) ≡ As f) × Expected f t d p
+digit-told t d p e = go (text-tells t (expecting d) p e)
+  where
+    go : (expecting d ≡ by 1) ⊎ ((f : Form) × (formOf (length t) ≡ As f) × Expected f t d p)
+        → (f : Form) × (formOf (length t) ≡ As f) × Expected f t d p
+    go (inl q) = absurd (let z : _≡_ {A = ℕ} 0 1 = cc in omega arith)
+    go (inr q) = q
+
+-- 9 at p with digit d: exactly where 9 at p is the first failing check, and d the check of what document 01 has it run over
+pub expected-exactly : (t : List ℕ) (d p : ℕ)
+    → (readText t .outcome ≡ refused (expecting d) p)
+    ↔ ((n : Why) × FirstFailing (checksOf t) n p × (numberOf n ≡ 9) × (f : Form) × (formOf (length t) ≡ As f) ×
+    (d ≡ checkOf (coveredAt f t p)))
+expected-exactly t d p = (
+  λ e.
+      let told = digit-told t d p e in
+      (expecting d, refused-exactly t (expecting d) p .0 e, refl, told .0, told .1, told .2 .worked-out),
+  λ h.
+      let e = refused-exactly t (h .0) p .1 (h .1) in
+      let nine = nine-tells t (h .0) p e (h .2) in
+      let k = nine .0 in
+      let f : readText t .outcome ≡ refused (expecting k) p = e ∙ ap (λ (n : Why). refused n p) (nine .1) in
+      let told = digit-told t k p f in
+      let one : told .0 ≡ h .3 = same-form (sym (told .1) ∙ h .4) in
+      let same : k ≡ d = told .2 .worked-out ∙ ap (λ (g : Form). checkOf (coveredAt g t p)) one ∙ sym (h .5) in
+      f ∙ ap (λ (m : ℕ). refused (expecting m) p) same,
+)
+  where
+    same-form : {a b : Form} → As a ≡ As b → a ≡ b
+    same-form q = cc
