@@ -27,9 +27,15 @@ extern "C" {
  *
  * number 0: not refused, and value is what the call says below.
  * else:     the refusal's number, and value is its place, an offset from 0 in what was lent.
+ *
+ * expected: with refusal 9 the check digit that was worked out, 0 to 9; with every other refusal, and
+ * with number 0, LAMPHUDET_NO_DIGIT.
  */
+#define LAMPHUDET_NO_DIGIT 255
+
 typedef struct lamphudet_answer {
     uint32_t number;
+    uint32_t expected;
     uint64_t value;
 } lamphudet_answer;
 
@@ -192,7 +198,7 @@ static inline const char *lamphudet_words(uint32_t number)
  *   7   at the sex
  *   8   at the start of the name
  *   then:
- *   9   at the first check digit in the text that is wrong
+ *   9   at the first check digit in the text that is wrong, with the digit that was expected there
  *   17  at 0: the house is not 1 to 32,767
  *   16  at 0: entry has fewer octets than this entry needs
  */
@@ -237,7 +243,7 @@ lamphudet_answer lamphudet_read_text(uint32_t house, const uint8_t *text, size_t
  *   14  at presentation_len: there is none
  *   10  the text (5F1F), and nothing more
  *   1 to 9, as lamphudet_read_text does, each at its place in the text, counted from the
- *   presentation's start
+ *   presentation's start; 9 with the digit that was expected
  *   Then:
  *   17  at 0: the house is not 1 to 32,767
  *   16  at 0: entry has fewer octets than this entry needs

@@ -27,6 +27,7 @@ typedef struct lamphudet_day {
  */
 typedef struct lamphudet_seal {
     uint32_t number;              /* 0, or the refusal's number */
+    uint32_t expected;            /* as in lamphudet_answer */
     uint64_t value;               /* 0: octets of entry written; else the place */
     lamphudet_stretch signature;  /* in the seal */
     lamphudet_day issued, signed_on;
@@ -69,7 +70,7 @@ typedef struct lamphudet_seal {
  *   27  at FF: its length is wrongly coded, the signature is cut off, or anything stands behind it;
  *       at seal_len: there is no FF
  *   3 to 9, as lamphudet_read_text does, but at the tag of feature 02; a text that begins with V is
- *       3 there
+ *       3 there; 9 with the digit that was expected in the text
  *   17  at 0: the house is not 1 to 32,767
  *   16  at 0: entry has fewer octets than this entry needs
  *

@@ -16,5 +16,6 @@ int main(void)
         sprintf(hex + 2 * at, "%02x", (unsigned)digest[at]);
     }
     printf("abc: %s\n", hex);
-    return answer.number != 0 || answer.value != 32 || strcmp(hex, published) != 0;
+    return answer.number != 0 || answer.expected != LAMPHUDET_NO_DIGIT || answer.value != 32
+        || strcmp(hex, published) != 0;
 }

@@ -22,9 +22,10 @@ static const char t3[] = "P<UTONORD<<ELIN<<<<<<<<<<<<<<<<<<<<<<<<<<<<<"
 /* Where each of these stands, and all of it. */
 enum { OBJECT = 22, ENTRY_1 = 44, ENTRY_2 = 83, GROUP_1 = 122, TEXT = 127, GROUP_2 = 215, ALL = 218 };
 
+/* With no digit expected. */
 static int is(lamphudet_answer answer, uint32_t number, uint64_t value)
 {
-    return answer.number == number && answer.value == value;
+    return answer.number == number && answer.expected == LAMPHUDET_NO_DIGIT && answer.value == value;
 }
 
 static int put_together(uint8_t *made)
@@ -77,12 +78,25 @@ static int refused(uint8_t *made)
     return right && is(lamphudet_read_presentation(1, made, ALL, entry, sizeof entry), LAMPHUDET_REFUSED_DIGEST, GROUP_2);
 }
 
+/* The text's last digit, which is 0, is 9: it is told which one was expected, once the file has its digest again. */
+static int expected(uint8_t *made)
+{
+    uint8_t entry[LAMPHUDET_ENTRY_MAX];
+    lamphudet_answer answer;
+
+    put_together(made);
+    made[GROUP_2 - 1] = '9';
+    lamphudet_digest(made + GROUP_1, GROUP_2 - GROUP_1, made + ENTRY_1 + sizeof entry_1, 32);
+    answer = lamphudet_read_presentation(1, made, ALL, entry, sizeof entry);
+    return answer.number == LAMPHUDET_REFUSED_DIGIT && answer.expected == 0 && answer.value == GROUP_2 - 1;
+}
+
 int main(void)
 {
     uint8_t made[ALL];
     int kept = put_together(made) && accepted(made);
     int handed = found(made);
-    int kept_out = refused(made);
+    int kept_out = refused(made) && expected(made);
 
     printf("presentation %s, files %s, refusals %s\n", kept ? "kept" : "NOT kept", handed ? "found" : "NOT found",
            kept_out ? "right" : "WRONG");

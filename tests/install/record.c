@@ -1,20 +1,30 @@
 /*
  * A host of the installed library: T3 of document 01 is read to an entry of 43 octets that begins as the paper says, is
  * found again as the only entry of a run, is opened to the fields that the text has, and is written back; what is refused
- * opens to the blank record; and every refusal has words of its own. Exit status 0 where all of that is so.
+ * opens to the blank record; a wrong check digit is told with the one that was expected; every refusal has words of its own;
+ * and the answer's struct has the layout that the archive was compiled with. Exit status 0 where all of that is so.
  */
 #include "holds.h"
 
 #include <lamphudet.h>
+#include <stddef.h>
 #include <stdio.h>
 #include <string.h>
 
 static const char t3[] = "P<UTONORD<<ELIN<<<<<<<<<<<<<<<<<<<<<<<<<<<<<"
                          "K7<<<<<<<1UTO9001158F3006302<<<<<<<<<<<<<<00";
 
+/* The octets of C's struct, and at which of them each field begins. */
+static int laid_out(void)
+{
+    return sizeof(lamphudet_answer) == 16 && offsetof(lamphudet_answer, number) == 0
+        && offsetof(lamphudet_answer, expected) == 4 && offsetof(lamphudet_answer, value) == 8;
+}
+
+/* With no digit expected. */
 static int is(lamphudet_answer answer, uint32_t number, uint64_t value)
 {
-    return answer.number == number && answer.value == value;
+    return answer.number == number && answer.expected == LAMPHUDET_NO_DIGIT && answer.value == value;
 }
 
 static int is_t3(lamphudet_record record)
@@ -73,6 +83,32 @@ static int refused(void)
         && entry[0] == 0;
 }
 
+/* T3 with a 7, a letter and a filler in the place of each of its check digits. */
+static int expected(void)
+{
+    static const struct {
+        size_t place;
+        uint32_t digit;
+    } digits[] = { { 53, 1 }, { 63, 8 }, { 71, 2 }, { 86, 0 }, { 87, 0 } };
+    static const char wrong[] = "7K<";
+    uint8_t given[sizeof t3 - 1];
+    uint8_t entry[LAMPHUDET_ENTRY_MAX];
+    size_t at;
+
+    for (at = 0; at < 3 * sizeof digits / sizeof digits[0]; at++) {
+        lamphudet_answer answer;
+
+        memcpy(given, t3, sizeof given);
+        given[digits[at / 3].place] = (uint8_t)wrong[at % 3];
+        answer = lamphudet_read_text(1, given, sizeof given, entry, sizeof entry);
+        if (answer.number != LAMPHUDET_REFUSED_DIGIT || answer.expected != digits[at / 3].digit
+            || answer.value != digits[at / 3].place) {
+            return 0;
+        }
+    }
+    return 1;
+}
+
 /* The words of each refusal are apart from each other, from those of an acceptance and from those of a number that is none. */
 static int in_words(void)
 {
@@ -95,11 +131,12 @@ static int in_words(void)
 
 int main(void)
 {
+    int laid = laid_out();
     int kept = accepted();
-    int kept_out = refused();
+    int kept_out = refused() && expected();
     int told = in_words();
 
-    printf("T3 %s, refusals %s, words %s\n", kept ? "kept" : "NOT kept", kept_out ? "right" : "WRONG",
-           told ? "right" : "WRONG");
-    return !(kept && kept_out && told);
+    printf("layout %s, T3 %s, refusals %s, words %s\n", laid ? "right" : "WRONG", kept ? "kept" : "NOT kept",
+           kept_out ? "right" : "WRONG", told ? "right" : "WRONG");
+    return !(laid && kept && kept_out && told);
 }

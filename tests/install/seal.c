@@ -1,7 +1,8 @@
 /*
  * A host of both installed libraries: the seal that source document 002 prints, with version octet 02 and a signature behind
  * it, is read to its header's fields and to the entry that its text alone has; what is refused writes nothing and has a blank
- * header; and the struct has the layout that the archive was compiled with. Exit status 0 where all of that is so.
+ * header; a wrong check digit is told with the one that was expected; and the struct has the layout that the archive was
+ * compiled with. Exit status 0 where all of that is so.
  */
 #include "holds.h"
 
@@ -35,7 +36,8 @@ static void put_together(uint8_t *made)
 static int laid_out(void)
 {
     return sizeof(lamphudet_day) == 4 && offsetof(lamphudet_day, month) == 2 && offsetof(lamphudet_day, day) == 3
-        && sizeof(lamphudet_seal) == 312 && offsetof(lamphudet_seal, value) == 8
+        && sizeof(lamphudet_seal) == 312 && offsetof(lamphudet_seal, number) == 0
+        && offsetof(lamphudet_seal, expected) == 4 && offsetof(lamphudet_seal, value) == 8
         && offsetof(lamphudet_seal, signature) == 16 && offsetof(lamphudet_seal, issued) == 32
         && offsetof(lamphudet_seal, signed_on) == 36 && offsetof(lamphudet_seal, version) == 40
         && offsetof(lamphudet_seal, definition) == 41 && offsetof(lamphudet_seal, category) == 42
@@ -68,18 +70,24 @@ static int accepted(const uint8_t *made)
 
     memcpy(given, text, sizeof given);
     answer = lamphudet_read_text(1, given, sizeof given, same, sizeof same);
-    return seal.number == 0 && seal.value == ENTRY && is_printed(&seal) && answer.number == 0
-        && answer.value == ENTRY && memcmp(entry, same, ENTRY) == 0
+    return seal.number == 0 && seal.expected == LAMPHUDET_NO_DIGIT && seal.value == ENTRY && is_printed(&seal)
+        && answer.number == 0 && answer.value == ENTRY && memcmp(entry, same, ENTRY) == 0
         && holds(lamphudet_open_entry(entry, ENTRY).name, 20, "ERIKSSON<<ANNA<MARIA");
+}
+
+static int is_refused_with(lamphudet_seal seal, uint32_t number, uint32_t expected, uint64_t place)
+{
+    return seal.number == number && seal.expected == expected && seal.value == place && seal.version == 0
+        && seal.definition == 0 && seal.category == 0 && is_day(seal.issued, 0, 0, 0)
+        && is_day(seal.signed_on, 0, 0, 0)
+        && holds(seal.country, sizeof seal.country, "") && holds(seal.signer, sizeof seal.signer, "")
+        && seal.reference_len == 0 && holds(seal.reference, sizeof seal.reference, "")
+        && seal.signature.start == 0 && seal.signature.length == 0;
 }
 
 static int is_refused(lamphudet_seal seal, uint32_t number, uint64_t place)
 {
-    return seal.number == number && seal.value == place && seal.version == 0 && seal.definition == 0
-        && seal.category == 0 && is_day(seal.issued, 0, 0, 0) && is_day(seal.signed_on, 0, 0, 0)
-        && holds(seal.country, sizeof seal.country, "") && holds(seal.signer, sizeof seal.signer, "")
-        && seal.reference_len == 0 && holds(seal.reference, sizeof seal.reference, "")
-        && seal.signature.start == 0 && seal.signature.length == 0;
+    return is_refused_with(seal, number, LAMPHUDET_NO_DIGIT, place);
 }
 
 static int refused(uint8_t *made)
@@ -95,6 +103,9 @@ static int refused(uint8_t *made)
              && is_refused(lamphudet_read_seal(0, made, ALL, entry, 0), LAMPHUDET_REFUSED_UNSOUND, 0)
              && is_refused(lamphudet_read_seal(1, made, ALL, entry, ENTRY - 1), LAMPHUDET_REFUSED_OUTPUT, 0);
 
+    /* The text ends in 5, and not in 6. */
+    made[ZONE - 1]--;
+    right = right && is_refused_with(lamphudet_read_seal(1, made, ALL, entry, 64), LAMPHUDET_REFUSED_DIGIT, 6, TEXT);
     made[TEXT + 2] = 0xff;
     right = right && is_refused(lamphudet_read_seal(1, made, ALL, entry, 64), LAMPHUDET_REFUSED_SEAL_TEXT, TEXT);
     while (at < end && *at == 0) {
