@@ -55,7 +55,7 @@ fn over(lent: Vec<Vec<u8>>, call: impl Fn(&[u8], &mut [u8]) -> Answer + 'static)
 
 /// One entry at each turn, and every field of it, which the compiler must not leave out.
 fn opening(call: impl Fn(&[u8]) -> Opened + 'static) -> Work {
-    over(entries(), move |entry, _| Answer { number: black_box(call(entry)).number, value: 0 })
+    over(entries(), move |entry, _| Answer { number: black_box(call(entry)).number, ..Answer::not_refused(0) })
 }
 
 /// The next entry of a run at each turn, and the first one after the last.

@@ -3,7 +3,7 @@
 
 use crate::answer::{Answer, Outcome};
 use crate::opened::Opened;
-use crate::refusal::LONGEST;
+use crate::refusal::{Refusal, LONGEST};
 use crate::seal::answer::SealAnswer;
 use crate::sha256::sha256;
 use crate::{entry, presentation, seal, text};
@@ -11,7 +11,7 @@ use crate::{entry, presentation, seal, text};
 /// Refusals 1, then 16; else 32 octets.
 pub fn digest(input: &[u8], room: usize) -> Outcome {
     if input.len() > LONGEST {
-        return Outcome::refused(1, 0);
+        return Outcome::refused(Refusal::at(1, 0));
     }
     Outcome::written(sha256(input).to_vec(), room)
 }
@@ -19,8 +19,8 @@ pub fn digest(input: &[u8], room: usize) -> Outcome {
 /// The reader's refusals, then 17 for the house, then 16; else the entry.
 pub fn read_text(house: u32, text: &[u8], room: usize) -> Outcome {
     match text::read(text) {
-        Err(refusal) => Outcome::refused(refusal.number, refusal.place as u64),
-        Ok(_) if !entry::is_house(house) => Outcome::refused(17, 0),
+        Err(refusal) => Outcome::refused(refusal),
+        Ok(_) if !entry::is_house(house) => Outcome::refused(Refusal::at(17, 0)),
         Ok(record) => Outcome::written(entry::write(house, &record), room),
     }
 }
@@ -28,8 +28,8 @@ pub fn read_text(house: u32, text: &[u8], room: usize) -> Outcome {
 /// As for a text.
 pub fn read_presentation(house: u32, lent: &[u8], room: usize) -> Outcome {
     match presentation::read(lent) {
-        Err(refusal) => Outcome::refused(refusal.number, refusal.place as u64),
-        Ok(_) if !entry::is_house(house) => Outcome::refused(17, 0),
+        Err(refusal) => Outcome::refused(refusal),
+        Ok(_) if !entry::is_house(house) => Outcome::refused(Refusal::at(17, 0)),
         Ok(record) => Outcome::written(entry::write(house, &record), room),
     }
 }
@@ -37,8 +37,8 @@ pub fn read_presentation(house: u32, lent: &[u8], room: usize) -> Outcome {
 /// As for a text; with the entry, what the seal says besides.
 pub fn read_seal(house: u32, lent: &[u8], room: usize) -> Outcome<SealAnswer> {
     match seal::read(lent) {
-        Err(refusal) => Outcome::refused_seal(refusal.number, refusal.place as u64),
-        Ok(_) if !entry::is_house(house) => Outcome::refused_seal(17, 0),
+        Err(refusal) => Outcome::refused_seal(refusal),
+        Ok(_) if !entry::is_house(house) => Outcome::refused_seal(Refusal::at(17, 0)),
         Ok(seal) => Outcome::written_seal(&seal, entry::write(house, &seal.record), room),
     }
 }
@@ -47,7 +47,7 @@ pub fn read_seal(house: u32, lent: &[u8], room: usize) -> Outcome<SealAnswer> {
 pub fn write_text(lent: &[u8], room: usize) -> Outcome {
     match entry::read(lent) {
         Some((_, record, length)) if length == lent.len() => Outcome::written(text::write(&record), room),
-        _ => Outcome::refused(18, 0),
+        _ => Outcome::refused(Refusal::at(18, 0)),
     }
 }
 
@@ -63,12 +63,12 @@ pub fn open_entry(lent: &[u8]) -> Opened {
 pub fn next_entry(run: &[u8], offset: u64) -> Answer {
     let length = run.len() as u64;
     if offset == length {
-        return Answer { number: 0, value: 0 };
+        return Answer::not_refused(0);
     }
     let found = if offset < length { entry::read(&run[offset as usize..]) } else { None };
     match found {
-        Some((_, _, taken)) => Answer { number: 0, value: offset + taken as u64 },
-        None => Answer { number: 18, value: offset },
+        Some((_, _, taken)) => Answer::not_refused(offset + taken as u64),
+        None => Answer::refused(Refusal::at(18, offset as usize)),
     }
 }
 

@@ -26,7 +26,7 @@ fn content(right: bool, element: &Element) -> Result<(), Refusal> {
     if right {
         return Ok(());
     }
-    Err(Refusal { number: 11, place: element.whole.start })
+    Err(Refusal::at(11, element.whole.start))
 }
 
 fn is_unicode(digits: &[u8]) -> bool {
@@ -39,7 +39,7 @@ fn listed(lent: &[u8], list: &Element) -> Result<(), Refusal> {
     let unknown = tags.iter().position(|tag| group::of_tag(*tag).is_none());
     let repeated = || (0..tags.len()).find(|at| tags[..*at].contains(&tags[*at]));
     if let Some(at) = unknown.or_else(repeated) {
-        return Err(Refusal { number: 11, place: list.content.start + at });
+        return Err(Refusal::at(11, list.content.start + at));
     }
     content(tags.len() <= MOST, list)
 }

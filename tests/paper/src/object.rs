@@ -25,11 +25,11 @@ pub fn read(lent: &[u8], object: &Element) -> Result<Vec<Entry>, Refusal> {
     let mut walk = Walk::inside(lent, object);
     let version = walk.take(&INTEGER)?;
     if lent[version.content] != [0] {
-        return Err(Refusal { number: 12, place: version.whole.start });
+        return Err(Refusal::at(12, version.whole.start));
     }
     let algorithm = walk.take(&SEQUENCE)?;
     if !is_sha_256(&lent[algorithm.content]) {
-        return Err(Refusal { number: 13, place: algorithm.whole.start });
+        return Err(Refusal::at(13, algorithm.whole.start));
     }
     let list = walk.take(&SEQUENCE)?;
     let found = entries(lent, &list)?;
@@ -54,10 +54,10 @@ fn entries(lent: &[u8], list: &Element) -> Result<Vec<Entry>, Refusal> {
         found.push(entry);
     }
     if let Some(place) = repeated {
-        return Err(Refusal { number: 12, place });
+        return Err(Refusal::at(12, place));
     }
     if found.len() < FEWEST || found.len() > MOST {
-        return Err(Refusal { number: 12, place: list.whole.start });
+        return Err(Refusal::at(12, list.whole.start));
     }
     Ok(found)
 }
@@ -69,10 +69,10 @@ fn entry(lent: &[u8], holder: &Element) -> Result<(Entry, usize), Refusal> {
     let place = integer.whole.start;
     let number = match lent[integer.content] {
         [number @ 1..=16] => number,
-        _ => return Err(Refusal { number: 12, place }),
+        _ => return Err(Refusal::at(12, place)),
     };
     let octets = walk.take(&OCTET_STRING)?;
-    let digest = lent[octets.content].try_into().map_err(|_| Refusal { number: 12, place: octets.whole.start })?;
+    let digest = lent[octets.content].try_into().map_err(|_| Refusal::at(12, octets.whole.start))?;
     walk.close()?;
     Ok((Entry { number, digest }, place))
 }

@@ -31,14 +31,14 @@ pub fn read(lent: &[u8]) -> Result<Record, Refusal> {
         allowed(lent, file, &parts.files[..at], listed, &entries)?;
     }
     let first = parts.files.iter().find(|file| file.group == 1);
-    let first = first.ok_or(Refusal { number: 14, place: lent.len() })?;
+    let first = first.ok_or(Refusal::at(14, lent.len()))?;
     record(lent, &first.element)
 }
 
 /// Stages 1 and 2.
 fn parts(lent: &[u8]) -> Result<Parts, Refusal> {
     if lent.len() > LONGEST {
-        return Err(Refusal { number: 1, place: 0 });
+        return Err(Refusal::at(1, 0));
     }
     let mut walk = Walk::over(lent);
     let com = walk.take(&[0x60])?;
@@ -60,9 +60,9 @@ fn allowed(lent: &[u8], file: &File, before: &[File], listed: &[u8], entries: &[
     let is_listed = listed.contains(&lent[place]);
     let is_new = before.iter().all(|other| other.group != file.group);
     let entry = entries.iter().find(|entry| entry.number == file.group);
-    let entry = entry.filter(|_| is_listed && is_new).ok_or(Refusal { number: 14, place })?;
+    let entry = entry.filter(|_| is_listed && is_new).ok_or(Refusal::at(14, place))?;
     if sha256(&lent[file.element.whole.clone()]) != entry.digest {
-        return Err(Refusal { number: 15, place });
+        return Err(Refusal::at(15, place));
     }
     Ok(())
 }
@@ -240,7 +240,9 @@ mod tests {
         for (place, character, number) in [(130, b'a', 2), (127, b'V', 3), (191, b'X', 7), (214, b'1', 9)] {
             let mut other = sample();
             other[place] = character;
-            assert_eq!(refused(&sealed(other, 122..215, 51)), (number, place));
+            let other = sealed(other, 122..215, 51);
+            assert_eq!(refused(&other), (number, place));
+            assert_eq!(read(&other).unwrap_err().expected, Some(0).filter(|_| number == 9));
         }
     }
 

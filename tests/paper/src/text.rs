@@ -8,9 +8,9 @@ use std::ops::Range;
 
 /// The record of a text, or its first refusal: the length, the alphabet, the fields, then the check digits.
 pub fn read(text: &[u8]) -> Result<Record, Refusal> {
-    let form = Form::of_length(text.len()).ok_or(Refusal { number: 1, place: 0 })?;
+    let form = Form::of_length(text.len()).ok_or(Refusal::at(1, 0))?;
     if let Some(place) = text.iter().position(|character| !field::in_alphabet(*character)) {
-        return Err(Refusal { number: 2, place });
+        return Err(Refusal::at(2, place));
     }
     let layout = form.layout();
     let further = further(layout, text);
@@ -50,14 +50,14 @@ fn field_refusal(form: Form, text: &[u8], further: &Option<Range<usize>>) -> Opt
         (field::is_name(of(&at.name)), 8, at.name.start),
     ];
     let failing = checks.iter().filter(|(kept, _, _)| !kept);
-    failing.map(|(_, number, place)| Refusal { number: *number, place: *place }).min_by_key(|refusal| refusal.place)
+    failing.map(|(_, number, place)| Refusal::at(*number, *place)).min_by_key(|refusal| refusal.place)
 }
 
 /// Each check digit's place is where it stands, so here too the lowest place is the first.
 fn digit_refusal(at: &Layout, text: &[u8], further: &Range<usize>) -> Option<Refusal> {
     let digits = digits(at, text, further).into_iter().flatten().chain([(at.composite, composite(at, text))]);
     let failing = digits.filter(|(place, digit)| text[*place] != *digit);
-    failing.map(|(place, _)| Refusal { number: 9, place }).min_by_key(|refusal| refusal.place)
+    failing.map(|(place, digit)| Refusal::digit(digit - b'0', place)).min_by_key(|refusal| refusal.place)
 }
 
 /// The place of each check digit but the composite, and what should stand there.
@@ -184,6 +184,47 @@ mod tests {
         for place in [53, 63, 71, 86, 87] {
             assert_eq!(refused(&with(specimens::T3, place, "<")), (9, place));
         }
+    }
+
+    /// The check digits as the papers print them, each with its place.
+    const PRINTED: [(&str, &[(usize, u8)]); 6] = [
+        (specimens::T3, &[(53, 1), (63, 8), (71, 2), (86, 0), (87, 0)]),
+        (specimens::ERIKSSON_TD3, &[(53, 6), (63, 2), (71, 9), (86, 1), (87, 0)]),
+        (specimens::ERIKSSON_TD1, &[(14, 7), (36, 2), (44, 9), (59, 6)]),
+        (specimens::ERIKSSON_TD2, &[(45, 7), (55, 2), (63, 9), (71, 6)]),
+        (specimens::LONG_TD1, &[(18, 9), (36, 7), (44, 2), (59, 2)]),
+        (specimens::LONG_TD2, &[(55, 7), (63, 2), (67, 9), (71, 8)]),
+    ];
+
+    #[test]
+    fn the_printed_digit_is_expected() {
+        for (text, digits) in PRINTED {
+            for (place, digit) in digits {
+                assert_eq!(text.as_bytes()[*place], b'0' + digit);
+                let others = (b'0'..=b'9').chain(b'A'..=b'Z').filter(|other| *other != b'0' + digit);
+                for other in others.map(|other| char::from(other).to_string()) {
+                    assert_eq!(read(with(text, *place, &other).as_bytes()), Err(Refusal::digit(*digit, *place)));
+                }
+            }
+        }
+    }
+
+    /// Of several the first is told, and what is expected there follows from the characters that stand in the text.
+    #[test]
+    fn what_is_expected_elsewhere() {
+        let expected = |text: &str| read(text.as_bytes()).unwrap_err();
+        let several = with(&with(&with(specimens::T3, 63, "<"), 71, "A"), 86, "77");
+        assert_eq!(expected(&several), Refusal::digit(8, 63));
+        assert_eq!(expected(&with(&several, 63, "8")), Refusal::digit(2, 71));
+        // K8: 20 * 7 + 8 * 3 = 164.
+        assert_eq!(expected(&with(specimens::T3, 45, "8")), Refusal::digit(4, 53));
+        // The last further character counts once: D23145890734 has 9, and so D23145890735 has 0.
+        assert_eq!(expected(&with(specimens::LONG_TD1, 17, "5")), Refusal::digit(0, 18));
+        assert_eq!(expected(&with(specimens::LONG_TD2, 66, "5")), Refusal::digit(0, 67));
+        // Another first digit of the birth, 8 * 7 for 7 * 7, is expected with 9 for 2; with that the last one, which runs over
+        // both, is found wrong.
+        assert_eq!(expected(&with(specimens::ERIKSSON_TD3, 57, "8")), Refusal::digit(9, 63));
+        assert_eq!(expected(&with(&with(specimens::ERIKSSON_TD3, 57, "8"), 63, "9")).place, 87);
     }
 
     #[test]

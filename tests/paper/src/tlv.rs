@@ -51,7 +51,7 @@ impl<'a> Walk<'a> {
     /// The element that stands here and has this tag. Whatever is wrong with it, and also where the holder ends too early
     /// for it, the place is the one where its tag stands or should stand.
     pub fn take(&mut self, tag: &[u8]) -> Result<Element, Refusal> {
-        let refusal = Refusal { number: 10, place: self.at };
+        let refusal = Refusal::at(10, self.at);
         let behind = self.left().strip_prefix(tag).ok_or(refusal)?;
         let (width, length) = read_length(behind).ok_or(refusal)?;
         if length > behind.len() - width {
@@ -67,7 +67,7 @@ impl<'a> Walk<'a> {
     pub fn close(&self) -> Result<(), Refusal> {
         match self.left() {
             [] => Ok(()),
-            _ => Err(Refusal { number: 10, place: self.at }),
+            _ => Err(Refusal::at(10, self.at)),
         }
     }
 
@@ -173,7 +173,7 @@ mod tests {
         // 30 03 holds 02 02 00: one octet more would be there, but it is not the holder's.
         let lent = [0x30, 0x03, 0x02, 0x02, 0x00, 0x00];
         let holder = Walk::over(&lent).take(&[0x30]).unwrap();
-        assert_eq!(Walk::inside(&lent, &holder).take(&[0x02]), Err(Refusal { number: 10, place: 2 }));
+        assert_eq!(Walk::inside(&lent, &holder).take(&[0x02]), Err(Refusal::at(10, 2)));
         let lent = [0x30, 0x04, 0x02, 0x02, 0x00, 0x00];
         let holder = Walk::over(&lent).take(&[0x30]).unwrap();
         let mut walk = Walk::inside(&lent, &holder);

@@ -66,7 +66,7 @@ impl Call for Digest {
 impl Trials<Digest> {
     fn published(&mut self) {
         for (message, digest) in published::digests() {
-            let answer = Answer { number: 0, value: 32 };
+            let answer = Answer::not_refused(32);
             let expected = Outcome { answer, written: digest.to_vec() };
             let output = Lent::new(&self.seeds.octets(32), 0);
             self.count(trials::held_to(&expected, Digest { input: Lent::new(&message, 0), output }));

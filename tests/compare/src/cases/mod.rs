@@ -3,6 +3,7 @@
 pub mod chance;
 pub mod damage;
 pub mod digest;
+pub mod digits;
 pub mod entries;
 pub mod group_file;
 pub mod houses;

@@ -6,30 +6,35 @@
 //! `openssl asn1parse` prints (`remake.sh list`).
 
 use paper::answer::Outcome;
+use paper::refusal::Refusal;
 use paper::{entry, specimens, text};
 
 /// Where the object begins.
-const OBJECT: u64 = 23;
+const OBJECT: usize = 23;
 
 pub struct Vector {
     pub name: &'static str,
     pub octets: Vec<u8>,
-    answer: Option<(u32, u64)>,
+    refusal: Option<Refusal>,
 }
 
 impl Vector {
     /// What is answered with house 1: the refusal, or the entry of T3.
     pub fn expected(&self, room: usize) -> Outcome {
-        match self.answer {
-            Some((number, place)) => Outcome::refused(number, place),
+        match self.refusal {
+            Some(refusal) => Outcome::refused(refusal),
             None => Outcome::written(entry::write(1, &text::read(specimens::T3.as_bytes()).unwrap()), room),
         }
     }
 }
 
 macro_rules! vector {
-    ($name:literal, $answer:expr) => {
-        Vector { name: $name, octets: octets(include_str!(concat!("../../vectors/", $name, ".hex"))), answer: $answer }
+    ($name:literal, $refusal:expr) => {
+        Vector {
+            name: $name,
+            octets: octets(include_str!(concat!("../../vectors/", $name, ".hex"))),
+            refusal: $refusal,
+        }
     };
 }
 
@@ -37,8 +42,8 @@ pub fn all() -> Vec<Vector> {
     accepted().into_iter().chain(refused_in_the_object()).chain(refused_behind_the_object()).collect()
 }
 
-fn refused(number: u32, place: u64) -> Option<(u32, u64)> {
-    Some((number, place))
+fn refused(number: u32, place: usize) -> Option<Refusal> {
+    Some(Refusal::at(number, place))
 }
 
 fn accepted() -> Vec<Vector> {
@@ -91,8 +96,8 @@ fn refused_behind_the_object() -> Vec<Vector> {
         vector!("digest-of-the-inside", refused(15, 123)),
         // "No group 1: 14, its place the presentation's length", after the files that are lent were found right.
         vector!("no-group-1", refused(14, 273)),
-        // "then the text's refusals": the text begins behind 61 5B 5F 1F 58, and its last digit stands 87 further on.
-        vector!("wrong-digit", refused(9, 123 + 5 + 87)),
+        // "then the text's refusals": the text begins behind 61 5B 5F 1F 58, and its last digit, T3's 0, stands 87 further on.
+        vector!("wrong-digit", Some(Refusal::digit(0, 123 + 5 + 87))),
     ]
 }
 
@@ -120,7 +125,7 @@ mod tests {
     /// The two encoders agree on every object that either would call sound.
     #[test]
     fn the_objects_as_written_here() {
-        for vector in all().iter().filter(|vector| vector.answer.is_none()) {
+        for vector in all().iter().filter(|vector| vector.refusal.is_none()) {
             let mut walk = Walk::over(&vector.octets);
             walk.take(&[0x60]).unwrap();
             let element = walk.take(&[0x30]).unwrap();

@@ -3,7 +3,7 @@
 use crate::border;
 use crate::cases::houses::{house, HOUSES};
 use crate::cases::trials::{self, Call, Trials};
-use crate::cases::{chance, damage, octets, outside, presentations};
+use crate::cases::{chance, damage, digits, octets, outside, presentations};
 use crate::guard::{Lent, Side};
 use crate::report::{hex_shown, Tally};
 use paper::answer::{Answer, Outcome};
@@ -12,6 +12,7 @@ use paper::refusal::LONGEST;
 use paper::sha256::sha256;
 use paper::{calls, group, specimens};
 use shared::files::{files, group_1};
+use shared::records;
 use shared::seeds::Seeds;
 use std::ops::Range;
 
@@ -32,6 +33,7 @@ pub fn compare(seed: u64) -> Tally {
     trials.bits();
     trials.lists();
     trials.numbers();
+    trials.wrong_digits();
     trials.fenced();
     trials.drawn();
     trials.random();
@@ -288,6 +290,17 @@ impl Trials<ReadPresentation> {
         *tree.at(&[1, 2]).unwrap().trees_mut().unwrap() = entries;
         presentations::seal(&mut tree);
         self.plain(&tree.encoded());
+    }
+
+    /// One or more wrong check digits in group 1's text, which has its digest in its entry.
+    fn wrong_digits(&mut self) {
+        for turn in 0..2_000 {
+            let record = records::sound(&mut self.seeds);
+            let mut files = files(&mut self.seeds, 1 + turn % 4);
+            let first = files.iter().position(|(group, _)| *group == 1).expect("group 1");
+            files[first].1 = write_text_element(&digits::spoilt(&mut self.seeds, &record));
+            self.case(&write(&files));
+        }
     }
 
     /// Nothing is read past either end, wherever a presentation is cut, nor the pointer of an empty range.

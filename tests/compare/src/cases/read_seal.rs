@@ -1,6 +1,7 @@
 //! The cases of reading a seal to an entry.
 
 use crate::border;
+use crate::cases::digits;
 use crate::cases::houses::{house, HOUSES};
 use crate::cases::octets;
 use crate::cases::seals::damage::{self, filled};
@@ -12,7 +13,7 @@ use paper::answer::Outcome;
 use paper::day::Day;
 use paper::refusal::LONGEST;
 use paper::seal::answer::SealAnswer;
-use paper::seal::{printed, Feature, MARKER};
+use paper::seal::{printed, Feature, MARKER, TEXT};
 use paper::tlv::tlv;
 use paper::{calls, day, specimens};
 use shared::seals::{other, sound, sound_of_kind, VERSIONS};
@@ -37,6 +38,7 @@ pub fn compare(seed: u64) -> Tally {
     trials.days();
     trials.without_text();
     trials.many_features();
+    trials.wrong_digits();
     trials.fenced();
     trials.drawn();
     trials.random();
@@ -244,6 +246,16 @@ impl Trials<ReadSeal> {
             let place = self.seeds.below(count);
             made.features[place] = Feature::of_text(specimens::LONG_TD2.as_bytes());
             self.plain(&made.octets());
+        }
+    }
+
+    /// One or more wrong check digits in the text.
+    fn wrong_digits(&mut self) {
+        for _ in 0..2_000 {
+            let mut made = sound(&mut self.seeds);
+            let text = made.features.iter().position(|feature| feature.tag == TEXT).expect("the feature with the text");
+            made.features[text] = Feature::of_text(&digits::spoilt(&mut self.seeds, &made.record));
+            self.case(&made.octets());
         }
     }
 

@@ -1,6 +1,7 @@
 //! The cases of reading a text to an entry.
 
 use crate::border;
+use crate::cases::digits;
 use crate::cases::houses::{house, HOUSES};
 use crate::cases::trials::{Call, Trials};
 use crate::guard::{Lent, Side};
@@ -33,6 +34,7 @@ pub fn compare(seed: u64) -> Tally {
     trials.dates();
     trials.optional();
     trials.long_numbers();
+    trials.wrong_digits();
     trials.random();
     trials.tally
 }
@@ -285,6 +287,15 @@ impl Trials<ReadText> {
         text
     }
 
+    /// One or more wrong check digits: the first is told, with what is expected there.
+    fn wrong_digits(&mut self) {
+        for _ in 0..5_000 {
+            let record = records::sound(&mut self.seeds);
+            let text = digits::spoilt(&mut self.seeds, &record);
+            self.case(&text);
+        }
+    }
+
     fn random(&mut self) {
         for _ in 0..500 {
             let length = self.seeds.pick(&[72, 88, 90]);
@@ -308,7 +319,7 @@ impl Trials<ReadText> {
     }
 }
 
-fn optional_places(form: Form) -> Vec<usize> {
+pub fn optional_places(form: Form) -> Vec<usize> {
     match form {
         Form::Td1 => (15..30).chain(48..59).collect(),
         Form::Td2 => (64..71).collect(),

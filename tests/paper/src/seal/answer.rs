@@ -1,8 +1,9 @@
 //! What the call that reads a seal answers, as it passes to C.
 
-use crate::answer::{Outcome, Stretch};
+use crate::answer::{Answer, Outcome, Stretch, NO_DIGIT};
 use crate::day::Day;
 use crate::field::FILLER;
+use crate::refusal::Refusal;
 use crate::seal::Seal;
 use std::fmt;
 
@@ -12,6 +13,7 @@ use std::fmt;
 #[derive(Clone, Copy, Debug, PartialEq, Eq)]
 pub struct SealAnswer {
     pub number: u32,
+    pub expected: u32,
     pub value: u64,
     pub signature: Stretch,
     pub issued: Day,
@@ -28,10 +30,11 @@ pub struct SealAnswer {
 
 impl SealAnswer {
     /// Over blank fields: numbers 0, characters fillers.
-    fn blank(number: u32, value: u64) -> SealAnswer {
+    fn blank(answer: Answer) -> SealAnswer {
         SealAnswer {
-            number,
-            value,
+            number: answer.number,
+            expected: answer.expected,
+            value: answer.value,
             signature: Stretch::EMPTY,
             issued: Day::NONE,
             signed_on: Day::NONE,
@@ -51,6 +54,7 @@ impl SealAnswer {
         reference[..header.reference.len()].copy_from_slice(&header.reference);
         SealAnswer {
             number: 0,
+            expected: NO_DIGIT,
             value: octets,
             signature: Stretch { start: signature.start as u64, length: signature.len() as u64 },
             issued: header.issued,
@@ -68,14 +72,14 @@ impl SealAnswer {
 
 impl Outcome<SealAnswer> {
     /// A refusal writes nothing.
-    pub fn refused_seal(number: u32, place: u64) -> Outcome<SealAnswer> {
-        Outcome::of(SealAnswer::blank(number, place))
+    pub fn refused_seal(refusal: Refusal) -> Outcome<SealAnswer> {
+        Outcome::of(SealAnswer::blank(Answer::refused(refusal)))
     }
 
     /// The entry of a seal that was read, or refusal 16 where the lent output has no room for it.
     pub fn written_seal(seal: &Seal, entry: Vec<u8>, room: usize) -> Outcome<SealAnswer> {
         if room < entry.len() {
-            return Outcome::refused_seal(16, 0);
+            return Outcome::refused_seal(Refusal::at(16, 0));
         }
         Outcome { answer: SealAnswer::of(seal, entry.len() as u64), written: entry }
     }
@@ -83,7 +87,8 @@ impl Outcome<SealAnswer> {
 
 impl fmt::Display for SealAnswer {
     fn fmt(&self, to: &mut fmt::Formatter) -> fmt::Result {
-        write!(to, "number {}, value {}, signature at {}", self.number, self.value, self.signature)?;
+        write!(to, "number {}, expected {}, value {}", self.number, self.expected, self.value)?;
+        write!(to, ", signature at {}", self.signature)?;
         write!(to, ", version {}, definition {}, category {}", self.version, self.definition, self.category)?;
         write!(to, ", country {}, signer {}", self.country.escape_ascii(), self.signer.escape_ascii())?;
         write!(to, ", reference {} of {}", self.reference.escape_ascii(), self.reference_len)?;
@@ -96,16 +101,18 @@ mod tests {
     use super::*;
     use crate::seal::printed;
     use crate::{calls, entry, specimens, text};
+    use std::mem::offset_of;
 
     fn sample_entry() -> Vec<u8> {
         entry::write(1, &text::read(specimens::ERIKSSON_TD2.as_bytes()).unwrap())
     }
 
-    /// 306 octets, with the padding before `value`, and then to the next multiple of 8.
+    /// 306 octets, and then to the next multiple of 8; the digit stands where there was padding.
     #[test]
     fn as_large_as_in_c() {
         assert_eq!(std::mem::size_of::<SealAnswer>(), 312);
         assert_eq!((std::mem::size_of::<Day>(), std::mem::align_of::<SealAnswer>()), (4, 8));
+        assert_eq!((offset_of!(SealAnswer, expected), offset_of!(SealAnswer, value)), (4, 8));
     }
 
     #[test]
@@ -115,7 +122,7 @@ mod tests {
         assert_eq!(done, calls::read_seal(1, &sample, 64));
         assert_eq!(done.written, entry);
         let answer = done.answer;
-        assert_eq!((answer.number, answer.value), (0, entry.len() as u64));
+        assert_eq!((answer.number, answer.expected, answer.value), (0, 255, entry.len() as u64));
         assert_eq!(answer.signature, Stretch { start: 70, length: 64 });
         assert_eq!((answer.version, answer.definition, answer.category), (2, 0x5e, 3));
         assert_eq!((&answer.country, &answer.signer), (b"UTO", b"UT01"));
@@ -136,7 +143,7 @@ mod tests {
     fn refusals_in_their_order() {
         let (sample, short) = (printed::signed(), sample_entry().len() - 1);
         let refused = |house, lent: &[u8], room, number, place| {
-            let expected = Outcome::of(SealAnswer::blank(number, place));
+            let expected = Outcome::of(SealAnswer::blank(Answer::refused(Refusal::at(number, place))));
             assert_eq!(calls::read_seal(house, lent, room), expected);
         };
         refused(0, &sample[..68], 0, 27, 68);

@@ -38,7 +38,7 @@ impl<'a> Fields<'a> {
     fn take<T>(&mut self, width: Option<usize>, says: impl Fn(&'a [u8]) -> Option<T>) -> Result<T, Refusal> {
         let field = width.and_then(|width| self.left().get(..width));
         let said = field.and_then(|field| Some((says(field)?, field.len())));
-        let (said, width) = said.ok_or(Refusal { number: 24, place: self.at })?;
+        let (said, width) = said.ok_or(Refusal::at(24, self.at))?;
         self.at += width;
         Ok(said)
     }
@@ -159,7 +159,7 @@ mod tests {
         match read(&[&all.concat()[..], &[0x13; 200]].concat()) {
             Ok(_) => None,
             Err(refusal) => {
-                assert_eq!(refusal, Refusal { number: 24, place });
+                assert_eq!(refusal, Refusal::at(24, place));
                 Some(place)
             }
         }

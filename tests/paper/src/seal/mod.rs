@@ -32,14 +32,14 @@ pub struct Seal {
 /// The seal, or its first refusal: the size, the header, the features, the text's C40, the signature zone, the text.
 pub fn read(lent: &[u8]) -> Result<Seal, Refusal> {
     if lent.len() > LONGEST {
-        return Err(Refusal { number: 1, place: 0 });
+        return Err(Refusal::at(1, 0));
     }
     let (header, end) = header::read(lent)?;
     let mut walk = Walk::behind(lent, end);
     let feature = text_feature(&mut walk)?;
     let place = feature.whole.start;
     let spaced = c40::read(&lent[feature.content]).filter(|text| text.len() == TEXT_CHARACTERS);
-    let spaced = spaced.ok_or(Refusal { number: 26, place })?;
+    let spaced = spaced.ok_or(Refusal::at(26, place))?;
     let signature = signature(&mut walk)?;
     // Of 72 characters, so that it is read as TD2, of which no code begins with V.
     let record = text::read(&with_fillers(&spaced)).map_err(|refusal| Refusal { place, ..refusal })?;
@@ -50,7 +50,7 @@ pub fn read(lent: &[u8]) -> Result<Seal, Refusal> {
 fn text_feature(walk: &mut Walk) -> Result<Element, Refusal> {
     let mut found = None;
     while let Some(tag) = walk.left().first().filter(|tag| **tag != MARKER) {
-        let refusal = Refusal { number: 25, place: walk.place() };
+        let refusal = Refusal::at(25, walk.place());
         let feature = walk.take(&[*tag]).map_err(|_| refusal)?;
         if *tag != TEXT {
             continue;
@@ -61,12 +61,12 @@ fn text_feature(walk: &mut Walk) -> Result<Element, Refusal> {
         found = Some(feature);
     }
     // Here the walk stands at FF or at the end.
-    found.ok_or(Refusal { number: 25, place: walk.place() })
+    found.ok_or(Refusal::at(25, walk.place()))
 }
 
 /// FF, a length and the signature, and nothing behind.
 fn signature(walk: &mut Walk) -> Result<Range<usize>, Refusal> {
-    let refusal = Refusal { number: 27, place: walk.place() };
+    let refusal = Refusal::at(27, walk.place());
     let zone = walk.take(&[MARKER]).map_err(|_| refusal)?;
     walk.close().map_err(|_| refusal)?;
     Ok(zone.content)

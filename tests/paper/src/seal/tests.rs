@@ -190,15 +190,17 @@ fn signature_zones() {
 
 #[test]
 fn texts_are_refused_at_the_feature() {
-    let with = |place: usize, characters: &str| {
-        let text = [&ERIKSSON_TD2[..place], characters, &ERIKSSON_TD2[place + characters.len()..]].concat();
-        refused(&with_text(&text))
+    let spoilt = |place: usize, characters: &str| {
+        with_text(&[&ERIKSSON_TD2[..place], characters, &ERIKSSON_TD2[place + characters.len()..]].concat())
     };
+    let with = |place: usize, characters: &str| refused(&spoilt(place, characters));
     assert_eq!((with(0, "V"), with(0, "VC"), with(0, "P"), with(0, "IV")), ((3, 18), (3, 18), (3, 18), (3, 18)));
     assert_eq!((with(2, "U<O"), with(46, "<<<")), ((4, 18), (4, 18)));
     assert_eq!((with(36, "<"), with(49, "740230"), with(57, "<<")), ((5, 18), (6, 18), (6, 18)));
     assert_eq!((with(56, "X"), with(5, "0")), ((7, 18), (8, 18)));
-    assert!([45, 55, 63, 71].iter().all(|digit| with(*digit, "Z") == (9, 18)));
+    for (place, digit) in [(45, 7), (55, 2), (63, 9), (71, 6)] {
+        assert_eq!(read(&spoilt(place, "Z")), Err(Refusal::digit(digit, 18)));
+    }
 }
 
 /// Each is wrong in all that comes behind it too.
@@ -219,7 +221,7 @@ fn in_their_order() {
 #[test]
 fn the_longest_seal() {
     let text = text_feature_octets();
-    let over = Err(Refusal { number: 1, place: 0 });
+    let over = Err(Refusal::at(1, 0));
     for (size, expected) in [(65_534, Ok(record())), (65_535, Ok(record())), (65_536, over)] {
         // With a long feature, and with a long signature.
         let rest = size - 18 - text.len() - 4;

@@ -1,6 +1,7 @@
 //! Every kind of damage to a seal, with the refusal that it is meant to give: each number at each of its places, to be
 //! taken alone and in pairs.
 
+use crate::cases::digits;
 use crate::cases::seals::{fields, Pieces, FIELDS};
 use paper::form::Form;
 use paper::refusal::Refusal;
@@ -17,6 +18,8 @@ pub struct Damage {
     piece: usize,
     octets: Vec<u8>,
     pub number: u32,
+    /// The digit that was right, where it is a wrong one.
+    expected: Option<u8>,
     /// The piece at which it is told.
     pub told: usize,
     /// Whether there is a feature with a text more, or less.
@@ -25,7 +28,7 @@ pub struct Damage {
 
 impl Damage {
     pub fn new(piece: usize, octets: Vec<u8>, number: u32) -> Damage {
-        Damage { piece, octets, number, told: piece, counts: false }
+        Damage { piece, octets, number, expected: None, told: piece, counts: false }
     }
 
     /// The seal with this damage alone, and its refusal.
@@ -52,7 +55,8 @@ impl Damage {
 fn spoilt(pieces: &Pieces, damages: &[&Damage], first: &Damage) -> (Vec<u8>, Refusal) {
     let mut pieces = pieces.clone();
     damages.iter().for_each(|damage| pieces.pieces[damage.piece] = damage.octets.clone());
-    (pieces.octets(), Refusal { number: first.number, place: pieces.start(first.told) })
+    let Damage { number, expected, told, .. } = *first;
+    (pieces.octets(), Refusal { number, expected, place: pieces.start(told) })
 }
 
 /// A seal that has other features before the text's and behind it, so that there is a place for every damage.
@@ -157,9 +161,7 @@ fn texts(sound: &Sound) -> Vec<Damage> {
         (at.expiry.start, b"300631", 6),
     ];
     let mut all = fields.map(|(place, characters, number)| (place, characters.to_vec(), number)).to_vec();
-    // A long number has its digit in the optional field.
-    let short = Some(at.number_check).filter(|_| sound.record.number.len() <= 9);
-    for place in [at.birth_check, at.expiry_check, at.composite].into_iter().chain(short) {
+    for place in digits::places(&sound.record) {
         let next = b'0' + (sound_text[place] - b'0' + 1) % 10;
         all.extend([next, b'Z'].map(|character| (place, vec![character], 9)));
     }
@@ -167,7 +169,8 @@ fn texts(sound: &Sound) -> Vec<Damage> {
     let damage = |(place, characters, number): (usize, Vec<u8>, u32)| {
         let mut other = sound_text.clone();
         other[place..place + characters.len()].copy_from_slice(&characters);
-        Damage::new(text, Feature::of_text(&other).written(), number)
+        let expected = (number == 9).then(|| sound_text[place] - b'0');
+        Damage { expected, ..Damage::new(text, Feature::of_text(&other).written(), number) }
     };
     all.into_iter().map(damage).collect()
 }

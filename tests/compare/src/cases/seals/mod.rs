@@ -56,6 +56,6 @@ impl Pieces {
             _ if whole <= self.text => 25,
             _ => 27,
         };
-        Refusal { number, place }
+        Refusal::at(number, place)
     }
 }

@@ -81,7 +81,7 @@ fn as_long_as_wanted() {
             assert_eq!(lent.len(), 65_535);
             assert_eq!(seal::read(&lent).map(|seal| seal.record), Ok(sound.record.clone()));
         }
-        let over = Err(Refusal { number: 1, place: 0 });
+        let over = Err(Refusal::at(1, 0));
         assert!(filled(&sound, 65_536).iter().all(|lent| seal::read(lent) == over));
     }
 }
