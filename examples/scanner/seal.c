@@ -61,6 +61,7 @@ static void show_refused(const struct reading *reading, uint32_t house)
     lamphudet_answer refusal;
 
     refusal.number = reading->seal.number;
+    refusal.expected = reading->seal.expected;
     refusal.value = reading->seal.value;
     /* The house does not stand in the seal, so no caret points at it. */
     if (refusal.number == LAMPHUDET_REFUSED_UNSOUND) {

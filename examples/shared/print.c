@@ -56,5 +56,9 @@ void show_remark(const char *line, size_t len)
 
 void show_refusal(lamphudet_answer answer)
 {
-    printf("  refused, %" PRIu32 " at place %" PRIu64 ": %s\n", answer.number, answer.value, lamphudet_words(answer.number));
+    printf("  refused, %" PRIu32 " at place %" PRIu64 ": %s", answer.number, answer.value, lamphudet_words(answer.number));
+    if (answer.expected != LAMPHUDET_NO_DIGIT) {
+        printf(", expected %" PRIu32, answer.expected);
+    }
+    putchar('\n');
 }

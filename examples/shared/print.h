@@ -24,7 +24,7 @@ void show_octets(const uint8_t *octets, size_t len, uint64_t place);
 /* A line of a file that the host does not read. */
 void show_remark(const char *line, size_t len);
 
-/* The refusal in words. */
+/* The refusal in words, with the check digit that was expected where there is one. */
 void show_refusal(lamphudet_answer answer);
 
 #endif

@@ -31,6 +31,22 @@ holds 'no group 1' 1 "$expected/presentation-no-group-1" presentation "${sample:
 holds 'an empty group 1' 1 "$expected/presentation-group-1-empty" presentation "$(with_group_1 6100)"
 holds 'an empty text in group 1' 1 "$expected/presentation-text-empty" presentation "$(with_group_1 61035f1f00)"
 
+# The texts of refused.text with a wrong check digit, in group 1: what is expected is told there too, at the place in the
+# presentation, where the text stands from 123 + 5 on.
+in_group_1() {
+    printf '61%02x5f1f%02x' $((${#1} + 3)) ${#1}
+    od -An -v -tx1 <<< "$1" | tr -d ' \n' | sed 's/0a$//'
+}
+digits=0
+while read -r place digit text; do
+    "$folder/desk" presentation "$(with_group_1 "$(in_group_1 "$text")")" > "$folder/output"
+    try "a presentation with a wrong digit at $place of its text" \
+        grep -qx "  refused, 9 at place $((128 + place)): check digit, expected $digit" "$folder/output"
+    digits=$((digits + 1))
+done < <(sed -nE '/^# 9 at/,/^$/ { s/^# 9 at ([0-9]+), expected ([0-9]):.*/\1 \2/; p }' $samples/refused.text |
+    awk -v RS= '{ print $1, $2, $3 $4 $5 }')
+try 'eight texts have a wrong digit' [ "$digits" -eq 8 ]
+
 # The samples are what OpenSSL's encoder made, where the vectors of tests/compare have the same.
 for pair in presentation:two-entries presentation-{algorithm:sha-1,digest:digest-of-the-inside,text:wrong-digit}; do
     sample_hex=$(hex_of "$samples/${pair%:*}.hex")

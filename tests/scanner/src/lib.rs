@@ -13,7 +13,7 @@ use lines::Lines;
 /// One file.
 pub struct Sample {
     name: &'static str,
-    /// It begins with the number and the place, or says that the seal is accepted.
+    /// It begins with the number and the place, and the digit where one was expected; or says that the seal is accepted.
     remark: &'static str,
     lines: Lines,
 }
@@ -36,9 +36,8 @@ fn sample(name: &'static str, remark: &'static str, lines: Lines) -> Sample {
 
 /// All of them: accepted ones, then those of each refusal.
 pub fn all() -> Vec<Sample> {
-    let all =
-        [sound::all(), headers::wrong(), headers::cut(), features::all(), texts::c40(), zones::all(), texts::fields()];
-    all.into_iter().flatten().collect()
+    let seals = [sound::all(), headers::wrong(), headers::cut(), features::all(), texts::c40(), zones::all()];
+    seals.into_iter().chain([texts::fields(), texts::digits()]).flatten().collect()
 }
 
 #[cfg(test)]

@@ -1,6 +1,7 @@
 //! Holds the files that are kept to those that are made, and the independent reader to what their remarks say.
 
 use super::*;
+use paper::refusal::Refusal;
 use paper::seal;
 use std::collections::BTreeSet;
 use std::path::Path;
@@ -9,14 +10,18 @@ fn folder() -> std::path::PathBuf {
     Path::new(env!("CARGO_MANIFEST_DIR")).join("../../examples/scanner/samples")
 }
 
-/// Number and place that a remark begins with; none where the seal is accepted.
-fn said(remark: &str) -> Option<(u32, usize)> {
+/// Number and place that a remark begins with, and the digit that was expected; none where the seal is accepted.
+fn said(remark: &str) -> Option<Refusal> {
     let (answer, _) = remark.split_once(':').expect("an answer, then why");
     if answer == "Accepted" {
         return None;
     }
     let (number, place) = answer.split_once(" at ").expect("a number and a place");
-    Some((number.parse().expect("a number"), place.parse().expect("a place")))
+    let (place, digit) = match place.split_once(", expected ") {
+        Some((place, digit)) => (place, Some(digit.parse().expect("a digit"))),
+        None => (place, None),
+    };
+    Some(Refusal { number: number.parse().expect("a number"), expected: digit, place: place.parse().expect("a place") })
 }
 
 #[test]
@@ -34,8 +39,7 @@ fn they_are_kept_as_they_are_made() {
 #[test]
 fn they_are_answered_as_their_remarks_say() {
     for sample in all() {
-        let answer = seal::read(&sample.lines.octets()).err().map(|refusal| (refusal.number, refusal.place));
-        assert_eq!(answer, said(sample.remark), "{}", sample.file());
+        assert_eq!(seal::read(&sample.lines.octets()).err(), said(sample.remark), "{}", sample.file());
     }
 }
 
@@ -51,7 +55,8 @@ fn the_printed_one_is_the_papers() {
 /// Each number at each of its places.
 #[test]
 fn every_refusal_has_its_samples() {
-    let said: BTreeSet<(u32, usize)> = all().iter().filter_map(|sample| said(sample.remark)).collect();
+    let refusals = all().into_iter().filter_map(|sample| said(sample.remark));
+    let said: BTreeSet<(u32, usize)> = refusals.map(|refusal| (refusal.number, refusal.place)).collect();
     let header = [0, 1, 2, 4, 10, 12, 13, 15, 16, 17, 18, 19].map(|place| (24, place));
     let features = [18, 22, 68, 72].map(|place| (25, place));
     let rest = [(26, 18), (26, 22), (27, 68), (27, 72), (9, 22)];

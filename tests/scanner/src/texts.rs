@@ -2,7 +2,7 @@
 
 use crate::lines::{other, printed, text, text_of, zone, Element, Lines};
 use crate::{sample, Sample};
-use paper::specimens::ERIKSSON_TD2;
+use paper::specimens::{ERIKSSON_TD2, LONG_TD2};
 
 /// The last of its 24 pairs.
 const LAST: usize = 23;
@@ -95,11 +95,12 @@ fn with(place: usize, characters: &str) -> Element {
     text_of(&text)
 }
 
+/// The printed seal with the specimen so spoilt.
+fn spoilt(name: &'static str, remark: &'static str, place: usize, characters: &str) -> Sample {
+    sample(name, remark, Lines::of(&printed(), &[with(place, characters), zone()]))
+}
+
 pub fn fields() -> Vec<Sample> {
-    let spoilt = |name, remark, place, characters| {
-        sample(name, remark, Lines::of(&printed(), &[with(place, characters), zone()]))
-    };
-    let behind = Lines::of(&printed(), &[other(), with(71, "5"), zone()]);
     vec![
         spoilt("3-visa", "3 at 18: the text begins with V. It is told where feature 02 begins.", 0, "V"),
         spoilt("3-passport", "3 at 18: the text begins with P, as only TD3 does.", 0, "P"),
@@ -110,10 +111,25 @@ pub fn fields() -> Vec<Sample> {
         spoilt("6-expiry", "6 at 18: expired in month 13.", 57, "121315"),
         spoilt("7-sex", "7 at 18: the sex is X.", 56, "X"),
         spoilt("8-name", "8 at 18: the name begins with a digit.", 5, "0"),
-        spoilt("9-birth", "9 at 18: the birth's check digit is 3 and not 2.", 55, "3"),
+    ]
+}
+
+/// The specimen with its own digits but for one, and the one with a long number.
+pub fn digits() -> Vec<Sample> {
+    let long = [&LONG_TD2[..67], "A", &LONG_TD2[68..]].concat();
+    let behind = Lines::of(&printed(), &[other(), with(71, "5"), zone()]);
+    vec![
+        spoilt("9-number", "9 at 18, expected 7: the number's check digit is 0.", 45, "0"),
+        sample(
+            "9-number-long",
+            "9 at 18, expected 9: behind the further characters of a long number stands A, which is no digit.",
+            Lines::of(&printed(), &[text_of(&long), zone()]),
+        ),
+        spoilt("9-birth", "9 at 18, expected 2: the birth's check digit is 3.", 55, "3"),
+        spoilt("9-expiry", "9 at 18, expected 9: a space stands for the expiry's check digit.", 63, "<"),
         sample(
             "9-composite",
-            "9 at 22: the last check digit is 5 and not 6, in a feature 02 behind one of 4 octets: 18 + 4.",
+            "9 at 22, expected 6: the last check digit is 5, in a feature 02 behind one of 4 octets: 18 + 4.",
             behind,
         ),
     ]
