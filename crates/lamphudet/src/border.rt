@@ -31,9 +31,11 @@ fn denied(refusal: Refusal) -> AnswerInC
     ensures { λ r. ⌜ r ≡ inC (refused (whyOf (refusal .cause)) (refusal .place)) ⌝ }
 {
     let cause = refusal.cause;
+    let number = cause.number();
+    let expected = cause.expected();
     AnswerInC {
-        number: cause.number(),
-        expected: cause.expected(),
+        number,
+        expected,
         value: refusal.place as u64,
     }
 }

@@ -25,11 +25,9 @@ fn judged_digit(text: &[u8], place: usize, digit: u8) -> Verdict
     requires { ⌜ isDigit digit ≡ true ⌝ }
     ensures { λ r. ⌜ outcomeOf r ≡ writtenAt (now (text .entry)) place digit ⌝ }
 {
-    Verdict::judged(
-        lent::octet(text, place) == digit,
-        Cause::Digit(digit - b'0'),
-        place,
-    )
+    let expected = digit - b'0';
+    let there = lent::octet(text, place);
+    Verdict::judged(there == digit, Cause::Digit(expected), place)
 }
 
 // Whether a place holds the check digit of a field.

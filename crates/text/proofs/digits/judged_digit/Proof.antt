@@ -10,18 +10,18 @@ use Rattle.text.proofs.digits.judged_digit.Statement.{statement}
 use Rattle.text.proofs.digits.judged_digit.Tie as tie
 
 -- a digit is not below 0
-sub-t6 : tie.Need-sub-t6
+sub-expected : tie.Need-sub-expected
 unfolding isDigit
-sub-t6 c =
-    let digit = c .before .before .args .digit in
-    leb-true (code "0") digit (and-both (leb (code "0") digit) (leb digit (code "9")) (c .before .before .pre) .0)
+sub-expected c =
+    let digit = c .before .args .digit in
+    leb-true (code "0") digit (and-both (leb (code "0") digit) (leb digit (code "9")) (c .before .pre) .0)
 
 pub judged-digit-spec : {M : Type 1} → statement M
 unfolding writtenAt
 judged-digit-spec =
     tie.close
     (tie.spec
+    sub-expected
     (λ c κs. search needs)
-    sub-t6
     (λ c κs. search needs)
     (λ c. rw (c .judged .ensures, c .before .octet .ensures)))
