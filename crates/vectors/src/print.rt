@@ -161,9 +161,15 @@ fn words(cause: Cause) {
         Cause::Date => say(b"date"),
         Cause::Sex => say(b"sex"),
         Cause::Name => say(b"name"),
-        Cause::Digit(_) => say(b"check digit"),
+        Cause::Digit(expected) => digit(expected),
         _ => say(b"none of a text's causes"),
     }
+}
+
+// Of a check digit also the one that was expected (document 02, 2026-07).
+fn digit(expected: u8) {
+    say(b"check digit, expected ");
+    io::print_decimal(1, expected as u64);
 }
 
 fn say(s: &[u8]) {
