@@ -2,7 +2,7 @@
 
 PREFIX ?= /usr/local
 DESTDIR ?=
-VERSION = 0.1.0
+VERSION := $(shell sed -n 's/^.define LAMPHUDET_VERSION "\(.*\)"$$/\1/p' include/lamphudet.h)
 # The seed of the compared cases; empty for the one that the gate takes.
 SEED ?=
 

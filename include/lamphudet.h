@@ -22,14 +22,37 @@
 extern "C" {
 #endif
 
+#define LAMPHUDET_VERSION "0.1.0"
+
+/* The compiler warns where a call's answer is thrown away, if it knows how. */
+#if defined(__GNUC__)
+#define LAMPHUDET_MUST_USE __attribute__((warn_unused_result))
+#else
+#define LAMPHUDET_MUST_USE
+#endif
+
+/*
+ * The archives were compiled for structs laid out as x86-64 Linux lays them out. A host whose compiler
+ * does otherwise does not compile. A name tells each assertion apart, for compilers before C11.
+ */
+#if defined(__cplusplus) && __cplusplus >= 201103L
+#define LAMPHUDET_ASSERT(holds, name) static_assert(holds, #name)
+#elif defined(__STDC_VERSION__) && __STDC_VERSION__ >= 201112L
+#define LAMPHUDET_ASSERT(holds, name) _Static_assert(holds, #name)
+#else
+#define LAMPHUDET_ASSERT(holds, name) typedef char lamphudet_asserted_##name[(holds) ? 1 : -1]
+#endif
+#define LAMPHUDET_ASSERT_SIZE(type, octets) LAMPHUDET_ASSERT(sizeof(type) == (octets), size_of_##type)
+#define LAMPHUDET_ASSERT_AT(type, field, octet) LAMPHUDET_ASSERT(offsetof(type, field) == (octet), type##_##field)
+
 /*
  * What a call answers.
  *
- * number 0: not refused, and value is what the call says below.
- * else:     the refusal's number, and value is its place, an offset from 0 in what was lent.
+ * number LAMPHUDET_NOT_REFUSED, which is 0: value is what the call says below.
+ * else: the refusal's number, and value is its place, an offset from 0 in what was lent.
  *
  * expected: with refusal 9 the check digit that was worked out, 0 to 9; with every other refusal, and
- * with number 0, LAMPHUDET_NO_DIGIT.
+ * with LAMPHUDET_NOT_REFUSED, LAMPHUDET_NO_DIGIT.
  */
 #define LAMPHUDET_NO_DIGIT 255
 
@@ -39,6 +62,11 @@ typedef struct lamphudet_answer {
     uint64_t value;
 } lamphudet_answer;
 
+LAMPHUDET_ASSERT_AT(lamphudet_answer, number, 0);
+LAMPHUDET_ASSERT_AT(lamphudet_answer, expected, 4);
+LAMPHUDET_ASSERT_AT(lamphudet_answer, value, 8);
+LAMPHUDET_ASSERT_SIZE(lamphudet_answer, 16);
+
 /*
  * A stretch of a lent range: the octet at which it starts, counted from 0, and how many octets it
  * has. Where there is none, both are 0.
@@ -47,6 +75,10 @@ typedef struct lamphudet_stretch {
     uint64_t start, length;
 } lamphudet_stretch;
 
+LAMPHUDET_ASSERT_AT(lamphudet_stretch, start, 0);
+LAMPHUDET_ASSERT_AT(lamphudet_stretch, length, 8);
+LAMPHUDET_ASSERT_SIZE(lamphudet_stretch, 16);
+
 /* The forms, each by its code in an entry. These numbers stay what they are. */
 enum lamphudet_form {
     LAMPHUDET_TD1 = 0,
@@ -54,19 +86,38 @@ enum lamphudet_form {
     LAMPHUDET_TD3 = 2
 };
 
+#define LAMPHUDET_HOUSE_MAX 32767 /* the greatest house; the least is 1 */
+#define LAMPHUDET_NUMBER_MAX 22   /* characters of the longest document number, of TD1; TD2 14, TD3 9 */
+#define LAMPHUDET_NAME_MAX 39     /* characters of the longest name, of TD3; TD1 30, TD2 31 */
+
 /*
  * What an entry holds. The fields are characters, A-Z, 0-9 and the filler <, and no zero ends them:
  * each fills its array, document_number and name with fillers behind their lengths.
  */
 typedef struct lamphudet_record {
-    uint32_t number; /* 0, or 18 */
+    uint32_t number; /* LAMPHUDET_NOT_REFUSED, or 18 */
     uint32_t house;
     uint8_t form; /* LAMPHUDET_TD1, LAMPHUDET_TD2 or LAMPHUDET_TD3 */
     uint8_t sex;  /* F, M or < */
     uint8_t document_number_len, name_len;
     uint8_t code[2], state[3], nationality[3], birth[6], expiry[6];
-    uint8_t document_number[22], name[39];
+    uint8_t document_number[LAMPHUDET_NUMBER_MAX], name[LAMPHUDET_NAME_MAX];
 } lamphudet_record;
+
+LAMPHUDET_ASSERT_AT(lamphudet_record, number, 0);
+LAMPHUDET_ASSERT_AT(lamphudet_record, house, 4);
+LAMPHUDET_ASSERT_AT(lamphudet_record, form, 8);
+LAMPHUDET_ASSERT_AT(lamphudet_record, sex, 9);
+LAMPHUDET_ASSERT_AT(lamphudet_record, document_number_len, 10);
+LAMPHUDET_ASSERT_AT(lamphudet_record, name_len, 11);
+LAMPHUDET_ASSERT_AT(lamphudet_record, code, 12);
+LAMPHUDET_ASSERT_AT(lamphudet_record, state, 14);
+LAMPHUDET_ASSERT_AT(lamphudet_record, nationality, 17);
+LAMPHUDET_ASSERT_AT(lamphudet_record, birth, 20);
+LAMPHUDET_ASSERT_AT(lamphudet_record, expiry, 26);
+LAMPHUDET_ASSERT_AT(lamphudet_record, document_number, 32);
+LAMPHUDET_ASSERT_AT(lamphudet_record, name, 54);
+LAMPHUDET_ASSERT_SIZE(lamphudet_record, 96);
 
 /*
  * The refusals. These numbers stay what they are.
@@ -92,7 +143,8 @@ typedef struct lamphudet_record {
  *                                                                         the presentation's length
  *   15   digest differs                                                   file start
  *   16   lent output too short                                            0
- *   17   house or record not sound                                        0
+ *   17   house or record not sound; of a call that reads it is the        0
+ *        house, since a record that was read is sound
  *   18   not an entry                                                     start of that entry
  *   24   header field of a seal                                           field start
  *   25   feature wrongly coded or cut off; feature 02 absent, repeated    its tag; where absent FF,
@@ -102,6 +154,7 @@ typedef struct lamphudet_record {
  *        anything
  */
 enum lamphudet_refusal {
+    LAMPHUDET_NOT_REFUSED = 0,
     LAMPHUDET_REFUSED_LENGTH = 1,
     LAMPHUDET_REFUSED_CHARACTER = 2,
     LAMPHUDET_REFUSED_CODE = 3,
@@ -130,7 +183,7 @@ enum lamphudet_refusal {
 static inline const char *lamphudet_words(uint32_t number)
 {
     switch (number) {
-    case 0: return "not refused";
+    case LAMPHUDET_NOT_REFUSED: return "not refused";
     case LAMPHUDET_REFUSED_LENGTH: return "text not 72, 88 or 90; presentation, digest input or seal over 65,535";
     case LAMPHUDET_REFUSED_CHARACTER: return "character not A-Z, 0-9, <";
     case LAMPHUDET_REFUSED_CODE: return "document code";
@@ -159,6 +212,97 @@ static inline const char *lamphudet_words(uint32_t number)
     }
 }
 
+/* A part of a text: how many characters it has, and what it is. */
+typedef struct lamphudet_part {
+    uint64_t width;
+    const char *words;
+} lamphudet_part;
+
+/* The part at a place, of parts that follow each other; one without width ends them, and is what stands behind. */
+static inline const char *lamphudet_part_at(const lamphudet_part *parts, uint64_t place)
+{
+    for (; parts->width > 0 && place >= parts->width; parts++) {
+        place -= parts->width;
+    }
+    return parts->words;
+}
+
+/*
+ * What stands at a place of a long document number, with < at its check place and its further characters from optional on:
+ * NULL where the number is not long, or has no end, or does not reach that place.
+ */
+static inline const char *lamphudet_long_number_at(const uint8_t *text, uint64_t check, uint64_t optional, uint64_t width,
+                                                   uint64_t place)
+{
+    uint64_t end = optional;
+
+    if (text[check] != '<') {
+        return NULL;
+    }
+    if (place == check) {
+        return "filler for the check digit of a long document number";
+    }
+    while (end < optional + width && text[end] != '<') {
+        end++;
+    }
+    if (end == optional + width || end < optional + 2 || place < optional || place > end) {
+        return NULL;
+    }
+    if (place == end) {
+        return "filler behind a long document number";
+    }
+    return place == end - 1 ? "check digit of the document number" : "document number, further characters";
+}
+
+/* The same of every text that is long enough. TD3 has no long numbers. */
+static inline const char *lamphudet_long_number(const uint8_t *text, size_t text_len, uint64_t place)
+{
+    return text_len == 90 ? lamphudet_long_number_at(text, 14, 15, 15, place)
+         : text_len == 72 ? lamphudet_long_number_at(text, 45, 64, 7, place)
+                          : NULL;
+}
+
+/*
+ * Which field or check digit of a text a place is, in words, whether the text is accepted or not: "nationality", "check
+ * digit of the birth". They end in no full stop, and live as long as the program. "not in a text" where the text has not 72,
+ * 88 or 90 characters, or the place is past its end.
+ *
+ * Of a presentation that was refused by 2 to 9, the text is the file of group 1 (lamphudet_group_file) from its sixth octet
+ * on, and its places count from there.
+ */
+static inline const char *lamphudet_field(const uint8_t *text, size_t text_len, uint64_t place)
+{
+    static const lamphudet_part td1[] = {
+        { 2, "document code" }, { 3, "issuing state" }, { 9, "document number" }, { 1, "check digit of the document number" },
+        { 15, "optional data" }, { 6, "birth" }, { 1, "check digit of the birth" }, { 1, "sex" }, { 6, "expiry" },
+        { 1, "check digit of the expiry" }, { 3, "nationality" }, { 11, "second optional data" },
+        { 1, "composite check digit" }, { 30, "name" }, { 0, "not in a text" },
+    };
+    static const lamphudet_part td2[] = {
+        { 2, "document code" }, { 3, "issuing state" }, { 31, "name" }, { 9, "document number" },
+        { 1, "check digit of the document number" }, { 3, "nationality" }, { 6, "birth" }, { 1, "check digit of the birth" },
+        { 1, "sex" }, { 6, "expiry" }, { 1, "check digit of the expiry" }, { 7, "optional data" },
+        { 1, "composite check digit" }, { 0, "not in a text" },
+    };
+    static const lamphudet_part td3[] = {
+        { 2, "document code" }, { 3, "issuing state" }, { 39, "name" }, { 9, "document number" },
+        { 1, "check digit of the document number" }, { 3, "nationality" }, { 6, "birth" }, { 1, "check digit of the birth" },
+        { 1, "sex" }, { 6, "expiry" }, { 1, "check digit of the expiry" }, { 14, "personal number" },
+        { 1, "check digit of the personal number" }, { 1, "composite check digit" }, { 0, "not in a text" },
+    };
+    const char *of_long_number = lamphudet_long_number(text, text_len, place);
+
+    if (of_long_number != NULL) {
+        return of_long_number;
+    }
+    switch (text_len) {
+    case 90: return lamphudet_part_at(td1, place);
+    case 72: return lamphudet_part_at(td2, place);
+    case 88: return lamphudet_part_at(td3, place);
+    default: return "not in a text";
+    }
+}
+
 /*
  * An entry is the octets under which a house keeps a record: to be stored, compared and joined to
  * runs as they are. The same house and record always give the same octets, and no others are an
@@ -167,14 +311,20 @@ static inline const char *lamphudet_words(uint32_t number)
  * The first LAMPHUDET_KEY octets of two entries agree exactly when house, form, issuing state,
  * complete document number, birth and expiry agree.
  *
+ * memcmp over the shorter of two entries' lengths sorts them by house, then form, issuing state,
+ * document number, birth and expiry, characters in the order < 0-9 A-Z; it is 0 for equal entries
+ * alone.
+ *
  * What it holds is told by lamphudet_open_entry. The bits, the most significant first: house 15,
  * form 3 (TD1 0, TD2 1, TD3 2), state 18, number 132 (filled up with <), birth 36, expiry 36, which
  * is the key; then code 12, nationality 18, sex 2 (< 0, F 1, M 2), name length 6, name, and zero
  * bits to the next octet. A character is 6 bits: < 0, digits 1 to 10, letters 11 to 36.
  */
-#define LAMPHUDET_ENTRY_MAX 64 /* octets of the longest entry; the shortest has 36 */
+#define LAMPHUDET_ENTRY_MIN 36 /* octets of the shortest entry */
+#define LAMPHUDET_ENTRY_MAX 64 /* octets of the longest entry */
 #define LAMPHUDET_KEY 30       /* octets of an entry's key */
-#define LAMPHUDET_TEXT_MAX 90  /* characters of the longest text */
+#define LAMPHUDET_TEXT_MAX 90  /* characters of the longest text: TD1; TD2 has 72, TD3 88 */
+#define LAMPHUDET_DIGEST 32    /* octets of a digest */
 
 /*
  * A presentation is what was read from a chip: EF.COM, the content of the security object, then
@@ -185,7 +335,7 @@ static inline const char *lamphudet_words(uint32_t number)
 /*
  * Reads the text of a machine readable zone, its lines joined without line ends, and writes the
  * entry of the house and the text's record to the first octets of entry. Answers 0 and how many
- * these are: 36 to LAMPHUDET_ENTRY_MAX.
+ * these are: LAMPHUDET_ENTRY_MIN to LAMPHUDET_ENTRY_MAX.
  *
  * Refuses, in this order:
  *   1   at 0: the text has not 72, 88 or 90 characters
@@ -202,11 +352,12 @@ static inline const char *lamphudet_words(uint32_t number)
  *   17  at 0: the house is not 1 to 32,767
  *   16  at 0: entry has fewer octets than this entry needs
  */
+LAMPHUDET_MUST_USE
 lamphudet_answer lamphudet_read_text(uint32_t house, const uint8_t *text, size_t text_len, uint8_t *entry, size_t entry_len);
 
 /*
  * Reads a presentation, and writes the entry of the house and the record of group 1's text to the
- * first octets of entry. Answers 0 and how many these are: 36 to LAMPHUDET_ENTRY_MAX. A text and a
+ * first octets of entry. Answers 0 and how many these are: LAMPHUDET_ENTRY_MIN to LAMPHUDET_ENTRY_MAX. A text and a
  * presentation with one record give one entry.
  *
  * What is accepted: every lent group is listed in EF.COM, is lent once, and has an entry in the
@@ -248,6 +399,7 @@ lamphudet_answer lamphudet_read_text(uint32_t house, const uint8_t *text, size_t
  *   17  at 0: the house is not 1 to 32,767
  *   16  at 0: entry has fewer octets than this entry needs
  */
+LAMPHUDET_MUST_USE
 lamphudet_answer lamphudet_read_presentation(uint32_t house, const uint8_t *presentation, size_t presentation_len,
                                              uint8_t *entry, size_t entry_len);
 
@@ -260,6 +412,7 @@ lamphudet_answer lamphudet_read_presentation(uint32_t house, const uint8_t *pres
  * no stretch, 0 and 0, where stage 1 or 2 refuses the presentation, where no such file is lent, and
  * where the number is no group's; 6 is none's. A stretch that is there has at least two octets.
  */
+LAMPHUDET_MUST_USE
 lamphudet_stretch lamphudet_group_file(const uint8_t *presentation, size_t presentation_len, uint32_t group);
 
 /*
@@ -273,6 +426,7 @@ lamphudet_stretch lamphudet_group_file(const uint8_t *presentation, size_t prese
  *       behind it
  *   16  at 0: text has fewer octets than this text needs
  */
+LAMPHUDET_MUST_USE
 lamphudet_answer lamphudet_write_text(const uint8_t *entry, size_t entry_len, uint8_t *text, size_t text_len);
 
 /*
@@ -283,6 +437,7 @@ lamphudet_answer lamphudet_write_text(const uint8_t *entry, size_t entry_len, ui
  *       with anything behind it. The house is then 0, and the record is the blank one: TD1, fillers
  *       in every field, lengths 0.
  */
+LAMPHUDET_MUST_USE
 lamphudet_record lamphudet_open_entry(const uint8_t *entry, size_t entry_len);
 
 /*
@@ -294,6 +449,7 @@ lamphudet_record lamphudet_open_entry(const uint8_t *entry, size_t entry_len);
  * Refuses:
  *   18  at offset: no entry begins there, or it is cut off, or offset is past the end
  */
+LAMPHUDET_MUST_USE
 lamphudet_answer lamphudet_next_entry(const uint8_t *run, size_t run_len, uint64_t offset);
 
 /*
@@ -304,6 +460,7 @@ lamphudet_answer lamphudet_next_entry(const uint8_t *run, size_t run_len, uint64
  *   1   at 0: the input is longer than 65,535 octets
  *   16  at 0: digest has fewer than 32 octets
  */
+LAMPHUDET_MUST_USE
 lamphudet_answer lamphudet_digest(const uint8_t *input, size_t input_len, uint8_t *digest, size_t digest_len);
 
 #ifdef __cplusplus

@@ -13,7 +13,8 @@
 extern "C" {
 #endif
 
-#define LAMPHUDET_SEAL_MAX 65535 /* octets of the longest seal */
+#define LAMPHUDET_SEAL_MAX 65535          /* octets of the longest seal */
+#define LAMPHUDET_SEAL_REFERENCE_MAX 255 /* characters of the longest certificate reference */
 
 /* A day of the calendar, of the years 1 to 9999. */
 typedef struct lamphudet_day {
@@ -21,12 +22,17 @@ typedef struct lamphudet_day {
     uint8_t month, day;
 } lamphudet_day;
 
+LAMPHUDET_ASSERT_AT(lamphudet_day, year, 0);
+LAMPHUDET_ASSERT_AT(lamphudet_day, month, 2);
+LAMPHUDET_ASSERT_AT(lamphudet_day, day, 3);
+LAMPHUDET_ASSERT_SIZE(lamphudet_day, 4);
+
 /*
  * What a seal says besides its record, which is in the entry. Country, signer and reference are
  * characters, A-Z, 0-9 and the filler <, and no zero ends them.
  */
 typedef struct lamphudet_seal {
-    uint32_t number;              /* 0, or the refusal's number */
+    uint32_t number;              /* LAMPHUDET_NOT_REFUSED, or the refusal's */
     uint32_t expected;            /* as in lamphudet_answer */
     uint64_t value;               /* 0: octets of entry written; else the place */
     lamphudet_stretch signature;  /* in the seal */
@@ -35,14 +41,29 @@ typedef struct lamphudet_seal {
     uint8_t definition, category; /* 0x5E, 3 */
     uint8_t reference_len;
     uint8_t country[3], signer[4];
-    uint8_t reference[255];       /* fillers behind reference_len */
+    uint8_t reference[LAMPHUDET_SEAL_REFERENCE_MAX]; /* fillers behind reference_len */
 } lamphudet_seal;
+
+LAMPHUDET_ASSERT_AT(lamphudet_seal, number, 0);
+LAMPHUDET_ASSERT_AT(lamphudet_seal, expected, 4);
+LAMPHUDET_ASSERT_AT(lamphudet_seal, value, 8);
+LAMPHUDET_ASSERT_AT(lamphudet_seal, signature, 16);
+LAMPHUDET_ASSERT_AT(lamphudet_seal, issued, 32);
+LAMPHUDET_ASSERT_AT(lamphudet_seal, signed_on, 36);
+LAMPHUDET_ASSERT_AT(lamphudet_seal, version, 40);
+LAMPHUDET_ASSERT_AT(lamphudet_seal, definition, 41);
+LAMPHUDET_ASSERT_AT(lamphudet_seal, category, 42);
+LAMPHUDET_ASSERT_AT(lamphudet_seal, reference_len, 43);
+LAMPHUDET_ASSERT_AT(lamphudet_seal, country, 44);
+LAMPHUDET_ASSERT_AT(lamphudet_seal, signer, 47);
+LAMPHUDET_ASSERT_AT(lamphudet_seal, reference, 51);
+LAMPHUDET_ASSERT_SIZE(lamphudet_seal, 312);
 
 /*
  * Reads a seal, and writes the entry of the house and the record of its text to the first octets of
- * entry. Answers 0, how many these are (36 to LAMPHUDET_ENTRY_MAX), the header's fields, and where
- * in the seal the signature stands. A text and a seal with one record give one entry. The signature
- * is handed out and not verified.
+ * entry. Answers 0, how many these are (LAMPHUDET_ENTRY_MIN to LAMPHUDET_ENTRY_MAX), the header's
+ * fields, and where in the seal the signature stands. A text and a seal with one record give one
+ * entry. The signature is handed out and not verified.
  *
  * What is accepted, from the first octet on:
  *   header     DC; the version; the country, C40 of three characters; the reference, C40, as below;
@@ -77,6 +98,7 @@ typedef struct lamphudet_seal {
  * A refused seal writes nothing and has a blank header: numbers 0, characters fillers, and no
  * signature, 0 and 0.
  */
+LAMPHUDET_MUST_USE
 lamphudet_seal lamphudet_read_seal(uint32_t house, const uint8_t *seal, size_t seal_len,
                                    uint8_t *entry, size_t entry_len);
 

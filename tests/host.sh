@@ -3,10 +3,8 @@
 # name and the build that is wanted: none, the host as it is built for use; or sanitized, with the compiler's watch over
 # addresses and undefined behaviour.
 host=$1
-passed=0
-failed=0
-folder=$(mktemp -d) || exit 2
-trap 'rm -rf "$folder"' EXIT
+# shellcheck source=tests/tries.sh
+. tests/tries.sh "$host"
 
 # What the sanitizers find ends the host, with a status that no case expects.
 export ASAN_OPTIONS=exitcode=99 UBSAN_OPTIONS=exitcode=99
@@ -42,18 +40,6 @@ holds() {
     failed=$((failed + 1))
 }
 
-# A test that is a command of its own.
-try() {
-    local name=$1
-    shift
-    if "$@"; then
-        passed=$((passed + 1))
-    else
-        echo "$host: not so: $name"
-        failed=$((failed + 1))
-    fi
-}
-
 # The digits of a file of hex, without its remarks, and octets given in hex.
 hex_of() {
     sed '/^#/d' "$1" | tr -d ' \n'
@@ -65,15 +51,4 @@ octets() {
 }
 octets_of() {
     octets "$(hex_of "$1")"
-}
-
-# Every case of the host, then the count.
-all_cases() {
-    local cases
-    for cases in "tests/$host/cases"/*.sh; do
-        # shellcheck source=/dev/null
-        . "$cases"
-    done
-    echo "$passed passed, $failed failed"
-    [[ $failed -eq 0 ]]
 }

@@ -86,7 +86,9 @@ static int expected(uint8_t *made)
 
     put_together(made);
     made[GROUP_2 - 1] = '9';
-    lamphudet_digest(made + GROUP_1, GROUP_2 - GROUP_1, made + ENTRY_1 + sizeof entry_1, 32);
+    if (!is(lamphudet_digest(made + GROUP_1, GROUP_2 - GROUP_1, made + ENTRY_1 + sizeof entry_1, 32), 0, 32)) {
+        return 0;
+    }
     answer = lamphudet_read_presentation(1, made, ALL, entry, sizeof entry);
     return answer.number == LAMPHUDET_REFUSED_DIGIT && answer.expected == 0 && answer.value == GROUP_2 - 1;
 }
