@@ -1,113 +1,176 @@
-# Lamphudet. `make` builds the archives for C hosts; README.md says what each of the other commands does.
+# Lamphudet. The lines below that begin with two # are what `make help` says.
 
 PREFIX ?= /usr/local
+LIBDIR ?= $(PREFIX)/lib
+INCLUDEDIR ?= $(PREFIX)/include
+BINDIR ?= $(PREFIX)/bin
+MANDIR ?= $(PREFIX)/share/man
 DESTDIR ?=
-VERSION := $(shell sed -n 's/^.define LAMPHUDET_VERSION "\(.*\)"$$/\1/p' include/lamphudet.h)
 # The seed of the compared cases; empty for the one that the gate takes.
 SEED ?=
-
-.PHONY: all archive seals-archive desk scanner demo test units compare samples bench install format clean
-
-all: archive seals-archive
-
-# The archives that desk, scanner, install, compare and bench take. Where LAMPHUDET_ARCHIVE names one, that is taken as it is
-# and not built; likewise LAMPHUDET_SEALS_ARCHIVE, for seals.
-ifdef LAMPHUDET_ARCHIVE
-ARCHIVE := $(abspath $(LAMPHUDET_ARCHIVE))
-archive:
-	@test -f '$(ARCHIVE)' || { echo 'there is no archive $(ARCHIVE)'; exit 1; }
-else
-ARCHIVE := $(CURDIR)/target/staticlib/liblamphudet.a
-archive: | rt-found
-	rt staticlib lamphudet
-endif
-
-# The first archive goes before it: the two are built from one folder.
-ifdef LAMPHUDET_SEALS_ARCHIVE
-SEALS_ARCHIVE := $(abspath $(LAMPHUDET_SEALS_ARCHIVE))
-seals-archive: archive
-	@test -f '$(SEALS_ARCHIVE)' || { echo 'there is no archive $(SEALS_ARCHIVE)'; exit 1; }
-else
-SEALS_ARCHIVE := $(CURDIR)/target/staticlib/liblamphudet_seals.a
-seals-archive: archive | rt-found
-	rt staticlib lamphudet_seals
-endif
-
-# The desk: a C host over the header and the archive alone.
 CC ?= cc
 CFLAGS ?= -O2
-C99 = $(CC) -std=c99 -Wall -Wextra -Wpedantic $(CFLAGS) -Iinclude -Iexamples/shared
 DESK ?= target/desk
-desk: archive | cc-found
-	@mkdir -p '$(dir $(DESK))'
-	@$(C99) -o '$(DESK)' examples/desk/*.c examples/shared/*.c '$(ARCHIVE)'
-
-# The scanner: another, over both.
 SCANNER ?= target/scanner
-scanner: seals-archive | cc-found
-	@mkdir -p '$(dir $(SCANNER))'
-	@$(C99) -o '$(SCANNER)' examples/scanner/*.c examples/shared/*.c '$(SEALS_ARCHIVE)' '$(ARCHIVE)'
+VERSION := $(shell sed -n 's/^.define LAMPHUDET_VERSION "\(.*\)"$$/\1/p' include/lamphudet.h)
 
-# Desk and scanner on their samples, sound and refused. The library is proved before it is run.
-demo: | cc-found
-	@mkdir -p target
-	@echo 'building the library, the desk and the scanner (some minutes the first time: the library is proved) ..'
-	@$(MAKE) --no-print-directory desk scanner > target/demo.log 2>&1 || { tail -n 20 target/demo.log; exit 1; }
+.DELETE_ON_ERROR:
+.PHONY: all help desk scanner demo test units compare samples bench install uninstall format clean
+
+##   make            the libraries, in target/staticlib and target/sharedlib, the desk and the scanner; what
+##                   a library is built on is proved first, which takes some minutes the first time
+all: libraries desk scanner
+
+##   make help       this
+help:
+	@sed -n 's/^## //p' Makefile
+
+# Says of a command that is missing what it is for.
+found = @command -v $(1) > /dev/null || { echo '$(1) is not on the PATH: $(2)'; exit 1; }
+rt-found = $(call found,rt,the command of the Rattle toolchain builds and proves this repository)
+cc-found = $(call found,$(firstword $(CC)),a C compiler builds shared libraries$(,) desk and scanner (on Debian: apt install gcc))
+cargo-found = $(call found,cargo,it builds the independent Rust implementation (on Debian: apt install cargo))
+, := ,
+
+# A crate's archive is built again where a source of a crate that it is built on has changed, or has come or gone, which
+# changes the folder. The C compiler comes after minutes of proof, so it is looked for before them.
+sources = crates.txt $(shell find $(wildcard $(foreach crate,$(shell tools/built-on $(1)),$(addprefix crates/$(crate)/,src specs proofs))))
+define build-archive
+	$(rt-found)
+	$(cc-found)
+	@tools/archive $(1)
+endef
+
+# The archives that everything else takes. Where LAMPHUDET_ARCHIVE names one, that is taken as it is and not built; likewise
+# LAMPHUDET_SEALS_ARCHIVE, for seals.
+ifdef LAMPHUDET_ARCHIVE
+ARCHIVE := $(LAMPHUDET_ARCHIVE)
+$(ARCHIVE):
+	@echo 'there is no archive $(ARCHIVE), which LAMPHUDET_ARCHIVE names'; exit 1
+else
+ARCHIVE := target/staticlib/liblamphudet.a
+$(ARCHIVE): $(call sources,lamphudet)
+	$(call build-archive,lamphudet)
+endif
+
+# The first archive goes before it: the two are proved in one folder.
+ifdef LAMPHUDET_SEALS_ARCHIVE
+SEALS_ARCHIVE := $(LAMPHUDET_SEALS_ARCHIVE)
+$(SEALS_ARCHIVE):
+	@echo 'there is no archive $(SEALS_ARCHIVE), which LAMPHUDET_SEALS_ARCHIVE names'; exit 1
+else
+SEALS_ARCHIVE := target/staticlib/liblamphudet_seals.a
+$(SEALS_ARCHIVE): $(call sources,lamphudet_seals) | $(ARCHIVE)
+	$(call build-archive,lamphudet_seals)
+endif
+
+ARCHIVES := $(ARCHIVE) $(SEALS_ARCHIVE)
+ifneq ($(words $(ARCHIVES)),2)
+$(error a blank stands in the name of an archive: $(ARCHIVES))
+endif
+
+# What the C compiler makes is made again where it, its flags or the archives are not those of the last time.
+%.with: always
+	@mkdir -p '$(@D)'
+	@echo '$(C99) $(ARCHIVES)' | cmp -s - '$@' || echo '$(C99) $(ARCHIVES)' > '$@'
+.PHONY: always
+always:
+.SECONDARY:
+
+# Beside each archive a shared library, which is the archive's code and hands out the calls alone.
+SHARED := target/sharedlib/liblamphudet.so target/sharedlib/liblamphudet_seals.so
+target/sharedlib/liblamphudet.so: $(ARCHIVE)
+target/sharedlib/liblamphudet_seals.so: $(SEALS_ARCHIVE)
+$(SHARED): target/sharedlib/lib%.so: packaging/%.map target/sharedlib/lib%.so.with
+	$(cc-found)
+	@$(CC) -shared -o $@ -Wl,-soname,lib$*.so.$(firstword $(subst ., ,$(VERSION))) -Wl,--version-script,packaging/$*.map \
+	    -Wl,-z,defs -Wl,--whole-archive $(filter %.a,$^) -Wl,--no-whole-archive $(LDFLAGS)
+	@echo 'built $@'
+
+.PHONY: libraries
+libraries: $(ARCHIVES) $(SHARED)
+
+##   make desk       target/desk, a C host over the first archive
+##   make scanner    target/scanner, one over both
+C99 = $(CC) -std=c99 -Wall -Wextra -Wpedantic $(CFLAGS) -Iinclude -Iexamples/shared
+host-sources = $(wildcard include/*.h examples/$(1)/*.[ch] examples/shared/*.[ch])
+define build-host
+	$(cc-found)
+	@$(C99) -o '$@' $(filter %.c,$^) $(filter %.a,$^) $(LDFLAGS)
+endef
+
+$(DESK): $(call host-sources,desk) $(ARCHIVE) $(DESK).with
+	$(build-host)
+desk: $(DESK)
+	@echo 'the desk is $(DESK); $(DESK) --help says what it does'
+
+# Of two archives the one that needs the other's calls stands first.
+$(SCANNER): $(call host-sources,scanner) $(SEALS_ARCHIVE) $(ARCHIVE) $(SCANNER).with
+	$(build-host)
+scanner: $(SCANNER)
+	@echo 'the scanner is $(SCANNER); $(SCANNER) --help says what it does'
+
+##   make demo       both on their samples, sound and refused
+demo: $(DESK) $(SCANNER)
 	@examples/desk/demo '$(DESK)'
 	@examples/scanner/demo '$(SCANNER)'
 
-test: | rt-found
+##   make install    libraries, headers, pkg-config files, manual pages, desk and scanner below PREFIX
+##   make uninstall  takes them away again
+export PREFIX LIBDIR INCLUDEDIR BINDIR MANDIR DESTDIR VERSION ARCHIVE SEALS_ARCHIVE DESK SCANNER
+install: libraries $(DESK) $(SCANNER)
+	@tools/install files
+
+uninstall:
+	@tools/install remove
+
+##   make test       the gate: all proved from nothing, wrong programs refused, every call compared
+test:
+	$(rt-found)
 	@.ci/run
 
-CARGO := LAMPHUDET_ARCHIVE='$(ARCHIVE)' LAMPHUDET_SEALS_ARCHIVE='$(SEALS_ARCHIVE)' cargo
+# Where none is named, the Rust crates find the repository's own archives.
+CARGO := $(if $(LAMPHUDET_ARCHIVE),LAMPHUDET_ARCHIVE='$(abspath $(ARCHIVE))') \
+         $(if $(LAMPHUDET_SEALS_ARCHIVE),LAMPHUDET_SEALS_ARCHIVE='$(abspath $(SEALS_ARCHIVE))') cargo
 CARGO_FLAGS := --quiet --release --locked --offline
 
-# The Rust crates' own tests, lowest first: the independent implementation is held to what the papers publish before anything
-# is held to it.
-units: seals-archive | cargo-found
+##   make units      the own tests of the Rust crates, the independent implementation first
+# It is held to what the papers publish before anything is held to it.
+units: $(ARCHIVES)
+	$(cargo-found)
 	@for crate in tests/paper tests/scanner tests/shared tests/compare bench; do \
 	    $(CARGO) test $(CARGO_FLAGS) --manifest-path $$crate/Cargo.toml --tests || exit 1; \
 	done
 
+##   make compare    units, then the archives held to that implementation; SEED=.. tries other cases
 compare: units
 	@$(CARGO) run $(CARGO_FLAGS) --manifest-path tests/compare/Cargo.toml -- $(SEED)
 
-# Makes the scanner's samples again.
-samples: | cargo-found
+##   make samples    the scanner's samples, made again by that implementation's encoder
+samples:
+	$(cargo-found)
 	@cargo run $(CARGO_FLAGS) --manifest-path tests/scanner/Cargo.toml -- examples/scanner/samples
 
-# Writes docs/FIGURES.md.
-bench: seals-archive | cargo-found
+##   make bench      writes docs/FIGURES.md; takes valgrind and OpenSSL's libcrypto where they are
+bench: $(ARCHIVES)
+	$(cargo-found)
 	@$(CARGO) run $(CARGO_FLAGS) --manifest-path bench/Cargo.toml -- docs/FIGURES.md
 
-PLACE = $(DESTDIR)$(abspath $(PREFIX))
-install: seals-archive
-	install -d '$(PLACE)/include' '$(PLACE)/lib/pkgconfig'
-	install -m 644 include/lamphudet.h include/lamphudet_seals.h '$(PLACE)/include'
-	install -m 644 '$(ARCHIVE)' '$(PLACE)/lib/liblamphudet.a'
-	install -m 644 '$(SEALS_ARCHIVE)' '$(PLACE)/lib/liblamphudet_seals.a'
-	for name in lamphudet lamphudet_seals; do \
-	    sed 's|@PREFIX@|$(abspath $(PREFIX))|; s|@VERSION@|$(VERSION)|' $$name.pc.in \
-	        > '$(PLACE)/lib/pkgconfig/'$$name.pc || exit 1; \
-	    chmod 644 '$(PLACE)/lib/pkgconfig/'$$name.pc || exit 1; \
-	done
-
-format: | rt-found cargo-found
+##   make format     lays out all sources as the gate wants them
+format:
+	$(rt-found)
+	$(cargo-found)
 	rt fmt
 	@for manifest in tests/*/Cargo.toml bench/Cargo.toml; do cargo fmt --manifest-path $$manifest || exit 1; done
 
+##   make clean      takes target/ away
 clean:
 	rm -rf target
 
-# Says of a command that is missing what it is for.
-found = @command -v $(1) > /dev/null || { echo '$(1) is not on the PATH: $(2)'; exit 1; }
-
-.PHONY: rt-found cargo-found cc-found
-rt-found:
-	$(call found,rt,the command of the Rattle toolchain builds and proves this repository)
-
-cargo-found:
-	$(call found,cargo,it builds the independent Rust implementation (on Debian: apt install cargo))
-
-cc-found:
-	$(call found,$(firstword $(CC)),a C compiler builds desk and scanner (on Debian: apt install gcc))
+## 
+## Variables, with what they are unless they are given:
+##   PREFIX=/usr/local, LIBDIR=PREFIX/lib, INCLUDEDIR=PREFIX/include, BINDIR=PREFIX/bin,
+##   MANDIR=PREFIX/share/man, and DESTDIR, none, which stands before each when a package is made
+##   CC=cc, CFLAGS=-O2, LDFLAGS, for shared libraries, desk and scanner
+##   LAMPHUDET_ARCHIVE, LAMPHUDET_SEALS_ARCHIVE: archives that were built elsewhere, taken as they are; then
+##   nothing is proved, and no rt is needed

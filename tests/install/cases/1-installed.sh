@@ -1,31 +1,94 @@
 # shellcheck shell=bash disable=SC2154
 # What make install puts where. The cases behind this one use what it installs below usr.
 
-# The three files of each library below a folder, and in its pkg-config file the prefix that was asked for.
-stands() {
-    local library
-    for library in lamphudet lamphudet_seals; do
-        [[ -f $1/include/$library.h && -f $1/lib/lib$library.a ]] || return 1
-        grep -qx "prefix=$2" "$1/lib/pkgconfig/$library.pc" || return 1
-    done
+version=$(sed -n 's/^#define LAMPHUDET_VERSION "\(.*\)"$/\1/p' include/lamphudet.h)
+
+# Every file of an installation below a folder, by its path in it.
+all_files() {
+    cat << END
+bin/desk
+bin/scanner
+include/lamphudet.h
+include/lamphudet_seals.h
+lib/liblamphudet.a
+lib/liblamphudet.so
+lib/liblamphudet.so.${version%%.*}
+lib/liblamphudet.so.$version
+lib/liblamphudet_seals.a
+lib/liblamphudet_seals.so
+lib/liblamphudet_seals.so.${version%%.*}
+lib/liblamphudet_seals.so.$version
+lib/pkgconfig/lamphudet.pc
+lib/pkgconfig/lamphudet_seals.pc
+END
+}
+found_below() {
+    (cd "$1" && find . ! -type d | sed 's|^\./||' | LC_ALL=C sort)
 }
 
+# An installation below a folder, whole, and in its pkg-config files the prefix that was asked for.
+stands() {
+    diff <(all_files) <(found_below "$1") && grep -qx "prefix=$2" "$1/lib/pkgconfig/"*.pc
+}
+installs() {
+    make --silent install "$@" > /dev/null
+}
 installed() {
-    make --silent install PREFIX="$folder/usr" && stands "$folder/usr" "$folder/usr"
+    installs PREFIX="$folder/usr" && stands "$folder/usr" "$folder/usr"
 }
 
 # A package is put together below DESTDIR, which nothing installed may name.
 staged() {
-    make --silent install DESTDIR="$folder/stage" PREFIX=/opt/lamphudet && stands "$folder/stage/opt/lamphudet" /opt/lamphudet
+    installs DESTDIR="$folder/stage" PREFIX=/opt/lamphudet && stands "$folder/stage/opt/lamphudet" /opt/lamphudet \
+        && ! grep -rq "$folder" "$folder/stage/opt/lamphudet/lib/pkgconfig"
 }
 
-# What a program can take from an installed archive: these calls, and nothing else.
-has_calls() {
-    local library=$1
-    shift
-    [[ $(nm -g --defined-only "$folder/usr/lib/lib$library.a" | awk 'NF == 3 { print $3 }' | tr '\n' ' ') = "$* " ]]
+# What pkg-config says of another folder for libraries, below the prefix and elsewhere.
+elsewhere() {
+    installs PREFIX="$folder/multi" LIBDIR="$1" && [[ -f $1/liblamphudet.a ]] \
+        && [[ $(PKG_CONFIG_PATH="$1/pkgconfig" pkg-config --libs-only-L lamphudet) =~ ^-L"$1"\ *$ ]]
+}
+
+# What was installed is taken away, and what stood there before stays.
+taken_away() {
+    mkdir -p "$folder/gone/lib" && touch "$folder/gone/lib/libother.a" && installs PREFIX="$folder/gone" \
+        && make --silent uninstall PREFIX="$folder/gone" > /dev/null \
+        && diff <(echo lib/libother.a) <(found_below "$folder/gone")
+}
+
+# Nothing is installed anywhere where a name has a blank.
+refused() {
+    refuses 'a blank' make --silent install PREFIX="$folder/usr" "$1=$folder/two words" && [[ ! -e "$folder/two words" ]] \
+        && [[ ! -e "$folder/two" ]]
 }
 
 try 'make install' installed
 try 'make install with DESTDIR' staged
-try 'the archive for seals has its one call' has_calls lamphudet_seals lamphudet_read_seal
+try 'make install with LIBDIR' elsewhere "$folder/multi/lib/x86_64-linux-gnu"
+try 'make install with LIBDIR outside of PREFIX' elsewhere "$folder/lib64"
+try 'make uninstall' taken_away
+for variable in PREFIX LIBDIR INCLUDEDIR BINDIR MANDIR DESTDIR; do
+    try "a blank in $variable is refused" refused $variable
+done
+
+# What a program can take from an installed archive or shared library: these calls, and nothing else.
+has_calls() {
+    local library=$1
+    shift
+    [[ $(nm -g --defined-only "$folder/usr/lib/lib$library.a" | awk 'NF == 3 { print $3 }' | tr '\n' ' ') = "$* " ]] \
+        && [[ $(nm -D --defined-only "$folder/usr/lib/lib$library.so" | awk '{ print $3 }' | tr '\n' ' ') = "$* " ]]
+}
+has_name() {
+    [[ $(objdump -p "$folder/usr/lib/lib$1.so" | awk '$1 == "SONAME" { print $2 }') = "lib$1.so.${version%%.*}" ]]
+}
+
+# The calls that a header declares are those that its libraries have.
+declared() {
+    grep -ohE '^lamphudet_[a-z]+ lamphudet_[a-z_]+\(' "include/$1.h" | sed 's/^[^ ]* //; s/(//' | LC_ALL=C sort
+}
+for library in lamphudet lamphudet_seals; do
+    mapfile -t calls < <(declared $library)
+    try "$library has the calls of its header, and no others" has_calls $library "${calls[@]}"
+    try "the shared library of $library has its name" has_name $library
+done
+try 'seals have one call' diff <(declared lamphudet_seals) <(echo lamphudet_read_seal)

@@ -1,24 +1,47 @@
 # shellcheck shell=bash disable=SC2154
-# Hosts, built from what is installed with what pkg-config says.
+# Hosts, built from what is installed with what pkg-config says, over the archives and over the shared libraries.
 
-# A host of a library, with the compiler and the language given, built and run.
-host() {
-    local library=$1 source=$2 flags
-    shift 2
-    flags=$(PKG_CONFIG_PATH="$folder/usr/lib/pkgconfig" pkg-config --cflags --libs "$library") || return 1
-    # The flags are several words.
-    # shellcheck disable=SC2086
-    "$@" -Wall -Wextra -Wpedantic -Werror -o "$folder/host" "tests/install/hosts/$source" -x none $flags && "$folder/host"
+flags_of() {
+    PKG_CONFIG_PATH="$folder/usr/lib/pkgconfig" pkg-config --cflags --libs "$1"
 }
 
+# Builds and runs a host of a library, with the compiler and the language given.
+over_shared() {
+    local library=$1 source=$2 flags
+    shift 2
+    flags=$(flags_of "$library") || return 1
+    # The flags are several words.
+    # shellcheck disable=SC2086
+    "$@" -Wall -Wextra -Wpedantic -Werror -o "$folder/host" "tests/install/hosts/$source" -x none $flags || return 1
+    LD_LIBRARY_PATH="$folder/usr/lib" "$folder/host"
+}
+over_archives() {
+    local library=$1 source=$2 flags
+    shift 2
+    flags=$(flags_of "$library") || return 1
+    # shellcheck disable=SC2086
+    "$@" -Wall -Wextra -Wpedantic -Werror -o "$folder/host" "tests/install/hosts/$source" -x none \
+        -Wl,-Bstatic $flags -Wl,-Bdynamic || return 1
+    ! ldd "$folder/host" | grep lamphudet || return 1
+    "$folder/host"
+}
+
+sanitized='-g -fsanitize=address,undefined -fno-sanitize-recover=all'
 for pair in lamphudet:{digest,record,presentation,field,order}.c lamphudet_seals:seal.c; do
     library=${pair%:*} source=${pair#*:}
-    try "$source as a C99 host" host "$library" "$source" cc -std=c99 -x c
-    try "$source as a C99 host, sanitized" host "$library" "$source" \
-        cc -std=c99 -g -fsanitize=address,undefined -fno-sanitize-recover=all -x c
-    if command -v c++ > /dev/null; then
-        try "$source as a C++17 host" host "$library" "$source" c++ -std=c++17 -x c++
-    else
-        echo "install: no C++ compiler, so $source was not tried as a C++ host"
-    fi
+    for over in over_archives over_shared; do
+        try "$source as a C99 host, $over" $over "$library" "$source" cc -std=c99 -x c
+        # The flags are several words.
+        # shellcheck disable=SC2086
+        try "$source as a C99 host, $over, sanitized" $over "$library" "$source" cc -std=c99 $sanitized -x c
+        if command -v c++ > /dev/null; then
+            try "$source as a C++17 host, $over" $over "$library" "$source" c++ -std=c++17 -x c++
+        else
+            echo "install: no C++ compiler, so $source was not tried as a C++ host"
+        fi
+    done
 done
+
+# The desk and the scanner that are installed need nothing beside them.
+try 'the installed desk' "$folder/usr/bin/desk" text --file examples/desk/samples/t3.text > "$folder/desk"
+try 'the installed scanner' "$folder/usr/bin/scanner" --hex examples/scanner/samples/seal.hex > "$folder/scanner"
