@@ -34,7 +34,8 @@ cargo-found = $(call found,cargo,it builds the independent Rust implementation (
 
 # A crate's archive is built again where a source of a crate that it is built on has changed, or has come or gone, which
 # changes the folder. The C compiler comes after minutes of proof, so it is looked for before them.
-sources = crates.txt $(shell find $(wildcard $(foreach crate,$(shell tools/built-on $(1)),$(addprefix crates/$(crate)/,src specs proofs))))
+folders = $(foreach crate,$(shell tools/built-on $(1)),$(addprefix crates/$(crate)/,src specs proofs))
+sources = crates.txt $(shell find $(wildcard $(folders)))
 define build-archive
 	$(rt-found)
 	$(cc-found)

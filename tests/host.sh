@@ -13,17 +13,18 @@ case ${2-} in
 sanitized) flags='-O1 -g -fsanitize=address,undefined -fno-sanitize-recover=all' ;;
 *) echo "$host: no such build: $2" && exit 2 ;;
 esac
-if ! make --silent "$host" "${host^^}=$folder/$host" CFLAGS="$flags -Werror"; then
+if ! make --silent "$host" "${host^^}=$folder/$host" CFLAGS="$flags -Werror" > /dev/null; then
     echo "$host: it does not build with $flags"
     echo '0 passed, 1 failed'
     exit 1
 fi
 passed=1
 
-# Holds the host to an exit status and to what it should print; what it is lent on standard input goes through.
-holds() {
-    local name=$1 status=$2 output=$3 given
-    shift 3
+# Holds the host to an exit status, to what it should print, and to what it should say on standard error; what it is lent on
+# standard input goes through.
+answers() {
+    local name=$1 status=$2 output=$3 errors=$4 given
+    shift 4
     "$folder/$host" "$@" > "$folder/output" 2> "$folder/errors"
     given=$?
     if [[ $given -ne $status ]]; then
@@ -31,13 +32,35 @@ holds() {
     elif ! diff "$output" "$folder/output" > "$folder/difference"; then
         echo "$host: $name: prints otherwise:"
         cat "$folder/difference"
-    elif [[ -s $folder/errors && -s $folder/output ]] || [[ ! -s $folder/errors && ! -s $folder/output ]]; then
-        echo "$host: $name: a word on standard error where nothing is on standard output, and only there"
+    elif ! diff "$errors" "$folder/errors" > "$folder/difference"; then
+        echo "$host: $name: says otherwise on standard error:"
+        cat "$folder/difference"
     else
         passed=$((passed + 1))
         return
     fi
     failed=$((failed + 1))
+}
+
+# What it should print, and not a word on standard error.
+holds() {
+    local name=$1 status=$2 output=$3
+    shift 3
+    answers "$name" "$status" "$output" /dev/null "$@"
+}
+
+# One line on standard error, behind the host's name, and nothing printed.
+says() {
+    local name=$1 status=$2 line=$3
+    shift 3
+    answers "$name" "$status" /dev/null <(echo "$host: $line") "$@"
+}
+
+# The same of a command line that is wrong: it is told what is wrong, and where help is.
+is_misused() {
+    local name=$1 line=$2
+    shift 2
+    says "$name" 2 "$line; $host --help says more" "$@"
 }
 
 # The digits of a file of hex, without its remarks, and octets given in hex.

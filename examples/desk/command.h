@@ -13,9 +13,9 @@
 struct order {
     uint32_t house;
     uint32_t group;
-    const char *file; /* each of the three is NULL where none is named */
+    const char *file; /* each of the three is NULL where none is named; a dash is standard input */
     const char *hex;
-    const char *out;
+    const char *out; /* for entries, or for a group's file */
     char **operands;
     int operand_count;
 };

@@ -11,7 +11,7 @@ void show_kept(const uint8_t *entry, size_t len)
 
     show_record(&record);
     show_hex("entry", entry, len);
-    if (written.number == 0) {
+    if (written.number == LAMPHUDET_NOT_REFUSED) {
         show_text("written back", text, (size_t)written.value);
     } else {
         show_refusal(written);

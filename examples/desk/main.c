@@ -5,110 +5,141 @@
  */
 #include "command.h"
 #include "number.h"
+#include "octets.h"
+#include "options.h"
 #include "program.h"
+#include "usage.h"
 
 #include <stdio.h>
 #include <string.h>
 
 const char program[] = "desk";
 
-static const char usage[] =
-    "usage: desk text [--house HOUSE] [--file FILE | TEXT ..]\n"
-    "       desk presentation [--house HOUSE] [--file FILE | --hex FILE | HEX ..]\n"
-    "       desk group GROUP [--out FILE] [--file FILE | --hex FILE | HEX ..]\n"
-    "       desk run [--file FILE | --hex FILE | HEX ..]\n"
-    "\n"
-    "text          Reads texts of machine readable zones. Prints each one's record, its entry in hex and the text written\n"
-    "              back, or the refusal with a caret under its place. Each TEXT is one text. In a file an empty line ends a\n"
-    "              text, and a line that begins with # is a remark. Lines of a zone may be joined, or parted by line ends,\n"
-    "              or by blanks. The house is 1 unless one is given.\n"
-    "presentation  Reads what a chip gave: EF.COM, the content of the security object and group files, joined. Prints where\n"
-    "              each group's file stands, and its record, entry and text, or the refusal with its stage and a caret\n"
-    "              under its octet.\n"
-    "group         Writes the file of a group, tag and length included, as it stands in a presentation, to the file that\n"
-    "              --out names or to standard output.\n"
-    "run           Lists a run of entries.\n"
-    "\n"
-    "A file is read as it is, and so is standard input where neither a file nor operands are given. --hex names a file of hex\n"
-    "digits, parted as you like, in which a line that begins with # is a remark. All HEX are joined.\n"
-    "\n"
-    "Exit status: 0 where everything was accepted, 1 where something was refused, 2 where the desk could not do its work.\n";
+enum { HOUSE, FILE_AS_IT_IS, HEX, OUT, OPTIONS };
+static struct option options[OPTIONS] = {
+    { "--house", NOT_TAKEN, NULL, 1 },
+    { "--file", NOT_TAKEN, NULL, 0 },
+    { "--hex", NOT_TAKEN, NULL, 0 },
+    { "--out", NOT_TAKEN, NULL, 0 },
+};
 
 static const struct command {
     const char *name;
-    const char *options; /* those that it takes, each between blanks */
-    int has_group;       /* whether a group's number stands before them */
+    enum option_kind takes[OPTIONS];
+    int has_group; /* whether a group's number stands before the operands */
     enum status (*command)(const struct order *order);
 } commands[] = {
-    { "text", " --house --file ", 0, command_text },
-    { "presentation", " --house --file --hex ", 0, command_presentation },
-    { "group", " --out --file --hex ", 1, command_group },
-    { "run", " --file --hex ", 0, command_run },
+    { "text", { NUMBER, WORD, NOT_TAKEN, WORD }, 0, command_text },
+    { "presentation", { NUMBER, WORD, WORD, WORD }, 0, command_presentation },
+    { "group", { NOT_TAKEN, WORD, WORD, WORD }, 1, command_group },
+    { "run", { NOT_TAKEN, WORD, WORD, NOT_TAKEN }, 0, command_run },
 };
 
-static int misused(const char *about, const char *word)
+static const struct command *named(const char *name)
 {
-    fprintf(stderr, "%s: %s %s\n%s", program, about, word, usage);
-    return NOT_DONE;
-}
+    size_t at;
 
-static int takes(const struct command *command, const char *name)
-{
-    const char *found = strstr(command->options, name);
-
-    return found != NULL && found[strlen(name)] == ' ';
-}
-
-/* 0 where the value will not do. */
-static int option(struct order *order, const char *name, const char *value)
-{
-    if (strcmp(name, "--house") == 0) {
-        return number_of(value, &order->house);
+    for (at = 0; at < sizeof commands / sizeof commands[0]; at++) {
+        if (strcmp(name, commands[at].name) == 0) {
+            return &commands[at];
+        }
     }
-    *(strcmp(name, "--file") == 0 ? &order->file : strcmp(name, "--hex") == 0 ? &order->hex : &order->out) = value;
+    return NULL;
+}
+
+/* The number of a group, and options behind it. */
+static enum asked take_group(struct order *order, struct options *taken, struct words *words)
+{
+    if (words->count == 0) {
+        misused("group is given without its number");
+        return FOR_NOTHING;
+    }
+    if (!number_of(words->at[0], &order->group)) {
+        misused("group is given '%s', which is no number", words->at[0]);
+        return FOR_NOTHING;
+    }
+    words->at++;
+    words->count--;
+    return options_take(taken, words);
+}
+
+/* 0 where a command is given two inputs, or an output that it has no use for, which is told. */
+static int is_whole(const struct order *order, const struct command *command)
+{
+    if (order->file != NULL && order->hex != NULL) {
+        misused("--file and --hex are both given, and one input is read");
+        return 0;
+    }
+    if ((order->file != NULL || order->hex != NULL) && order->operand_count > 0) {
+        misused("'%s' is given beside a file, and one input is read", order->operands[0]);
+        return 0;
+    }
+    if (order->out != NULL && is_standard(order->out) && !command->has_group) {
+        misused("--out is given no file, and standard output is for what is shown");
+        return 0;
+    }
     return 1;
 }
 
-/* The options, each with its value, stand before the operands. Gives the word that is wrong, or NULL. */
-static const char *understand(struct order *order, const struct command *command)
+static enum asked understand(struct order *order, const struct command *command, struct words *words)
 {
-    if (command->has_group) {
-        if (order->operand_count == 0 || !number_of(order->operands[0], &order->group)) {
-            return order->operand_count == 0 ? "a group without its number" : order->operands[0];
-        }
-        order->operands++;
-        order->operand_count--;
-    }
-    while (order->operand_count > 0 && strncmp(order->operands[0], "--", 2) == 0) {
-        const char *name = order->operands[0];
+    struct options taken = { NULL, options, OPTIONS };
+    enum asked asked;
+    size_t at;
 
-        if (order->operand_count == 1 || !takes(command, name) || !option(order, name, order->operands[1])) {
-            return name;
-        }
-        order->operands += 2;
-        order->operand_count -= 2;
+    taken.taker = command->name;
+    for (at = 0; at < OPTIONS; at++) {
+        options[at].kind = command->takes[at];
     }
-    if (order->file != NULL && order->hex != NULL) {
-        return order->hex;
+    asked = options_take(&taken, words);
+    if (asked == TO_WORK && command->has_group) {
+        asked = take_group(order, &taken, words);
     }
-    return (order->file != NULL || order->hex != NULL) && order->operand_count > 0 ? order->operands[0] : NULL;
+    order->house = options[HOUSE].number;
+    order->file = options[FILE_AS_IT_IS].given;
+    order->hex = options[HEX].given;
+    order->out = options[OUT].given;
+    order->operands = words->at;
+    order->operand_count = words->count;
+    return asked == TO_WORK && !is_whole(order, command) ? FOR_NOTHING : asked;
+}
+
+/* The command's name and all behind it. */
+static enum asked understand_command(struct order *order, const struct command **command, struct words *words)
+{
+    struct options none = { program, options, OPTIONS };
+    enum asked asked = options_take(&none, words);
+
+    if (asked != TO_WORK) {
+        return asked;
+    }
+    if (words->count == 0) {
+        misused("no command is given");
+        return FOR_NOTHING;
+    }
+    if (strcmp(words->at[0], "help") == 0) {
+        return FOR_HELP;
+    }
+    *command = named(words->at[0]);
+    if (*command == NULL) {
+        misused("there is no command '%s'", words->at[0]);
+        return FOR_NOTHING;
+    }
+    words->at++;
+    words->count--;
+    return understand(order, *command, words);
 }
 
 int main(int count, char **words)
 {
-    size_t at;
+    struct words left = { words + 1, count - 1 };
+    struct order order = { 1, 0, NULL, NULL, NULL, NULL, 0 };
+    const struct command *command = NULL;
 
-    if (count == 2 && strcmp(words[1], "--help") == 0) {
-        fputs(usage, stdout);
-        return done(ALL_ACCEPTED);
+    switch (understand_command(&order, &command, &left)) {
+    case TO_WORK: return done(command->command(&order));
+    case FOR_HELP: fputs(usage, stdout); return done(ALL_ACCEPTED);
+    case FOR_VERSION: show_version(); return done(ALL_ACCEPTED);
+    default: return NOT_DONE;
     }
-    for (at = 0; count > 1 && at < sizeof commands / sizeof commands[0]; at++) {
-        if (strcmp(words[1], commands[at].name) == 0) {
-            struct order order = { 1, 0, NULL, NULL, NULL, words + 2, count - 2 };
-            const char *wrong = understand(&order, &commands[at]);
-
-            return wrong != NULL ? misused("does not understand", wrong) : done(commands[at].command(&order));
-        }
-    }
-    return count > 1 ? misused("has no command", words[1]) : misused("is given", "no command");
 }

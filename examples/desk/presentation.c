@@ -4,6 +4,7 @@
 #include "kept.h"
 #include "show.h"
 #include "stage.h"
+#include "store.h"
 
 #include <stdio.h>
 
@@ -68,25 +69,30 @@ static void show_refused(const uint8_t *presentation, size_t len, uint32_t house
     show_refusal(refusal);
 }
 
-static enum status read_presentation(const uint8_t *presentation, size_t len, uint32_t house)
+static enum status read_presentation(const uint8_t *presentation, size_t len, const struct order *order)
 {
+    struct store kept = { { NULL, 0, 0 }, 0 };
     uint8_t entry[LAMPHUDET_ENTRY_MAX];
-    lamphudet_answer answer = lamphudet_read_presentation(house, presentation, len, entry, sizeof entry);
+    lamphudet_answer answer = lamphudet_read_presentation(order->house, presentation, len, entry, sizeof entry);
+    enum status status = SOME_REFUSED;
 
     show_files(presentation, len);
-    if (answer.number == 0) {
+    if (answer.number == LAMPHUDET_NOT_REFUSED) {
         show_kept(entry, (size_t)answer.value);
+        status = store_add(&kept, entry, (size_t)answer.value) ? ALL_ACCEPTED : NOT_DONE;
     } else {
-        show_refused(presentation, len, house, answer);
+        show_refused(presentation, len, order->house, answer);
     }
     putchar('\n');
-    return answer.number == 0 ? ALL_ACCEPTED : SOME_REFUSED;
+    status = store_write(&kept, order->out, status);
+    store_free(&kept);
+    return status;
 }
 
 enum status command_presentation(const struct order *order)
 {
     struct octets lent = { NULL, 0, 0 };
-    enum status status = input_octets(&lent, order, 1) ? read_presentation(lent.at, lent.len, order->house) : NOT_DONE;
+    enum status status = input_octets(&lent, order, 1) ? read_presentation(lent.at, lent.len, order) : NOT_DONE;
 
     octets_free(&lent);
     return status;

@@ -12,7 +12,7 @@ static enum status list(const uint8_t *run, size_t len)
     lamphudet_answer next = lamphudet_next_entry(run, len, offset);
 
     /* At the end of the run the next offset is 0, which is behind no entry. */
-    for (; next.number == 0 && next.value != 0; next = lamphudet_next_entry(run, len, offset)) {
+    for (; next.number == LAMPHUDET_NOT_REFUSED && next.value != 0; next = lamphudet_next_entry(run, len, offset)) {
         lamphudet_record record = lamphudet_open_entry(run + offset, (size_t)(next.value - offset));
 
         if (entries == 0) {
@@ -23,12 +23,12 @@ static enum status list(const uint8_t *run, size_t len)
         entries++;
     }
     printf("  entries: %lu\n", entries);
-    if (next.number != 0) {
+    if (next.number != LAMPHUDET_NOT_REFUSED) {
         show_octets(run, len, next.value);
         show_refusal(next);
     }
     putchar('\n');
-    return next.number == 0 ? ALL_ACCEPTED : SOME_REFUSED;
+    return next.number == LAMPHUDET_NOT_REFUSED ? ALL_ACCEPTED : SOME_REFUSED;
 }
 
 enum status command_run(const struct order *order)

@@ -7,17 +7,6 @@
 #define WIDEST 60
 #define MOST_LINES 4
 
-/* 0 for a length that no form has. */
-static size_t line_width(size_t len)
-{
-    switch (len) {
-    case 90: return 30;
-    case 72: return 36;
-    case 88: return 44;
-    default: return 0;
-    }
-}
-
 static void show_line(const struct zone *zone, size_t start, size_t end, uint64_t place)
 {
     size_t shown = end - start < WIDEST ? end - start : WIDEST;

@@ -1,13 +1,39 @@
 /* desk text: reads texts, and shows each one's record and entry, or its refusal. */
 #include "command.h"
 #include "kept.h"
-#include "lines.h"
 #include "show.h"
+#include "store.h"
+#include "texts.h"
 
 #include <stdio.h>
 #include <string.h>
 
-static void show_refused(const struct zone *zone, uint32_t house, lamphudet_answer answer)
+/* Texts that are read one after another: for whom, and what became of them. */
+struct reading {
+    uint32_t house;
+    struct store kept;
+    enum status worst;
+};
+
+/* Which lines of a file the characters were counted in, and what parts texts that were counted together. */
+static void show_count(const struct zone *zone, struct given given)
+{
+    unsigned long lines = (unsigned long)given_lines(given);
+    unsigned long first = (unsigned long)given.line;
+
+    printf("  characters   %lu", (unsigned long)zone->text.len);
+    if (first > 0 && lines > 1) {
+        printf(", in lines %lu to %lu", first, first + lines - 1);
+    } else if (first > 0 && lines > 0) {
+        printf(", in line %lu", first);
+    }
+    putchar('\n');
+    if (first > 0 && lines > 1 && zone->text.len > LAMPHUDET_TEXT_MAX) {
+        puts("  several?     an empty line parts two texts");
+    }
+}
+
+static void show_refused(const struct zone *zone, struct given given, uint32_t house, lamphudet_answer answer)
 {
     /* The house does not stand in the text, so no caret below the text points at it. */
     if (answer.number == LAMPHUDET_REFUSED_UNSOUND) {
@@ -17,83 +43,66 @@ static void show_refused(const struct zone *zone, uint32_t house, lamphudet_answ
         show_zone(zone, answer.value);
     }
     if (answer.number == LAMPHUDET_REFUSED_LENGTH) {
-        printf("  characters   %lu\n", (unsigned long)zone->text.len);
+        show_count(zone, given);
     }
     show_refusal(answer);
 }
 
-static enum status read_zone(const struct zone *zone, uint32_t house)
+static enum status read_zone(const struct zone *zone, struct given given, struct reading *reading)
 {
     uint8_t entry[LAMPHUDET_ENTRY_MAX];
-    lamphudet_answer answer = lamphudet_read_text(house, zone->text.at, zone->text.len, entry, sizeof entry);
+    lamphudet_answer answer = lamphudet_read_text(reading->house, zone->text.at, zone->text.len, entry, sizeof entry);
+    enum status status = SOME_REFUSED;
 
-    if (answer.number == 0) {
+    if (answer.number == LAMPHUDET_NOT_REFUSED) {
         show_zone(zone, NOWHERE);
         show_kept(entry, (size_t)answer.value);
+        status = store_add(&reading->kept, entry, (size_t)answer.value) ? ALL_ACCEPTED : NOT_DONE;
     } else {
-        show_refused(zone, house, answer);
+        show_refused(zone, given, reading->house, answer);
     }
     putchar('\n');
-    return answer.number == 0 ? ALL_ACCEPTED : SOME_REFUSED;
+    return status;
 }
 
-/* Reads one text as it was given, and gives the worse of two statuses. */
-static enum status read_given(const char *given, size_t len, uint32_t house, enum status before)
+static void read_text(struct given given, struct reading *reading)
 {
     struct zone zone;
-    enum status status = zone_join(&zone, given, len) ? read_zone(&zone, house) : NOT_DONE;
+    enum status status = zone_join(&zone, given.at, given.len) ? read_zone(&zone, given, reading) : NOT_DONE;
 
     zone_free(&zone);
-    return status > before ? status : before;
+    reading->worst = status > reading->worst ? status : reading->worst;
 }
 
-/* The texts of a file. One without any is a text of no characters, and the library says what it thinks of that. */
-static enum status read_file(const char *given, size_t len, uint32_t house)
+/* 0 where the file cannot be read, which is told. */
+static int read_file(const char *file, struct reading *reading)
 {
-    enum status status = ALL_ACCEPTED;
-    size_t texts = 0;
-    size_t start = 0; /* of the text that is being gathered: it ends at an empty line or a remark */
-    size_t at = 0;
+    struct octets given = { NULL, 0, 0 };
+    int whole = octets_read(&given, file);
 
-    while (at < len) {
-        size_t line = line_len(given + at, len - at);
-        int remark = is_remark(given + at);
-
-        if (remark || is_empty(given + at, line)) {
-            if (start < at) {
-                status = read_given(given + start, at - start, house, status);
-                texts++;
-            }
-            if (remark) {
-                show_remark(given + at, line);
-            }
-            start = at + line + 1;
-        }
-        at += line + 1;
+    if (whole) {
+        texts_of_file(given.len > 0 ? (const char *)given.at : "", given.len, read_text, reading);
     }
-    if (start < len || texts == 0) {
-        start = start < len ? start : len;
-        status = read_given(given + start, len - start, house, status);
-    }
-    return status;
+    octets_free(&given);
+    return whole;
 }
 
 enum status command_text(const struct order *order)
 {
-    enum status status = ALL_ACCEPTED;
+    struct reading reading = { 0, { { NULL, 0, 0 }, 0 }, ALL_ACCEPTED };
+    enum status status;
     int at;
 
-    if (order->operand_count == 0) {
-        struct octets given = { NULL, 0, 0 };
-
-        status = NOT_DONE;
-        if (octets_read(&given, order->file)) {
-            status = read_file(given.len > 0 ? (const char *)given.at : "", given.len, order->house);
-        }
-        octets_free(&given);
+    reading.house = order->house;
+    if (order->operand_count == 0 && !read_file(order->file, &reading)) {
+        return NOT_DONE;
     }
     for (at = 0; at < order->operand_count; at++) {
-        status = read_given(order->operands[at], strlen(order->operands[at]), order->house, status);
+        struct given operand = { order->operands[at], strlen(order->operands[at]), 0 };
+
+        read_text(operand, &reading);
     }
+    status = store_write(&reading.kept, order->out, reading.worst);
+    store_free(&reading.kept);
     return status;
 }

@@ -10,6 +10,16 @@ static int is_blank(char character)
     return character == ' ' || character == '\t';
 }
 
+size_t line_width(size_t len)
+{
+    switch (len) {
+    case 90: return 30;
+    case 72: return 36;
+    case 88: return 44;
+    default: return 0;
+    }
+}
+
 /* The width of a line in TD1, TD2 or TD3. */
 static int is_width(size_t characters)
 {
@@ -83,6 +93,15 @@ int zone_join(struct zone *zone, const char *given, size_t len)
         }
     }
     return 1;
+}
+
+int zone_is_whole(const char *given, size_t len)
+{
+    struct zone zone;
+    int whole = zone_join(&zone, given, len) && line_width(zone.text.len) > 0;
+
+    zone_free(&zone);
+    return whole;
 }
 
 int zone_of(struct zone *zone, const uint8_t *text, size_t len)

@@ -5,99 +5,95 @@
  * This file takes the command line apart.
  */
 #include "hex_file.h"
-#include "number.h"
+#include "options.h"
 #include "program.h"
 #include "seal.h"
 
 #include <stdio.h>
-#include <string.h>
 
 const char program[] = "scanner";
 
 static const char usage[] =
-    "usage: scanner [--house HOUSE] [--hex] FILE ..\n"
+    "usage: scanner [--house HOUSE] [--hex] [--out FILE] FILE ..\n"
+    "       scanner --help | -h | --version\n"
     "\n"
     "Reads a seal from each FILE, or from standard input where - is given: the octets that the\n"
     "printed symbol holds, as a reader of Data Matrix gives them. Prints the fields of its\n"
     "header, its record, its entry in hex and its signature, or the refusal with a caret under\n"
-    "its octet. The house is 1 unless one is given.\n"
+    "its octet. The house is 1 unless one is given. --out names a file for the entries that were\n"
+    "accepted, which desk run reads.\n"
     "\n"
     "A file is read as it is. With --hex it has hex digits, parted as you like, and a line that\n"
     "begins with # is a remark. On standard input one line end behind the seal is left out:\n"
     "dmtxread -n puts one there.\n"
     "\n"
+    "Options stand before the files, each once, with a blank or a = before the value; -- ends\n"
+    "them.\n"
+    "\n"
     "Exit status: 0 where every seal was accepted, 1 where one was refused, 2 where the scanner\n"
     "could not do its work.\n";
 
-struct order {
-    uint32_t house;
-    int hex;
-    char **files;
-    int file_count;
+enum { HOUSE, HEX, OUT, OPTIONS };
+static struct option options[OPTIONS] = {
+    { "--house", NUMBER, NULL, 1 },
+    { "--hex", FLAG, NULL, 0 },
+    { "--out", WORD, NULL, 0 },
 };
 
-static int misused(const char *about, const char *word)
+static enum asked understand(struct words *files)
 {
-    fprintf(stderr, "%s: %s %s\n%s", program, about, word, usage);
-    return NOT_DONE;
-}
+    struct options taken = { program, options, OPTIONS };
+    enum asked asked = options_take(&taken, files);
 
-/* The options stand before the files. Gives the word that is wrong, or NULL. */
-static const char *understand(struct order *order)
-{
-    while (order->file_count > 0 && strncmp(order->files[0], "--", 2) == 0) {
-        const char *name = order->files[0];
-        int has_value = strcmp(name, "--house") == 0;
-
-        if (has_value && (order->file_count == 1 || !number_of(order->files[1], &order->house))) {
-            return name;
-        }
-        if (!has_value && strcmp(name, "--hex") != 0) {
-            return name;
-        }
-        order->hex = order->hex || !has_value;
-        order->files += 1 + has_value;
-        order->file_count -= 1 + has_value;
+    if (asked == TO_WORK && files->count == 0) {
+        misused("no file is given");
+        return FOR_NOTHING;
     }
-    return NULL;
+    if (asked == TO_WORK && options[OUT].given != NULL && is_standard(options[OUT].given)) {
+        misused("--out is given no file, and standard output is for what is shown");
+        return FOR_NOTHING;
+    }
+    return asked;
 }
 
-static enum status read_file(const char *name, const struct order *order)
+static enum status read_file(const char *file, struct store *kept)
 {
     struct octets given = { NULL, 0, 0 };
-    const char *file = strcmp(name, "-") == 0 ? NULL : name;
-    int gathered = order->hex ? hex_file_read(&given, file, 1) : octets_read(&given, file);
+    int hex = options[HEX].given != NULL;
+    int gathered = hex ? hex_file_read(&given, file, 1) : octets_read(&given, file);
     enum status status = NOT_DONE;
 
     if (gathered) {
-        status = read_seal(&given, order->house, file == NULL && !order->hex);
+        status = read_seal(&given, options[HOUSE].number, is_standard(file) && !hex, kept);
     }
     octets_free(&given);
     return status;
 }
 
-int main(int count, char **words)
+static enum status read_files(struct words files)
 {
-    struct order order = { 1, 0, words + 1, count - 1 };
+    struct store kept = { { NULL, 0, 0 }, 0 };
     enum status worst = ALL_ACCEPTED;
-    const char *wrong;
     int at;
 
-    if (count == 2 && strcmp(words[1], "--help") == 0) {
-        fputs(usage, stdout);
-        return done(ALL_ACCEPTED);
-    }
-    wrong = understand(&order);
-    if (wrong != NULL) {
-        return misused("does not understand", wrong);
-    }
-    if (order.file_count == 0) {
-        return misused("is given", "no file");
-    }
-    for (at = 0; at < order.file_count; at++) {
-        enum status status = read_file(order.files[at], &order);
+    for (at = 0; at < files.count; at++) {
+        enum status status = read_file(files.at[at], &kept);
 
         worst = status > worst ? status : worst;
     }
-    return done(worst);
+    worst = store_write(&kept, options[OUT].given, worst);
+    store_free(&kept);
+    return worst;
+}
+
+int main(int count, char **words)
+{
+    struct words left = { words + 1, count - 1 };
+
+    switch (understand(&left)) {
+    case TO_WORK: return done(read_files(left));
+    case FOR_HELP: fputs(usage, stdout); return done(ALL_ACCEPTED);
+    case FOR_VERSION: show_version(); return done(ALL_ACCEPTED);
+    default: return NOT_DONE;
+    }
 }

@@ -72,19 +72,21 @@ static void show_refused(const struct reading *reading, uint32_t house)
     show_refusal(refusal);
 }
 
-enum status read_seal(const struct octets *given, uint32_t house, int piped)
+enum status read_seal(const struct octets *given, uint32_t house, int piped, struct store *kept)
 {
     struct reading reading = (piped ? lend_piped : lend)(given->at, given->len, house);
+    enum status status = SOME_REFUSED;
 
     printf("  octets       %lu\n", (unsigned long)reading.len);
     if (reading.len < given->len) {
         puts("  line end     behind the seal, left out");
     }
-    if (reading.seal.number == 0) {
+    if (reading.seal.number == LAMPHUDET_NOT_REFUSED) {
         show_accepted(&reading);
+        status = store_add(kept, reading.entry, (size_t)reading.seal.value) ? ALL_ACCEPTED : NOT_DONE;
     } else {
         show_refused(&reading, house);
     }
     putchar('\n');
-    return reading.seal.number == 0 ? ALL_ACCEPTED : SOME_REFUSED;
+    return status;
 }

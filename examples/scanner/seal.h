@@ -4,12 +4,13 @@
 
 #include "octets.h"
 #include "status.h"
+#include "store.h"
 
 /*
  * Lends the octets of one seal to the library, and shows what it says: header, record and
  * signature, or the refusal. Where they came through a pipe, one line end behind the seal is not
- * the seal's.
+ * the seal's. The entry of an accepted one is put to those that are kept.
  */
-enum status read_seal(const struct octets *given, uint32_t house, int piped);
+enum status read_seal(const struct octets *given, uint32_t house, int piped, struct store *kept);
 
 #endif

@@ -19,32 +19,50 @@ static int is_between(char character)
     return character == ' ' || character == '\t' || character == '\r' || character == '\n';
 }
 
-int hex_read(struct octets *octets, const char *hex, size_t len)
+/* The beginning of a message. */
+static void tell_place(struct hex_place place)
 {
-    int first = -1; /* the digit that waits for its second */
+    fprintf(stderr, "%s: %s%s%s %lu", program, place.of == NULL ? "" : place.of, place.of == NULL ? "" : ", ", place.part,
+            place.part_number);
+}
+
+/* Nothing that would steer a terminal. */
+static char shown(char character)
+{
+    return character > ' ' && character <= '~' ? character : '?';
+}
+
+int hex_add(struct hex *hex, const char *digits, size_t len, struct hex_place place)
+{
     size_t at;
 
     for (at = 0; at < len; at++) {
-        int found = digit(hex[at]);
+        int found = digit(digits[at]);
 
-        if (found < 0 && !is_between(hex[at])) {
-            fprintf(stderr, "%s: character %lu of the hex is no hex digit\n", program,
-                    (unsigned long)(at + 1));
+        if (found < 0 && !is_between(digits[at])) {
+            tell_place(place);
+            fprintf(stderr, ", column %lu: %c is no hex digit\n", (unsigned long)(at + 1), shown(digits[at]));
             return 0;
         }
-        if (found >= 0 && first >= 0) {
-            uint8_t octet = (uint8_t)(16 * first + found);
+        if (found >= 0 && hex->first >= 0) {
+            uint8_t octet = (uint8_t)(16 * hex->first + found);
 
-            first = -1;
-            if (!octets_add(octets, &octet, 1)) {
+            hex->first = -1;
+            if (!octets_add(&hex->octets, &octet, 1)) {
                 return 0;
             }
         } else if (found >= 0) {
-            first = found;
+            hex->first = found;
         }
     }
-    if (first >= 0) {
-        fprintf(stderr, "%s: the hex ends in half an octet\n", program);
+    return 1;
+}
+
+int hex_is_whole(const struct hex *hex, struct hex_place last)
+{
+    if (hex->first >= 0) {
+        tell_place(last);
+        fputs(": the hex ends in half an octet\n", stderr);
     }
-    return first < 0;
+    return hex->first < 0;
 }

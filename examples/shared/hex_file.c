@@ -4,33 +4,39 @@
 #include "lines.h"
 #include "print.h"
 
-/* The lines of a file that are no remarks. */
-static int gather_lines(struct octets *lines, const char *given, size_t len, int show_remarks)
+/* The octets of all lines that are no remarks. */
+static int read_lines(struct hex *hex, const struct octets *given, struct hex_place place, int show_remarks)
 {
+    const char *text = (const char *)given->at;
+    struct hex_place last = place;
     size_t at;
     size_t line;
 
-    for (at = 0; at < len; at += line + 1) {
-        line = line_len(given + at, len - at);
-        if (is_remark(given + at)) {
-            if (show_remarks) {
-                show_remark(given + at, line);
+    for (at = 0; at < given->len; at += line + 1) {
+        line = line_len(text + at, given->len - at);
+        place.part_number++;
+        if (!is_remark(text + at)) {
+            last = place;
+            if (!hex_add(hex, text + at, line, place)) {
+                return 0;
             }
-        } else if (!octets_add(lines, given + at, line) || !octets_add(lines, "\n", 1)) {
-            return 0;
+        } else if (show_remarks) {
+            show_remark(text + at, line);
         }
     }
-    return 1;
+    return hex_is_whole(hex, last);
 }
 
 int hex_file_read(struct octets *octets, const char *file, int show_remarks)
 {
     struct octets given = { NULL, 0, 0 };
-    struct octets lines = { NULL, 0, 0 };
-    int gathered = octets_read(&given, file) && gather_lines(&lines, (const char *)given.at, given.len, show_remarks)
-                && hex_read(octets, (const char *)lines.at, lines.len);
+    struct hex hex = { { NULL, 0, 0 }, -1 };
+    struct hex_place start = { NULL, "line", 0 };
+    int gathered;
 
+    start.of = is_standard(file) ? "standard input" : file;
+    gathered = octets_read(&given, file) && read_lines(&hex, &given, start, show_remarks);
     octets_free(&given);
-    octets_free(&lines);
+    *octets = hex.octets;
     return gathered;
 }

@@ -5,9 +5,9 @@
 #include "octets.h"
 
 /*
- * Adds the octets of a file of hex, or of standard input where no file is named. A line that begins
- * with # is a remark, and is shown where that is asked for. 0 where it cannot be done, which is
- * told.
+ * Gives the octets of a file of hex, named as for octets_read. A line that begins with # is a remark,
+ * and is shown where that is asked for. 0 where it cannot be done, which is told; what is given is to
+ * be freed then too.
  */
 int hex_file_read(struct octets *octets, const char *file, int show_remarks);
 

@@ -44,12 +44,17 @@ static int read_on(struct octets *octets, FILE *stream)
     return 1;
 }
 
+int is_standard(const char *file)
+{
+    return file == NULL || strcmp(file, "-") == 0;
+}
+
 int octets_read(struct octets *octets, const char *file)
 {
     FILE *stream;
     int whole;
 
-    if (file == NULL) {
+    if (is_standard(file)) {
         return read_on(octets, stdin);
     }
     stream = fopen(file, "rb");
@@ -64,14 +69,15 @@ int octets_read(struct octets *octets, const char *file)
 
 int octets_write(const char *file, const uint8_t *octets, size_t len)
 {
-    FILE *stream = file == NULL ? stdout : fopen(file, "wb");
-    int written = stream != NULL && fwrite(octets, 1, len, stream) == len && fflush(stream) == 0;
+    int standard = is_standard(file);
+    FILE *stream = standard ? stdout : fopen(file, "wb");
+    int written = stream != NULL && (len == 0 || fwrite(octets, 1, len, stream) == len) && fflush(stream) == 0;
 
-    if (file != NULL && stream != NULL && fclose(stream) != 0) {
+    if (!standard && stream != NULL && fclose(stream) != 0) {
         written = 0;
     }
     if (!written) {
-        fprintf(stderr, "%s: %s: %s\n", program, file == NULL ? "standard output" : file, strerror(errno));
+        fprintf(stderr, "%s: %s: %s\n", program, standard ? "standard output" : file, strerror(errno));
     }
     return written;
 }

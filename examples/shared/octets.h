@@ -17,6 +17,9 @@ struct octets {
  */
 int octets_add(struct octets *octets, const void *more, size_t len);
 
+/* Whether no file is named: NULL, or a dash. */
+int is_standard(const char *file);
+
 /*
  * All of a file, or of standard input where no file is named. 0 where it could not be read, which
  * is told.

@@ -1,7 +1,6 @@
 #include "print.h"
 
 #include <inttypes.h>
-#include <stdio.h>
 
 /* How many octets are shown before a place, and from it on. */
 #define BEFORE 8
@@ -54,11 +53,17 @@ void show_remark(const char *line, size_t len)
     putchar('\n');
 }
 
+void put_refusal(FILE *to, lamphudet_answer answer)
+{
+    fprintf(to, "refused, %" PRIu32 " at place %" PRIu64 ": %s", answer.number, answer.value, lamphudet_words(answer.number));
+    if (answer.expected != LAMPHUDET_NO_DIGIT) {
+        fprintf(to, ", expected %" PRIu32, answer.expected);
+    }
+    fputc('\n', to);
+}
+
 void show_refusal(lamphudet_answer answer)
 {
-    printf("  refused, %" PRIu32 " at place %" PRIu64 ": %s", answer.number, answer.value, lamphudet_words(answer.number));
-    if (answer.expected != LAMPHUDET_NO_DIGIT) {
-        printf(", expected %" PRIu32, answer.expected);
-    }
-    putchar('\n');
+    fputs("  ", stdout);
+    put_refusal(stdout, answer);
 }

@@ -3,6 +3,7 @@
 #define SHARED_PRINT_H
 
 #include <lamphudet.h>
+#include <stdio.h>
 
 /*
  * One character for each octet, so that a caret below stands where it should, and nothing that
@@ -24,7 +25,10 @@ void show_octets(const uint8_t *octets, size_t len, uint64_t place);
 /* A line of a file that the host does not read. */
 void show_remark(const char *line, size_t len);
 
-/* The refusal in words, with the check digit that was expected where there is one. */
+/* The refusal in words, with the check digit that was expected where there is one, to the end of a line. */
+void put_refusal(FILE *to, lamphudet_answer answer);
+
+/* The same on standard output, as a line of its own. */
 void show_refusal(lamphudet_answer answer);
 
 #endif

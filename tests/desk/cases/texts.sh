@@ -33,3 +33,16 @@ holds 'one refused among several' 1 "$folder/several" text "$first$second" '' "$
 holds 'the specimens' 0 "$expected/specimens" text --file $samples/specimens.text
 holds 'long numbers, the greatest house' 0 "$expected/long-numbers" text --house 32767 --file $samples/long-numbers.text
 holds 'each refusal of a text' 1 "$expected/refused" text --file $samples/refused.text
+
+# Texts that have one line each need nothing between them; blanks within a line part the lines of its zone.
+cat "$expected/t3" "$folder/td1" "$folder/td2" > "$folder/three"
+printf '%s\n' "$first$second" ' I<UTOD231458907<<<<<<<<<<<<<<< 7408122F1204159UTO<<<<<<<<<<<6 ERIKSSON<<ANNA<MARIA<<<<<<<<<<' \
+    'I<UTOERIKSSON<<ANNA<MARIA<<<<<<<<<<<D231458907UTO7408122F1204159<<<<<<<6' > "$folder/one-to-a-line"
+holds 'texts, one to a line' 0 "$folder/three" text --file "$folder/one-to-a-line"
+holds 'texts, one to a line, with line ends of DOS' 0 "$folder/three" text < <(sed 's/$/\r/' "$folder/one-to-a-line")
+# A text that was broken where it has as many characters as another form's is one text all the same.
+holds 'a text broken at 72 characters' 0 "$expected/t3" text < <(printf '%s\n' "$first$second" | fold -w 72)
+# Otherwise they are one text, and it is told which lines were counted and what parts texts.
+holds 'two texts with nothing between them' 1 "$expected/joined" text \
+    < <(printf '# two\n\n%s\n%s\n%s\n%s\n' "$first" "$second" "$first" "$second")
+holds 'a text that is too short, in its line' 1 "$expected/short" text < <(printf '\n\n%s\n' "$first${second%0}")
