@@ -11,6 +11,19 @@
  *
  * A refused call writes nothing. A call that is not refused writes the octets that it reports, from
  * the start of its output, and no others. What a call only reads is never changed.
+ *
+ * What is left to the host:
+ *   - The signature over the security object. Whoever makes up files can make up an object with their
+ *     digests: a presentation that is accepted is whole, and who issued it the signature alone says.
+ *   - The content of the security object (eContent) is cut out of EF.SOD, which has tag 77 and holds
+ *     the signature too. What is lent begins with the content's own tag, 30.
+ *   - The expiry is compared with today. A date is six digits, year, month and day, without a century;
+ *     of a birth year, month and day may each be fillers.
+ *   - A stored run needs a check of its own: of the single bits of an entry about half can be turned
+ *     over and give another entry.
+ *
+ * What is covered: SHA-256 as digest, LDS version 0107, security object version 0. Other digests,
+ * 0108 and version 1 are refused, 13, 11 and 12.
  */
 #ifndef LAMPHUDET_H
 #define LAMPHUDET_H

@@ -3,6 +3,9 @@
  *
  * A seal is the octets of the symbol that is printed on an emergency travel document. What
  * lamphudet.h says of every call holds for this one: what may be lent, and what is written.
+ *
+ * What is left to the host: the signature, which signs all octets before its FF, and whom to trust by
+ * signer and reference; the dates, none of which is compared with another or with today.
  */
 #ifndef LAMPHUDET_SEALS_H
 #define LAMPHUDET_SEALS_H
