@@ -20,6 +20,20 @@ lib/liblamphudet_seals.so.${version%%.*}
 lib/liblamphudet_seals.so.$version
 lib/pkgconfig/lamphudet.pc
 lib/pkgconfig/lamphudet_seals.pc
+share/man/man1/desk.1
+share/man/man1/scanner.1
+share/man/man3/lamphudet.3
+share/man/man3/lamphudet_digest.3
+share/man/man3/lamphudet_field.3
+share/man/man3/lamphudet_group_file.3
+share/man/man3/lamphudet_next_entry.3
+share/man/man3/lamphudet_open_entry.3
+share/man/man3/lamphudet_read_presentation.3
+share/man/man3/lamphudet_read_seal.3
+share/man/man3/lamphudet_read_text.3
+share/man/man3/lamphudet_seals.3
+share/man/man3/lamphudet_words.3
+share/man/man3/lamphudet_write_text.3
 END
 }
 found_below() {
@@ -28,7 +42,7 @@ found_below() {
 
 # An installation below a folder, whole, and in its pkg-config files the prefix that was asked for.
 stands() {
-    diff <(all_files) <(found_below "$1") && grep -qx "prefix=$2" "$1/lib/pkgconfig/"*.pc
+    diff <(all_files) <(found_below "$1") && grep -qx "prefix=$2" "$1/lib/pkgconfig/"*.pc && ! find "$1" -xtype l | grep .
 }
 installs() {
     make --silent install "$@" > /dev/null

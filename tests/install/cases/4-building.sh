@@ -5,7 +5,7 @@
 copy="$folder/a copy"
 real=$(cd "$(dirname "${LAMPHUDET_ARCHIVE:-target/staticlib/liblamphudet.a}")" && pwd)
 mkdir -p "$copy" "$folder/tools"
-cp -r Makefile tools packaging include examples crates crates.txt "$copy"
+cp -r Makefile tools packaging include man examples crates crates.txt "$copy"
 cat > "$folder/tools/rt" << END
 #!/bin/sh
 [ ! -e "$copy/refused" ] || { echo 'crates/zone/proofs/Laws.antt: not so' && exit 1; }

@@ -1,0 +1,35 @@
+# shellcheck shell=bash disable=SC2154
+# The pages of section 3 have the calls, the names and the words that the headers have.
+
+# The calls as a header declares them, without what lamphudet_field is made of, and as a page's synopsis does.
+declared() {
+    tr '\n' ' ' < "include/$1.h" | sed 's/  */ /g' \
+        | grep -oE '(lamphudet_[a-z]+ |const char \*)lamphudet_[a-z_]+\([a-z][^()]*\)( \{|;)' \
+        | sed 's/ *[{;]$//' | grep -v 'lamphudet_part_at\|lamphudet_long_number' | LC_ALL=C sort
+}
+in_synopsis() {
+    awk '
+        /^\.Ft / { type = substr($0, 5) }
+        /^\.Fn .*"/ {
+            name = $2
+            arguments = substr($0, index($0, "\""))
+            gsub(/" "/, ", ", arguments)
+            gsub(/"/, "", arguments)
+            print type (type ~ /\*$/ ? "" : " ") name "(" arguments ")"
+        }' "man/$1.3" | LC_ALL=C sort
+}
+# The names that a header defines for hosts, and those of a page.
+names_of() {
+    grep -hv '^\.Dt ' "$@" | grep -oE '\bLAMPHUDET_[A-Z0-9_]+' | grep -v '_H$\|_ASSERT\|MUST_USE' | sort -u
+}
+has_names() {
+    diff <(names_of "$1" | grep -vxFf <(names_of "${@:2}")) /dev/null
+}
+
+for library in lamphudet lamphudet_seals; do
+    try "man/$library.3 has some calls" [ "$(in_synopsis $library | wc -l)" -gt 0 ]
+    try "man/$library.3 has the calls of its header" diff <(declared $library) <(in_synopsis $library)
+    try "man/$library.3 makes no name up" has_names man/$library.3 include/*.h
+done
+try 'the pages have every name of lamphudet.h' has_names include/lamphudet.h man/*.3
+try 'the pages have every name of lamphudet_seals.h' has_names include/lamphudet_seals.h man/*.3
