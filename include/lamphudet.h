@@ -225,7 +225,7 @@ static inline const char *lamphudet_words(uint32_t number)
     }
 }
 
-/* A part of a text: how many characters it has, and what it is. */
+/* What lamphudet_field is made of. A part of a text: how many characters it has, and what it is. */
 typedef struct lamphudet_part {
     uint64_t width;
     const char *words;

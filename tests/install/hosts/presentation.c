@@ -1,7 +1,8 @@
 /*
  * A host of the installed library: puts T3 of document 01 and another file into a presentation, with the digests that
- * lamphudet_digest gives, and reads it to the entry that the text alone has; finds the files where they were put; and is
- * refused where it should be. Exit status 0 where all of that is so.
+ * lamphudet_digest gives, and reads it to the entry that the text alone has; finds the files where they were put; is refused
+ * where it should be; and tells of a wrong check digit in group 1's text the one that was expected, and whose it is. Exit
+ * status 0 where all of that is so.
  */
 #include <lamphudet.h>
 #include <stdio.h>
@@ -28,6 +29,13 @@ static int is(lamphudet_answer answer, uint32_t number, uint64_t value)
     return answer.number == number && answer.expected == LAMPHUDET_NO_DIGIT && answer.value == value;
 }
 
+/* Each file's digest goes into its entry. */
+static int digest_files(uint8_t *made)
+{
+    return is(lamphudet_digest(made + GROUP_1, GROUP_2 - GROUP_1, made + ENTRY_1 + sizeof entry_1, LAMPHUDET_DIGEST), 0, 32)
+        && is(lamphudet_digest(made + GROUP_2, ALL - GROUP_2, made + ENTRY_2 + sizeof entry_2, LAMPHUDET_DIGEST), 0, 32);
+}
+
 static int put_together(uint8_t *made)
 {
     memcpy(made, com, sizeof com);
@@ -37,8 +45,7 @@ static int put_together(uint8_t *made)
     memcpy(made + GROUP_1, group_1, sizeof group_1);
     memcpy(made + TEXT, t3, sizeof t3 - 1);
     memcpy(made + GROUP_2, group_2, sizeof group_2);
-    return is(lamphudet_digest(made + GROUP_1, GROUP_2 - GROUP_1, made + ENTRY_1 + sizeof entry_1, 32), 0, 32)
-        && is(lamphudet_digest(made + GROUP_2, ALL - GROUP_2, made + ENTRY_2 + sizeof entry_2, 32), 0, 32);
+    return digest_files(made);
 }
 
 static int accepted(const uint8_t *made)
@@ -78,19 +85,25 @@ static int refused(uint8_t *made)
     return right && is(lamphudet_read_presentation(1, made, ALL, entry, sizeof entry), LAMPHUDET_REFUSED_DIGEST, GROUP_2);
 }
 
-/* The text's last digit, which is 0, is 9: it is told which one was expected, once the file has its digest again. */
-static int expected(uint8_t *made)
+/*
+ * A wrong check digit of the text, which is the file of group 1 from its sixth octet on, is told with the one that was
+ * expected, and has a name by its place. None of T3's is 9.
+ */
+static int told(uint8_t *made, size_t place, uint32_t digit, const char *words)
 {
     uint8_t entry[LAMPHUDET_ENTRY_MAX];
+    lamphudet_stretch file;
     lamphudet_answer answer;
 
     put_together(made);
-    made[GROUP_2 - 1] = '9';
-    if (!is(lamphudet_digest(made + GROUP_1, GROUP_2 - GROUP_1, made + ENTRY_1 + sizeof entry_1, 32), 0, 32)) {
+    made[TEXT + place] = '9';
+    if (!digest_files(made)) {
         return 0;
     }
+    file = lamphudet_group_file(made, ALL, 1);
     answer = lamphudet_read_presentation(1, made, ALL, entry, sizeof entry);
-    return answer.number == LAMPHUDET_REFUSED_DIGIT && answer.expected == 0 && answer.value == GROUP_2 - 1;
+    return answer.number == LAMPHUDET_REFUSED_DIGIT && answer.expected == digit && answer.value == TEXT + place
+        && strcmp(lamphudet_field(made + file.start + 5, (size_t)file.length - 5, answer.value - file.start - 5), words) == 0;
 }
 
 int main(void)
@@ -98,9 +111,10 @@ int main(void)
     uint8_t made[ALL];
     int kept = put_together(made) && accepted(made);
     int handed = found(made);
-    int kept_out = refused(made) && expected(made);
+    int kept_out = refused(made);
+    int digits = told(made, 63, 8, "check digit of the birth") && told(made, 87, 0, "composite check digit");
 
-    printf("presentation %s, files %s, refusals %s\n", kept ? "kept" : "NOT kept", handed ? "found" : "NOT found",
-           kept_out ? "right" : "WRONG");
-    return !(kept && handed && kept_out);
+    printf("presentation %s, files %s, refusals %s, check digits %s\n", kept ? "kept" : "NOT kept",
+           handed ? "found" : "NOT found", kept_out ? "right" : "WRONG", digits ? "told" : "NOT told");
+    return !(kept && handed && kept_out && digits);
 }
