@@ -43,6 +43,7 @@ static void show_text_refused(const uint8_t *presentation, size_t len, lamphudet
     }
     if (zone_of(&zone, presentation + text.content, text.end - text.content)) {
         show_zone(&zone, refusal.value - text.content);
+        show_field(&zone, refusal.number, refusal.value - text.content);
     }
     if (refusal.number == LAMPHUDET_REFUSED_LENGTH) {
         printf("  characters   %lu\n", (unsigned long)zone.text.len);

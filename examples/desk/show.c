@@ -38,6 +38,13 @@ void show_zone(const struct zone *zone, uint64_t place)
     }
 }
 
+void show_field(const struct zone *zone, uint32_t number, uint64_t place)
+{
+    if (number >= LAMPHUDET_REFUSED_CHARACTER && number <= LAMPHUDET_REFUSED_DIGIT) {
+        printf("  field        %s\n", lamphudet_field(zone->text.at, zone->text.len, place));
+    }
+}
+
 void show_text(const char *label, const uint8_t *text, size_t len)
 {
     size_t width = line_width(len);

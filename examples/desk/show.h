@@ -16,6 +16,9 @@
  */
 void show_zone(const struct zone *zone, uint64_t place);
 
+/* In which field of its text a refusal by 2 to 9 stands, at a place of the text; nothing for other refusals. */
+void show_field(const struct zone *zone, uint32_t number, uint64_t place);
+
 /* A text that the library wrote, by the lines of its form. */
 void show_text(const char *label, const uint8_t *text, size_t len);
 

@@ -45,6 +45,7 @@ static void show_refused(const struct zone *zone, struct given given, uint32_t h
     if (answer.number == LAMPHUDET_REFUSED_LENGTH) {
         show_count(zone, given);
     }
+    show_field(zone, answer.number, answer.value);
     show_refusal(answer);
 }
 
