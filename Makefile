@@ -29,8 +29,12 @@ help:
 found = @command -v $(1) > /dev/null || { echo '$(1) is not on the PATH: $(2)'; exit 1; }
 rt-found = $(call found,rt,the command of the Rattle toolchain builds and proves this repository)
 cc-found = $(call found,$(firstword $(CC)),a C compiler builds shared libraries$(,) desk and scanner (on Debian: apt install gcc))
-cargo-found = $(call found,cargo,it builds the independent Rust implementation (on Debian: apt install cargo))
 , := ,
+
+# Named first of all that something needs, so that it is looked for before minutes of proof.
+.PHONY: cargo-found
+cargo-found:
+	$(call found,cargo,it builds the independent Rust implementation (on Debian: apt install cargo))
 
 # A crate's archive is built again where a source of a crate that it is built on has changed, or has come or gone, which
 # changes the folder. The C compiler comes after minutes of proof, so it is looked for before them.
@@ -137,8 +141,7 @@ CARGO_FLAGS := --quiet --release --locked --offline
 
 ##   make units      the own tests of the Rust crates, the independent implementation first
 # It is held to what the papers publish before anything is held to it.
-units: $(ARCHIVES)
-	$(cargo-found)
+units: cargo-found $(ARCHIVES)
 	@for crate in tests/paper tests/scanner tests/shared tests/compare bench; do \
 	    $(CARGO) test $(CARGO_FLAGS) --manifest-path $$crate/Cargo.toml --tests || exit 1; \
 	done
@@ -148,19 +151,16 @@ compare: units
 	@$(CARGO) run $(CARGO_FLAGS) --manifest-path tests/compare/Cargo.toml -- $(SEED)
 
 ##   make samples    the scanner's samples, made again by that implementation's encoder
-samples:
-	$(cargo-found)
+samples: cargo-found
 	@cargo run $(CARGO_FLAGS) --manifest-path tests/scanner/Cargo.toml -- examples/scanner/samples
 
 ##   make bench      writes docs/FIGURES.md; takes valgrind and OpenSSL's libcrypto where they are
-bench: $(ARCHIVES)
-	$(cargo-found)
+bench: cargo-found $(ARCHIVES)
 	@$(CARGO) run $(CARGO_FLAGS) --manifest-path bench/Cargo.toml -- docs/FIGURES.md
 
 ##   make format     lays out all sources as the gate wants them
-format:
+format: cargo-found
 	$(rt-found)
-	$(cargo-found)
 	rt fmt
 	@for manifest in tests/*/Cargo.toml bench/Cargo.toml; do cargo fmt --manifest-path $$manifest || exit 1; done
 

@@ -3,7 +3,8 @@
 # from where they are. What rt is for is not tried here: that is rt ci's.
 
 copy="$folder/a copy"
-real=$(cd "$(dirname "${LAMPHUDET_ARCHIVE:-target/staticlib/liblamphudet.a}")" && pwd)
+archive=$(realpath "${LAMPHUDET_ARCHIVE:-target/staticlib/liblamphudet.a}")
+seals_archive=$(realpath "${LAMPHUDET_SEALS_ARCHIVE:-target/staticlib/liblamphudet_seals.a}")
 mkdir -p "$copy" "$folder/tools"
 cp -r Makefile tools packaging include man examples crates crates.txt "$copy"
 cat > "$folder/tools/rt" << END
@@ -11,7 +12,10 @@ cat > "$folder/tools/rt" << END
 [ ! -e "$copy/refused" ] || { echo 'crates/zone/proofs/Laws.antt: not so' && exit 1; }
 tools/built-on "\$2" | sed '\$d; s/.*/fn &::of: proved\nrt: & proved (3 s)/' >&2
 mkdir -p target/staticlib
-cp "$real/lib\$2.a" target/staticlib
+case \$2 in
+lamphudet) cp "$archive" target/staticlib/liblamphudet.a ;;
+lamphudet_seals) cp "$seals_archive" target/staticlib/liblamphudet_seals.a ;;
+esac
 echo "rt: target/staticlib/lib\$2.a has the functions"
 END
 chmod +x "$folder/tools/rt"
@@ -55,6 +59,8 @@ built_again() {
 }
 
 try 'a compiler is looked for before anything is proved' refuses 'a C compiler builds' makes CC=no-such-compiler
+try 'cargo is looked for before that too' refuses 'cargo is not on the PATH' \
+    env -u LAMPHUDET_ARCHIVE -u LAMPHUDET_SEALS_ARCHIVE PATH="$folder/tools:$folder/bare" make -C "$copy" units
 try 'nothing was proved' [ ! -e "$copy/target/lamphudet.log" ]
 try 'rt is looked for' refuses 'rt is not on the PATH' env -i PATH="$folder/bare" make -C "$copy" CC=true
 try 'a build tells which crate it is at' tells
@@ -92,7 +98,7 @@ try 'no such archive' refuses 'which LAMPHUDET_ARCHIVE names' make desk LAMPHUDE
 try 'a blank in the name of an archive' refuses 'a blank' make desk LAMPHUDET_ARCHIVE='two words.a'
 elsewhere_taken() {
     env -u LAMPHUDET_ARCHIVE -u LAMPHUDET_SEALS_ARCHIVE make -C "$copy" desk DESK="$folder/desk-elsewhere" \
-        LAMPHUDET_ARCHIVE="$real/liblamphudet.a" > /dev/null && [[ -x $folder/desk-elsewhere ]]
+        LAMPHUDET_ARCHIVE="$archive" > /dev/null && [[ -x $folder/desk-elsewhere ]]
 }
 try 'an archive that was built elsewhere is taken' elsewhere_taken
 try 'make help' grep -q 'make uninstall' <(make help)
