@@ -47,6 +47,10 @@ static int give(struct option *option, const char *value)
         misused("%s is given twice", option->name);
         return 0;
     }
+    if (option->kind == WORD && value[0] == '\0') {
+        misused("%s is given an empty name", option->name);
+        return 0;
+    }
     option->given = value;
     if (option->kind == NUMBER && !number_of(value, &option->number)) {
         misused("%s is given '%s', which is no number up to %lu", option->name, value, (unsigned long)UINT32_MAX);

@@ -15,6 +15,7 @@ is_misused 'a house that is no number' "--house is given 'one', which is no numb
 is_misused 'a house past 32 bits' "--house is given '4294967297', which is no number up to 4294967295" \
     text --house=4294967297 "$first$second"
 is_misused 'no house' "--house is given '', which is no number up to 4294967295" text --house= "$first$second"
+is_misused 'an empty name' '--file is given an empty name' text --file=
 is_misused 'no group' 'group is given without its number' group
 is_misused 'no group behind options' 'group is given without its number' group --hex $samples/presentation.hex
 is_misused 'a group that is no number' "group is given 'two', which is no number" group two --hex $samples/presentation.hex

@@ -13,6 +13,7 @@ is_misused 'a house without its number' '--house is given without its value' --h
 is_misused 'two houses' '--house is given twice' --house 1 --house=2 "$samples/seal.hex"
 is_misused 'hex twice' '--hex is given twice' --hex --hex "$samples/seal.hex"
 is_misused 'hex with a value' '--hex takes no value' --hex="$samples/seal.hex"
+is_misused 'an empty name' '--out is given an empty name' --out '' --hex "$samples/seal.hex"
 is_misused 'no file for entries' '--out is given no file, and standard output is for what is shown' \
     --out - --hex "$samples/seal.hex"
 
