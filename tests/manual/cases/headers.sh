@@ -18,6 +18,14 @@ in_synopsis() {
             print type (type ~ /\*$/ ? "" : " ") name "(" arguments ")"
         }' "man/$1.3" | LC_ALL=C sort
 }
+# The fields of what is answered, and those that a page names.
+fields_of() {
+    sed -n '/^typedef struct/,/^}/p' "include/$1.h" | sed '/lamphudet_part {/,/^}/d; s|/\*.*||' \
+        | sed -n 's/^    [a-z0-9_]* \(.*\);.*/\1/p' | sed 's/\[[^]]*\]//g; s/, */\n/g' | sort -u
+}
+has_fields() {
+    diff <(fields_of "$1" | grep -vxFf <(sed -n 's/^\.Fa \([a-z_]*\).*/\1/p' "man/$1.3")) /dev/null
+}
 # The names that a header defines for hosts, and those of a page.
 names_of() {
     grep -hv '^\.Dt ' "$@" | grep -oE '\bLAMPHUDET_[A-Z0-9_]+' | grep -v '_H$\|_ASSERT\|MUST_USE' | sort -u
@@ -29,6 +37,8 @@ has_names() {
 for library in lamphudet lamphudet_seals; do
     try "man/$library.3 has some calls" [ "$(in_synopsis $library | wc -l)" -gt 0 ]
     try "man/$library.3 has the calls of its header" diff <(declared $library) <(in_synopsis $library)
+    try "the header $library.h has some fields" [ "$(fields_of $library | wc -l)" -gt 0 ]
+    try "man/$library.3 has the fields of its header" has_fields $library
     try "man/$library.3 makes no name up" has_names man/$library.3 include/*.h
 done
 try 'the pages have every name of lamphudet.h' has_names include/lamphudet.h man/*.3
