@@ -1,7 +1,7 @@
 -- A text's refusal stands near the text: so near that its place in what holds the text is a number of the machine.
 use Prim.Native.Nat.{ℕ, _+_, _-_, _≤_}
 use mathlib.Core.Path.{_≡_, refl}
-use mathlib.Core.Bool.{Bool, true, false}
+use mathlib.Core.Bool.{Bool, true, false, cond}
 use mathlib.Core.List.{List, [], _∷_}
 use native.Mathlib.Omega.{arith}
 use borrow.Author.Tests.{leb-true, le-leb}
@@ -25,7 +25,8 @@ use Rattle.text.specs.declared.number.Span.{Span}
 use Rattle.text.specs.declared.number.Span.the-variants.{Short, Long, Bad}
 use Rattle.digit.specs.Check.{checkOf, digitOf}
 use Rattle.text.specs.Number.{spanOf, checkedBy, numberRule}
-use Rattle.text.specs.Order.{characters, fieldCheck, digitAt, numberDigit, furtherDigit, digitCheck, inOrder, verdictBy}
+use Rattle.text.specs.Order.{characters, fieldCheck, digitAt, numberDigit, furtherDigit, isLeftOut, personalDigit}
+use Rattle.text.specs.Order.{digitCheck, inOrder, verdictBy}
 use Rattle.text.specs.Read.{readText, readBy, answered, recordBy}
 use Rattle.zone.proofs.First.{first-le}
 use Rattle.text.proofs.Numbers.{span-within}
@@ -95,14 +96,19 @@ module _ (m : ℕ) (big : 180 ≤ m) where
   )
   near-number f t Bad h = (refl, refl)
 
+  near-left : (b : Bool) (o : Outcome) → isNear m o ≡ true → isNear m (cond b passed o) ≡ true
+  unfolding isNear
+  near-left true o h = refl
+  near-left false o h = h
+
   near-digits : (f : Form) (t : List ℕ) (span : Span) → ((n : ℕ) → span ≡ Long n → n ≤ 90) → (x : Part)
       → isNear m (digitCheck f t span x) ≡ true
-  unfolding digitCheck isNear
+  unfolding digitCheck personalDigit isNear
   near-digits f t span h numberCheck = near-number f t span h .0
   near-digits f t span h optional = near-number f t span h .1
   near-digits f t span h birthCheck = near-digit f t birthCheck _
   near-digits f t span h expiryCheck = near-digit f t expiryCheck _
-  near-digits f t span h personalCheck = near-digit f t personalCheck _
+  near-digits f t span h personalCheck = near-left (isLeftOut f t) _ (near-digit f t personalCheck (field f personal t))
   near-digits f t span h composite = near-digit f t composite _
   near-digits f t span h code = refl
   near-digits f t span h state = refl

@@ -1,11 +1,12 @@
 -- The checks of a text, in the paper's order: document 01, "The text", Order, and "Refusal numbers", 1 to 9.
 use Prim.Native.Nat.{ℕ, _+_}
+use mathlib.Core.Bool.{Bool, cond, _&&_}
 use mathlib.Core.List.{List, [], _∷_}
 use lib.ListN.{length, getD}
 use lib.Dec.{eqb}
 use Rattle.refusal.specs.Numbers.{expecting}
 use Rattle.refusal.specs.Outcome.{Outcome, passed, orElse, refusedUnless, unless}
-use Rattle.zone.specs.Alphabet.{firstForeign}
+use Rattle.zone.specs.Alphabet.{isFiller, every, firstForeign}
 use Rattle.zone.specs.Part.{Part, code, state, number, numberCheck, optional, birth, birthCheck, sex, expiry, expiryCheck}
 use Rattle.zone.specs.Part.{nationality, optional2, composite, name, personal, personalCheck}
 use Rattle.zone.specs.Form.{parts, start, field, covered}
@@ -56,12 +57,19 @@ furtherDigit f t Short = passed
 furtherDigit f t (Long further) = digitAt t (start f optional + further) (checkedBy f t (Long further))
 furtherDigit f t Bad = passed
 
+-- a State may print `<` there when the personal number is all fillers (document 02, 2026-02)
+unfoldable pub isLeftOut : Form → List ℕ → Bool
+isLeftOut f t = isFiller (getD t (start f personalCheck) 0) && every isFiller (field f personal t)
+
+unfoldable pub personalDigit : Form → List ℕ → Outcome
+personalDigit f t = cond (isLeftOut f t) passed (digitAt t (start f personalCheck) (field f personal t))
+
 unfoldable pub digitCheck : Form → List ℕ → Span → Part → Outcome
 digitCheck f t span numberCheck = numberDigit f t span
 digitCheck f t span optional = furtherDigit f t span
 digitCheck f t span birthCheck = digitAt t (start f birthCheck) (field f birth t)
 digitCheck f t span expiryCheck = digitAt t (start f expiryCheck) (field f expiry t)
-digitCheck f t span personalCheck = digitAt t (start f personalCheck) (field f personal t)
+digitCheck f t span personalCheck = personalDigit f t
 digitCheck f t span composite = digitAt t (start f composite) (covered f t)
 digitCheck f t span code = passed
 digitCheck f t span state = passed

@@ -1,9 +1,9 @@
 // The check digits, 9: each judged at its place, and all of them in text order.
 ghost use mathlib.Core.Path.{_≡_};
-ghost use mathlib.Core.Bool.{true};
+ghost use mathlib.Core.Bool.{true, _&&_};
 ghost use lib.ListN.{take, drop};
 ghost use Rattle.refusal.specs.Outcome.{outcomeOf, orElse};
-ghost use Rattle.zone.specs.Alphabet.{isDigit};
+ghost use Rattle.zone.specs.Alphabet.{isDigit, isFiller, every};
 ghost use Rattle.zone.specs.Form.{parts};
 ghost use Rattle.zone.specs.Part.{number, numberCheck, optional, birthCheck, expiryCheck, personal, personalCheck, composite};
 ghost use Rattle.digit.specs.Check.{digitOf};
@@ -18,6 +18,8 @@ use digit::Tally;
 use digit::composite::covered_digit;
 use refusal::Cause;
 use refusal::Verdict;
+use zone::alphabet::FILLER;
+use zone::alphabet::all_fillers;
 use zone::form::Form;
 
 // Whether a place holds the digit that was worked out, which the refusal carries as its number.
@@ -62,6 +64,17 @@ fn expiry_digit(form: Form, text: &[u8]) -> Verdict
     field_digit(text, at.expiry_check, at.expiry, Form::DATE)
 }
 
+// A filler may stand for the digit of a personal number that is all fillers.
+fn is_left_out(number: &[u8], check: u8) -> bool
+    ensures { λ r. ⌜ r ≡ isFiller check && every isFiller (now (number .entry)) ⌝ }
+{
+    if check == FILLER {
+        all_fillers(number)
+    } else {
+        false
+    }
+}
+
 // Only some forms have a personal number.
 fn personal_digit(form: Form, text: &[u8]) -> Verdict
     ensures { λ r. ⌜ ((span : Span) → outcomeOf r ≡
@@ -70,7 +83,12 @@ fn personal_digit(form: Form, text: &[u8]) -> Verdict
     let at = form.places();
     let wide = form.personal_width();
     if 0 < wide {
-        field_digit(text, at.personal_check, at.personal, wide)
+        let number = lent::part(text, at.personal, wide);
+        if is_left_out(number, lent::octet(text, at.personal_check)) {
+            Verdict::Passed
+        } else {
+            field_digit(text, at.personal_check, at.personal, wide)
+        }
     } else {
         Verdict::Passed
     }

@@ -31,7 +31,7 @@ use Rattle.text_theorems.proofs.FirstFailing.{answered-outcome}
 use Rattle.zone.proofs.FormByLength.{told-by, by-told}
 use Rattle.text_theorems.proofs.FormByLength.{common}
 use Rattle.refusal.proofs.Outcomes.{refused-not-passed, both-passed, unless-kept, kept-unless}
-use Rattle.text_theorems.proofs.PartByPart.{digit-kept, kept-digit, walk-each, each-walk}
+use Rattle.text_theorems.proofs.PartByPart.{digit-kept, kept-digit, personal-kept, kept-personal, walk-each, each-walk}
 use Rattle.text_theorems.proofs.NumberSpan.{short-span, long-span, span-ends, long-has}
 
 -- a test that was not passed
@@ -117,7 +117,7 @@ module _ (f : Form) (t : List ℕ) (told : length t ≡ total f) (accepted : ver
     long-digit = long-kept;
     birth-digit = digit-kept t (start f birthCheck) (field f birth t) (digit-passed birthCheck (common f .has-birth-check));
     expiry-digit = digit-kept t (start f expiryCheck) (field f expiry t) (digit-passed expiryCheck (common f .has-expiry-check));
-    personal-digit = λ h. digit-kept t (start f personalCheck) (field f personal t) (digit-passed personalCheck h);
+    personal-digit = λ h. personal-kept f t (digit-passed personalCheck h);
     composite-digit = digit-kept t (start f composite) (covered f t) (digit-passed composite (common f .has-composite));
   }
 
@@ -180,7 +180,7 @@ module _ (f : Form) (t : List ℕ) (k : Keeps f t) where
   digits-pass composite h = kept-digit t (start f composite) (covered f t) (k .composite-digit)
   digits-pass name h = refl
   digits-pass personal h = refl
-  digits-pass personalCheck h = kept-digit t (start f personalCheck) (field f personal t) (k .personal-digit h)
+  digits-pass personalCheck h = kept-personal f t (k .personal-digit h)
 
   pub passes : verdictBy f t (spanOf f t) ≡ passed
   unfolding verdictBy has

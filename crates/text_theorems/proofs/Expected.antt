@@ -13,7 +13,7 @@ use lib.Dec.{eqb, lit<}
 use lib.ListN.{length, getD}
 use Rattle.refusal.specs.Numbers.{Why, by, expecting, numberOf}
 use Rattle.refusal.specs.Outcome.{Outcome, passed, refused, refusedUnless}
-use Rattle.refusal.proofs.Each.{Each, each-passed, each-refused, each-else, each-rule, each-unless}
+use Rattle.refusal.proofs.Each.{Each, each-passed, each-refused, each-else, each-either, each-unless}
 use Rattle.zone.specs.declared.form.Form.{Form}
 use Rattle.zone.specs.declared.form.Form.the-variants.{Td1, Td2, Td3}
 use Rattle.zone.specs.declared.form.Recognised.{Recognised}
@@ -30,7 +30,8 @@ use Rattle.field.specs.Date.{birthRule, expiryRule}
 use Rattle.text.specs.declared.number.Span.{Span}
 use Rattle.text.specs.declared.number.Span.the-variants.{Short, Long, Bad}
 use Rattle.text.specs.Number.{spanOf, checkedBy, numberRule}
-use Rattle.text.specs.Order.{characters, fieldCheck, digitAt, numberDigit, furtherDigit, digitCheck, inOrder, verdictBy}
+use Rattle.text.specs.Order.{characters, fieldCheck, digitAt, numberDigit, furtherDigit, isLeftOut, personalDigit}
+use Rattle.text.specs.Order.{digitCheck, inOrder, verdictBy}
 use Rattle.text.specs.Read.{readText, readBy, recordBy}
 use Rattle.text.proofs.Numbers.{span-within}
 use Rattle.text_theorems.specs.Ordered.{checksOf, FirstFailing}
@@ -56,7 +57,7 @@ expiry-covered Td1 t = refl
 expiry-covered Td2 t = refl
 expiry-covered Td3 t = refl
 
-personal-covered : (f : Form) (t : List ℕ) → coveredAt f t (start f personalCheck) ≡ field f personal t
+pub personal-covered : (f : Form) (t : List ℕ) → coveredAt f t (start f personalCheck) ≡ field f personal t
 unfolding coveredAt start startIn layout same rank
 personal-covered Td1 t = refl
 personal-covered Td2 t = refl
@@ -117,12 +118,13 @@ each-number f t (Long n) e = (
 each-number f t Bad e = (each-passed (Tells f t), each-passed (Tells f t))
 
 each-check : (f : Form) (t : List ℕ) (x : Part) → Each (Tells f t) (digitCheck f t (spanOf f t) x)
-unfolding digitCheck
+unfolding digitCheck personalDigit
 each-check f t numberCheck = each-number f t (spanOf f t) refl .0
 each-check f t optional = each-number f t (spanOf f t) refl .1
 each-check f t birthCheck = each-digit f t (start f birthCheck) (field f birth t) (sym (birth-covered f t))
 each-check f t expiryCheck = each-digit f t (start f expiryCheck) (field f expiry t) (sym (expiry-covered f t))
-each-check f t personalCheck = each-digit f t (start f personalCheck) (field f personal t) (sym (personal-covered f t))
+each-check f t personalCheck = each-either (Tells f t) (isLeftOut f t) passed _ (each-passed (Tells f t))
+    (each-digit f t (start f personalCheck) (field f personal t) (sym (personal-covered f t)))
 each-check f t composite = each-digit f t (start f composite) (covered f t) (sym (composite-covered f t))
 each-check f t codePart = each-passed (Tells f t)
 each-check f t state = each-passed (Tells f t)

@@ -1,7 +1,7 @@
 -- A walk over parts passes exactly where every part's check does.
 use Prim.Native.Nat.{ℕ}
 use mathlib.Core.Path.{_≡_, refl, ap, _∙_}
-use mathlib.Core.Bool.{Bool, true, false, _||_}
+use mathlib.Core.Bool.{Bool, true, false, cond, _||_}
 use mathlib.Core.List.{List, [], _∷_}
 use native.Mathlib.Omega.{arith}
 use borrow.Author.Tests.{eqb-true, eq-eqb}
@@ -10,8 +10,10 @@ use lib.ListN.{getD}
 use Rattle.refusal.specs.Numbers.{expecting}
 use Rattle.refusal.specs.Outcome.{Outcome, passed}
 use Rattle.refusal.proofs.Outcomes.{both-passed, rule-kept, kept-rule}
-use Rattle.zone.specs.Part.{Part, same}
-use Rattle.text.specs.Order.{inOrder, digitAt}
+use Rattle.zone.specs.declared.form.Form.{Form}
+use Rattle.zone.specs.Part.{Part, personal, personalCheck, same}
+use Rattle.zone.specs.Form.{start, field}
+use Rattle.text.specs.Order.{inOrder, digitAt, isLeftOut, personalDigit}
 use Rattle.digit.specs.Check.{checkOf, digitOf}
 use Rattle.text_theorems.specs.Accepted.{among}
 use Rattle.zone.proofs.Parts.{same-one, same-self}
@@ -25,6 +27,20 @@ pub kept-digit : (t : List ℕ) (place : ℕ) (covers : List ℕ) → getD t pla
 unfolding digitAt
 kept-digit t place covers e = kept-rule (eqb (getD t place 0) (digitOf covers)) (expecting (checkOf covers)) place
     (eq-eqb (getD t place 0) (digitOf covers) e)
+
+pub personal-kept : (f : Form) (t : List ℕ) → personalDigit f t ≡ passed → isLeftOut f t ≡ false
+    → getD t (start f personalCheck) 0 ≡ digitOf (field f personal t)
+unfolding personalDigit
+personal-kept f t e in-text = digit-kept t (start f personalCheck) (field f personal t) (rw in-text at e)
+
+pub kept-personal : (f : Form) (t : List ℕ)
+    → (isLeftOut f t ≡ false → getD t (start f personalCheck) 0 ≡ digitOf (field f personal t)) → personalDigit f t ≡ passed
+unfolding personalDigit
+kept-personal f t h = go (isLeftOut f t) refl
+  where
+    go : (b : Bool) → isLeftOut f t ≡ b → cond b passed (digitAt t (start f personalCheck) (field f personal t)) ≡ passed
+    go true e = refl
+    go false e = kept-digit t (start f personalCheck) (field f personal t) (h e)
 
 pub walk-each : (check : Part → Outcome) (xs : List Part) → inOrder check xs ≡ passed → (x : Part) → among x xs ≡ true
     → check x ≡ passed

@@ -213,7 +213,7 @@ module _ (r : Record) (s : Sound r) where
     long-digit = λ e. digit-shown (sym long-shown ∙ e) ∙ ap digitOf (sym (number-shown (sym long-shown ∙ e)));
     birth-digit = birth-right;
     expiry-digit = expiry-right;
-    personal-digit = personal-right;
+    personal-digit = λ h in-text. personal-right h;
     composite-digit = last-shown r s;
   }
 

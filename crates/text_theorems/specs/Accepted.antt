@@ -15,6 +15,7 @@ use Rattle.field.specs.Code.{codeRule}
 use Rattle.field.specs.Letters.{stateRule, sexRule, nameRule}
 use Rattle.field.specs.Date.{birthRule, expiryRule}
 use Rattle.text.specs.Number.{isLong}
+use Rattle.text.specs.Order.{isLeftOut}
 
 -- whether a form has a part
 unfoldable pub among : Part → List Part → Bool
@@ -46,5 +47,6 @@ pub record Keeps (f : Form) (t : List ℕ) : Type 0 where
       ≡ digitOf (field f number t ++ take (fillerAt f t - 1) (field f optional t))
   pub birth-digit : getD t (start f birthCheck) 0 ≡ digitOf (field f birth t)
   pub expiry-digit : getD t (start f expiryCheck) 0 ≡ digitOf (field f expiry t)
-  pub personal-digit : has f personalCheck ≡ true → getD t (start f personalCheck) 0 ≡ digitOf (field f personal t)
+  pub personal-digit : has f personalCheck ≡ true → isLeftOut f t ≡ false
+      → getD t (start f personalCheck) 0 ≡ digitOf (field f personal t)
   pub composite-digit : getD t (start f composite) 0 ≡ digitOf (covered f t)

@@ -1,6 +1,6 @@
 // What a character of the zone is.
 ghost use mathlib.Core.Path.{_≡_};
-ghost use Rattle.zone.specs.Alphabet.{isDigit, isLetter, isCharacter, every, firstForeign, firstFiller};
+ghost use Rattle.zone.specs.Alphabet.{isDigit, isLetter, isFiller, isCharacter, every, firstForeign, firstFiller};
 
 pub const FILLER: u8 = b'<';
 
@@ -30,6 +30,19 @@ pub fn all_characters(s: &[u8]) -> bool
     let mut i = 0;
     while i < s.len() {
         fine = fine & is_character(s[i]);
+        i += 1;
+    }
+    fine
+}
+
+// Nothing but fillers.
+pub fn all_fillers(s: &[u8]) -> bool
+    ensures { λ r. ⌜ r ≡ every isFiller (now (s .entry)) ⌝ }
+{
+    let mut fine = true;
+    let mut i = 0;
+    while i < s.len() {
+        fine = fine & (s[i] == FILLER);
         i += 1;
     }
     fine
