@@ -176,7 +176,7 @@ carries w v h (by n) p e = ne-eqb n 9 (λ q. not-nine q (nine-tells (cut w v) (b
     not-nine : n ≡ 9 → (d : ℕ) × (by n ≡ expecting d) → ⊥
     not-nine q (d, r) = let z : _≡_ {A = ℕ} 0 1 = cc in omega arith
 
-cut-same : (w : List ℕ) (k : ℕ) (v : Stretch) → v .to ≤ k → v .from ≤ v .to → cut (take k w) v ≡ cut w v
+pub cut-same : (w : List ℕ) (k : ℕ) (v : Stretch) → v .to ≤ k → v .from ≤ v .to → cut (take k w) v ≡ cut w v
 unfolding cut
 cut-same w k v a b = cut-before w k (v .from) (v .to) a b
 

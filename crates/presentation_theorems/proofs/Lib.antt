@@ -30,3 +30,5 @@ pub mod Few
 pub mod ContentsByOctets
 -- DEMAND 2: the digit that a refusal 9 carries is the text's (`expected-carried`, `presentation-nine`)
 pub mod Expected
+-- REQUEST 2026-02: what it lets in and what stays (`newly-presented`, `still-presented`)
+pub mod LeftOut
