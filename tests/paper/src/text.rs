@@ -1,7 +1,8 @@
-//! Reading and writing a text, from document 01, "The text".
+//! Reading and writing a text, from document 01, "The text", and document 02, request 2026-02.
 
 use crate::field::{self, trimmed, Check, FILLER};
 use crate::form::{Form, Layout};
+use crate::personal::is_left_out;
 use crate::record::Record;
 use crate::refusal::Refusal;
 use std::ops::Range;
@@ -56,7 +57,7 @@ fn field_refusal(form: Form, text: &[u8], further: &Option<Range<usize>>) -> Opt
 /// Each check digit's place is where it stands, so here too the lowest place is the first.
 fn digit_refusal(at: &Layout, text: &[u8], further: &Range<usize>) -> Option<Refusal> {
     let digits = digits(at, text, further).into_iter().flatten().chain([(at.composite, composite(at, text))]);
-    let failing = digits.filter(|(place, digit)| text[*place] != *digit);
+    let failing = digits.filter(|(place, digit)| text[*place] != *digit && !is_left_out(at, text, *place));
     failing.map(|(place, digit)| Refusal::digit(digit - b'0', place)).min_by_key(|refusal| refusal.place)
 }
 
@@ -180,8 +181,8 @@ mod tests {
         assert_eq!(refused(&with(specimens::T3, 57, "900230")), (6, 57));
         assert_eq!(refused(&with(specimens::T3, 64, "X")), (7, 64));
         assert_eq!(refused(&with(specimens::T3, 65, "<<")), (6, 65));
-        // All five digits, and a filler where a digit must stand.
-        for place in [53, 63, 71, 86, 87] {
+        // A filler where a digit must stand.
+        for place in [53, 63, 71, 87] {
             assert_eq!(refused(&with(specimens::T3, place, "<")), (9, place));
         }
     }

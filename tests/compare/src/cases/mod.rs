@@ -11,6 +11,7 @@ pub mod next_entry;
 pub mod octets;
 pub mod open_entry;
 pub mod outside;
+pub mod personal;
 pub mod presentations;
 pub mod read_presentation;
 pub mod read_seal;

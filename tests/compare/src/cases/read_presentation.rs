@@ -3,7 +3,7 @@
 use crate::border;
 use crate::cases::houses::{house, HOUSES};
 use crate::cases::trials::{self, Call, Trials};
-use crate::cases::{chance, damage, digits, octets, outside, presentations};
+use crate::cases::{chance, damage, digits, octets, outside, personal, presentations};
 use crate::guard::{Lent, Side};
 use crate::report::{hex_shown, Tally};
 use paper::answer::{Answer, Outcome};
@@ -34,6 +34,7 @@ pub fn compare(seed: u64) -> Tally {
     trials.lists();
     trials.numbers();
     trials.wrong_digits();
+    trials.personal_checks();
     trials.fenced();
     trials.drawn();
     trials.random();
@@ -296,11 +297,25 @@ impl Trials<ReadPresentation> {
     fn wrong_digits(&mut self) {
         for turn in 0..2_000 {
             let record = records::sound(&mut self.seeds);
-            let mut files = files(&mut self.seeds, 1 + turn % 4);
-            let first = files.iter().position(|(group, _)| *group == 1).expect("group 1");
-            files[first].1 = write_text_element(&digits::spoilt(&mut self.seeds, &record));
-            self.case(&write(&files));
+            let text = digits::spoilt(&mut self.seeds, &record);
+            self.with_text(&text, 1 + turn % 4);
         }
+    }
+
+    /// A filler or 0 for the check of a passport's personal number, a thousand of each kind.
+    fn personal_checks(&mut self) {
+        for (kind, turn) in personal::kinds().flat_map(|kind| (0..1_000).map(move |turn| (kind, turn))) {
+            let text = personal::passport(&mut self.seeds, kind);
+            self.with_text(&text, 1 + turn % 4);
+        }
+    }
+
+    /// A text in group 1, among so many groups.
+    fn with_text(&mut self, text: &[u8], groups: usize) {
+        let mut files = files(&mut self.seeds, groups);
+        let first = files.iter().position(|(group, _)| *group == 1).expect("group 1");
+        files[first].1 = write_text_element(text);
+        self.case(&write(&files));
     }
 
     /// Nothing is read past either end, wherever a presentation is cut, nor the pointer of an empty range.

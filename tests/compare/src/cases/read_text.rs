@@ -1,9 +1,9 @@
 //! The cases of reading a text to an entry.
 
 use crate::border;
-use crate::cases::digits;
 use crate::cases::houses::{house, HOUSES};
 use crate::cases::trials::{Call, Trials};
+use crate::cases::{digits, personal};
 use crate::guard::{Lent, Side};
 use crate::report::{hex, Tally};
 use paper::answer::{Answer, Outcome};
@@ -35,6 +35,7 @@ pub fn compare(seed: u64) -> Tally {
     trials.optional();
     trials.long_numbers();
     trials.wrong_digits();
+    trials.personal_checks();
     trials.random();
     trials.tally
 }
@@ -292,6 +293,14 @@ impl Trials<ReadText> {
         for _ in 0..5_000 {
             let record = records::sound(&mut self.seeds);
             let text = digits::spoilt(&mut self.seeds, &record);
+            self.case(&text);
+        }
+    }
+
+    /// A filler or 0 for the check of a passport's personal number, a thousand of each kind.
+    fn personal_checks(&mut self) {
+        for kind in personal::kinds().flat_map(|kind| [kind; 1_000]) {
+            let text = personal::passport(&mut self.seeds, kind);
             self.case(&text);
         }
     }
