@@ -45,7 +45,11 @@ while read -r place digit text; do
     digits=$((digits + 1))
 done < <(sed -nE '/^# 9 at/,/^$/ { s/^# 9 at ([0-9]+), expected ([0-9]):.*/\1 \2/; p }' $samples/refused.text |
     awk -v RS= '{ print $1, $2, $3 $4 $5 }')
-try 'eight texts have a wrong digit' [ "$digits" -eq 8 ]
+try 'nine texts have a wrong digit' [ "$digits" -eq 9 ]
+
+# T3 with a filler for the check of its personal number, which is all fillers: in all that is shown, the sample.
+holds 'a presentation that leaves the personal check out' 0 "$folder/presentation" \
+    presentation "$(with_group_1 "$(in_group_1 "$first${second%00}<0")")${sample:432}"
 
 # The samples are what OpenSSL's encoder made, where the vectors of tests/compare have the same.
 for pair in presentation:two-entries presentation-{algorithm:sha-1,digest:digest-of-the-inside,text:wrong-digit}; do
