@@ -361,7 +361,8 @@ static inline const char *lamphudet_field(const uint8_t *text, size_t text_len, 
  *   7   at the sex
  *   8   at the start of the name
  *   then:
- *   9   at the first check digit in the text that is wrong, with the digit that was expected there
+ *   9   at the first check digit in the text that is wrong, with the digit that was expected there;
+ *       TD3's personal check may be 0 or < where the personal number is all fillers
  *   17  at 0: the house is not 1 to 32,767
  *   16  at 0: entry has fewer octets than this entry needs
  */
@@ -431,8 +432,9 @@ lamphudet_stretch lamphudet_group_file(const uint8_t *presentation, size_t prese
 /*
  * Writes the text of an entry's record to the first octets of text, lines joined, and answers 0 and
  * how many these are: 90 for TD1, 72 for TD2, 88 for TD3. The house stands in no text. Optional
- * places that a long number does not need are fillers, and TD3's personal check is 0: a text that
- * was read comes back as it was, but for optional data and the digits over them.
+ * places that a long number does not need are fillers, and TD3's personal check is 0, also where <
+ * stood for it: a text that was read comes back as it was, but for optional data and the checks over
+ * them.
  *
  * Refuses, in this order:
  *   18  at 0: entry is not exactly one entry; none at all, a part of one, or one with anything
