@@ -1,8 +1,8 @@
 /*
  * A host of the installed library: T3 of document 01 is read to an entry of 43 octets that begins as the paper says, is
- * found again as the only entry of a run, is opened to the fields that the text has, and is written back; what is refused
- * opens to the blank record; a wrong check digit is told with the one that was expected; and every refusal has words of its
- * own. Exit status 0 where all of that is so.
+ * found again as the only entry of a run, is opened to the fields that the text has, and is written back; with a filler for
+ * the check of its personal number it has the same entry; what is refused opens to the blank record; a wrong check digit is
+ * told with the one that was expected; and every refusal has words of its own. Exit status 0 where all of that is so.
  */
 #include "holds.h"
 
@@ -75,27 +75,46 @@ static int refused(void)
         && entry[0] == 0;
 }
 
-/* T3 with a 7, a letter and a filler in the place of each of its check digits. */
+/* T3 with another character at one place. */
+static lamphudet_answer read_with(size_t place, char character, uint8_t *entry)
+{
+    uint8_t given[sizeof t3 - 1];
+
+    memcpy(given, t3, sizeof given);
+    given[place] = (uint8_t)character;
+    return lamphudet_read_text(1, given, sizeof given, entry, LAMPHUDET_ENTRY_MAX);
+}
+
+/* Over T3's personal number, which is all fillers, another may stand for the check digit: the entry is the same. */
+static int left_out(void)
+{
+    uint8_t with_digit[LAMPHUDET_ENTRY_MAX];
+    uint8_t with_filler[LAMPHUDET_ENTRY_MAX];
+
+    return is(read_with(86, '0', with_digit), 0, 43) && is(read_with(86, '<', with_filler), 0, 43)
+        && memcmp(with_digit, with_filler, 43) == 0;
+}
+
+/* A 7 and a letter in the place of each check digit, and a filler in the place of each but that one. */
 static int expected(void)
 {
     static const struct {
         size_t place;
         uint32_t digit;
-    } digits[] = { { 53, 1 }, { 63, 8 }, { 71, 2 }, { 86, 0 }, { 87, 0 } };
-    static const char wrong[] = "7K<";
-    uint8_t given[sizeof t3 - 1];
+        const char *wrong;
+    } digits[] = { { 53, 1, "7K<" }, { 63, 8, "7K<" }, { 71, 2, "7K<" }, { 86, 0, "7K" }, { 87, 0, "7K<" } };
     uint8_t entry[LAMPHUDET_ENTRY_MAX];
+    const char *wrong;
     size_t at;
 
-    for (at = 0; at < 3 * sizeof digits / sizeof digits[0]; at++) {
-        lamphudet_answer answer;
+    for (at = 0; at < sizeof digits / sizeof digits[0]; at++) {
+        for (wrong = digits[at].wrong; *wrong != '\0'; wrong++) {
+            lamphudet_answer answer = read_with(digits[at].place, *wrong, entry);
 
-        memcpy(given, t3, sizeof given);
-        given[digits[at / 3].place] = (uint8_t)wrong[at % 3];
-        answer = lamphudet_read_text(1, given, sizeof given, entry, sizeof entry);
-        if (answer.number != LAMPHUDET_REFUSED_DIGIT || answer.expected != digits[at / 3].digit
-            || answer.value != digits[at / 3].place) {
-            return 0;
+            if (answer.number != LAMPHUDET_REFUSED_DIGIT || answer.expected != digits[at].digit
+                || answer.value != digits[at].place) {
+                return 0;
+            }
         }
     }
     return 1;
@@ -123,7 +142,7 @@ static int in_words(void)
 
 int main(void)
 {
-    int kept = accepted();
+    int kept = accepted() && left_out();
     int kept_out = refused() && expected();
     int told = in_words();
 
