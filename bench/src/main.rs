@@ -1,6 +1,7 @@
 //! Measures the library beside other implementations and writes a page of figures. Nothing here passes or fails.
 //!
 //!     bench FILE                          writes the page into the file, and prints it
+//!     bench stack                         prints the table of stack alone
 //!     bench worker CONTENDER              measures what is asked on standard input (the page starts one a contender)
 //!     bench once CONTENDER JOB SIZE TIMES the work alone, for counting instructions
 
@@ -12,6 +13,7 @@ mod figures;
 mod job;
 mod libcrypto;
 mod page;
+mod painted;
 mod pair;
 mod presentations;
 mod ratio;
@@ -19,6 +21,7 @@ mod records;
 mod rounds;
 mod seals;
 mod share;
+mod stack;
 mod table;
 mod work;
 mod worker;
@@ -31,6 +34,7 @@ fn main() -> ExitCode {
     let words: Vec<String> = std::env::args().skip(1).collect();
     let words: Vec<&str> = words.iter().map(String::as_str).collect();
     match words[..] {
+        ["stack"] => println!("{}", stack::table()),
         [file] => return write(file),
         ["worker", name] => worker::serve(Contender::named(name)),
         ["once", name, kind, size, times] => once(Contender::named(name), Job::named(kind, size), times),

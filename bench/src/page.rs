@@ -5,6 +5,7 @@ use crate::figures::{Kind, Unit};
 use crate::job::Job;
 use crate::ratio;
 use crate::share;
+use crate::stack;
 use crate::table::Table;
 
 const WORDS: &str = include_str!("page.md");
@@ -24,7 +25,8 @@ pub fn page() -> String {
         page = with(page, &format!("{name} instructions"), || kind.instructions());
     }
     page = with(page, "presentation share", share::table);
-    with(page, "seal ratio", ratio::table)
+    page = with(page, "seal ratio", ratio::table);
+    with(page, "stack", stack::table)
 }
 
 fn with(page: String, name: &str, table: impl Fn() -> Table) -> String {
@@ -46,7 +48,8 @@ mod tests {
         }
         page = with(page, "presentation share", table);
         page = with(page, "seal ratio", table);
+        page = with(page, "stack", table);
         assert!(!page.contains('{'));
-        assert_eq!(page.matches("| call |").count(), 10);
+        assert_eq!(page.matches("| call |").count(), 11);
     }
 }

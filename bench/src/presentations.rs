@@ -31,6 +31,11 @@ pub fn of(contender: Contender, job: Job) -> Option<Work> {
     }
 }
 
+/// A presentation of so many octets.
+pub fn lent(size: usize) -> Vec<u8> {
+    write(&files(size))
+}
+
 /// Groups as a chip has them: the text, a face that takes what is left, details and security options.
 fn files(size: usize) -> Vec<(u8, Vec<u8>)> {
     let mut seeds = Seeds::new(9303);
