@@ -43,10 +43,14 @@ rounds-part k w t n s hk hw =
     ∙ ap₂ (λ (a b : List ℕ). rounds a b s) (parted k t n) (parted w t n)
 
 -- eight rounds on words that are there are eight of the block's
-pub rounds-turn : (k block w : List ℕ) (n t : ℕ) (s : Working) → k ≡ K → There block w n → t + 8 ≤ n → n ≤ 64
-    → rounds (drop (t + 8) K) (drop (t + 8) (schedule block)) (rounds (take 8 (drop t k)) (take 8 (drop t w)) s)
+pub rounds-turn : (block w : List ℕ) (n t : ℕ) (s : Working) → There block w n → t + 8 ≤ n → n ≤ 64
+    → rounds (drop (t + 8) K) (drop (t + 8) (schedule block)) (rounds (take 8 (drop t K)) (take 8 (drop t w)) s)
     ≡ rounds (drop t K) (drop t (schedule block)) s
-rounds-turn k block w n t s e p h i =
+rounds-turn block w n t s p h i =
     let hk : t + 8 ≤ length K = rw length-K (omega arith) in
     let hw : t + 8 ≤ length (schedule block) = rw (length-schedule block) (omega arith) in
-    rw (e, there-part block w n t 8 p h i) (rounds-part K (schedule block) t 8 s hk hw)
+    rw (there-part block w n t 8 p h i) (rounds-part K (schedule block) t 8 s hk hw)
+
+-- eight constants
+pub length-eight : (t : ℕ) → t + 8 ≤ 64 → length (take 8 (drop t K)) ≡ 8
+length-eight t h = length-part K t 8 (rw length-K h)

@@ -106,17 +106,18 @@ fn rounds(block: &[u8], start: Working) -> Working
     requires { ⌜ length (now block) ≡ 64 ⌝ }
     ensures { λ r. ⌜ r ≡ S.rounds C.K (S.schedule (now (block .entry))) start ⌝ }
 {
-    let k = constants::round_constants();
     let mut w = schedule::first_words(block);
     let mut s = start;
     let mut t = 0;
     while t < 48 {
-        let next = eight_growing(&k[t..t + 8], &mut w, t, s);
+        let k = constants::eight_constants(t);
+        let next = eight_growing(&k, &mut w, t, s);
         s = next;
         t += 8;
     }
     while t < 64 {
-        let next = eight(&k[t..t + 8], &w[t..t + 8], s);
+        let k = constants::eight_constants(t);
+        let next = eight(&k, &w[t..t + 8], s);
         s = next;
         t += 8;
     }
