@@ -6,8 +6,10 @@ pub mod BitLaws
 pub mod RotationLaws
 -- numbers and words as octets
 pub mod OctetLaws
--- the schedule as it grows in an array
+-- the words of a block's schedule
 pub mod ScheduleLaws
+-- the ring of sixteen that holds them
+pub mod RingLaws
 -- rounds along lists of constants and words
 pub mod RoundLaws
 -- the padded end of a message

@@ -1,7 +1,7 @@
 -- Laws on the rounds along a list of constants and a list of words: one round more, and some of them at a time.
 use mathlib.Core.Path.{_≡_, refl, ap₂, sym, _∙_}
 use mathlib.Core.List.{List, [], _∷_, _++_}
-use Prim.Native.Nat.{ℕ, _+_, _≤_, _<_}
+use Prim.Native.Nat.{ℕ, _+_, _%_, _≤_, _<_}
 use native.Mathlib.Numerals.{add-one}
 use native.Mathlib.Omega.{arith}
 use lib.ListN.{length, take, drop, getD, drop-of-length-le}
@@ -9,7 +9,8 @@ use lib.Seq.{drop-cons}
 use Rattle.sha256.specs.Constants.{K}
 use Rattle.sha256.specs.Hash.{round, rounds, schedule}
 use Rattle.sha256.specs.declared.rounds.Working.{Working}
-use Rattle.sha256.proofs.ScheduleLaws.{There, there-part, length-schedule}
+use Rattle.sha256.proofs.ScheduleLaws.{length-schedule}
+use Rattle.sha256.proofs.RingLaws.{Holds, holds-part}
 use Rattle.sha256.proofs.ListLaws.{parted, length-part}
 
 pub length-K : length K ≡ 64
@@ -42,14 +43,15 @@ rounds-part k w t n s hk hw =
     (length-part k t n hk ∙ sym (length-part w t n hw)))
     ∙ ap₂ (λ (a b : List ℕ). rounds a b s) (parted k t n) (parted w t n)
 
--- eight rounds on words that are there are eight of the block's
-pub rounds-turn : (block w : List ℕ) (n t : ℕ) (s : Working) → There block w n → t + 8 ≤ n → n ≤ 64
-    → rounds (drop (t + 8) K) (drop (t + 8) (schedule block)) (rounds (take 8 (drop t K)) (take 8 (drop t w)) s)
+-- eight rounds on words that the ring holds, from place i on, are eight of the block's
+pub rounds-turn : (block w : List ℕ) (n t i : ℕ) (s : Working) → Holds block w n → n ≤ t → t + 8 ≤ n + 16
+    → t % 16 ≡ i → i ≤ 8 → t + 8 ≤ 64
+    → rounds (drop (t + 8) K) (drop (t + 8) (schedule block)) (rounds (take 8 (drop t K)) (take 8 (drop i w)) s)
     ≡ rounds (drop t K) (drop t (schedule block)) s
-rounds-turn block w n t s p h i =
-    let hk : t + 8 ≤ length K = rw length-K (omega arith) in
-    let hw : t + 8 ≤ length (schedule block) = rw (length-schedule block) (omega arith) in
-    rw (there-part block w n t 8 p h i) (rounds-part K (schedule block) t 8 s hk hw)
+rounds-turn block w n t i s p a b e h k =
+    let hk : t + 8 ≤ length K = rw length-K k in
+    let hw : t + 8 ≤ length (schedule block) = rw (length-schedule block) k in
+    rw (holds-part block w n t i 8 p a b e (omega arith) k) (rounds-part K (schedule block) t 8 s hk hw)
 
 -- eight constants
 pub length-eight : (t : ℕ) → t + 8 ≤ 64 → length (take 8 (drop t K)) ≡ 8

@@ -4,5 +4,5 @@ pub mod Constants
 pub mod Padding
 pub mod Parsing
 pub mod Hash
-pub mod Grown
 pub mod Answer
+pub mod Inner

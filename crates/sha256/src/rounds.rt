@@ -1,10 +1,10 @@
 // The rounds of a block and the hash value after it: FIPS 180-4, 6.2.2, steps 2 to 4.
 ghost use mathlib.Core.Path.{_≡_};
-ghost use Prim.Native.Nat.{_+_, _≤_};
-ghost use lib.ListN.{length};
+ghost use Prim.Native.Nat.{_≤_};
+ghost use lib.ListN.{length, take, drop};
 ghost use Rattle.sha256.specs.Constants as C;
 ghost use Rattle.sha256.specs.Hash as S;
-ghost use Rattle.sha256.specs.Grown.{Grown};
+ghost use Rattle.sha256.specs.Inner.Ring as R;
 use super::constants;
 use super::schedule;
 use super::words;
@@ -84,24 +84,29 @@ fn eight(k: &[u32], w: &[u32], start: Working) -> Working
     s
 }
 
-// Eight of them from t on, and beside each the word that stands sixteen after its own, so that neither waits for the other.
-fn eight_growing(k: &[u32], w: &mut [u32], t: usize, start: Working) -> Working
-    requires { ⌜ (length (now k) ≡ 8) × (t + 24 ≤ 64) × (length (now w) ≡ 64) ⌝ }
-    ensures { λ r. ⌜ Grown (now (k .entry)) (now (w .entry)) (now (w .exit)) t start r ⌝ }
+// Eight of them on the ring from a place on, and beside each the word sixteen after its own, which takes its place: so neither
+// waits for the other.
+fn eight_rolling(k: &[u32], w: &mut [u32], at: usize, start: Working) -> Working
+    requires { ⌜ (length (now k) ≡ 8) × (at ≤ 8) × (length (now w) ≡ 16) ⌝ }
+    ensures { λ r. ⌜
+        (r ≡ S.rounds (now (k .entry)) (take 8 (drop at (now (w .entry)))) start)
+        × (now (w .exit) ≡ R.rolled 8 at (now (w .entry)))
+        ⌝ }
 {
     let mut s = start;
     let mut i = 0;
     while i < 8 {
-        let next = round(k[i], w[t + i], s);
-        let x = schedule::next_word(w, t + 16 + i);
-        w[t + 16 + i] = x;
+        let next = round(k[i], w[at + i], s);
+        let x = schedule::follower(w, at + i);
+        w[at + i] = x;
         s = next;
         i += 1;
     }
     s
 }
 
-// Step 3, from the working variables of step 2: the schedule grows for as long as a word is missing.
+// Step 3, from the working variables of step 2: the ring goes round for as long as a word is missing. Its halves have rounds of
+// their own, so that each place is a constant.
 fn rounds(block: &[u8], start: Working) -> Working
     requires { ⌜ length (now block) ≡ 64 ⌝ }
     ensures { λ r. ⌜ r ≡ S.rounds C.K (S.schedule (now (block .entry))) start ⌝ }
@@ -111,13 +116,15 @@ fn rounds(block: &[u8], start: Working) -> Working
     let mut t = 0;
     while t < 48 {
         let k = constants::eight_constants(t);
-        let next = eight_growing(&k, &mut w, t, s);
+        let half = eight_rolling(&k, &mut w, 0, s);
+        let k = constants::eight_constants(t + 8);
+        let next = eight_rolling(&k, &mut w, 8, half);
         s = next;
-        t += 8;
+        t += 16;
     }
     while t < 64 {
         let k = constants::eight_constants(t);
-        let next = eight(&k, &w[t..t + 8], s);
+        let next = eight(&k, &w[t - 48..t - 40], s);
         s = next;
         t += 8;
     }

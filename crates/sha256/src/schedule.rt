@@ -1,27 +1,28 @@
-// The words of a block's schedule: FIPS 180-4, 6.2.2, step 1. The rounds ask for them one after the other.
+// The words of a block's schedule, in a ring of sixteen: FIPS 180-4, 6.2.2, step 1. The rounds ask for them one after the other.
 ghost use mathlib.Core.Path.{_≡_};
-ghost use Prim.Native.Nat.{_≤_, _<_};
-ghost use lib.ListN.{length, take};
+ghost use Prim.Native.Nat.{_<_};
+ghost use lib.ListN.{length};
 ghost use Rattle.sha256.specs.Parsing as Q;
 ghost use Rattle.sha256.specs.Hash as S;
+ghost use Rattle.sha256.specs.Inner.Ring as R;
 use super::octets;
 use super::words;
 
-// The word W_t of the words before it.
-pub(crate) fn next_word(w: &[u32], t: usize) -> u32
-    requires { ⌜ (16 ≤ t) × (t < 64) × (length (now w) ≡ 64) ⌝ }
-    ensures { λ r. ⌜ r ≡ S.nextWord t (now (w .entry)) ⌝ }
+// The word sixteen after the one at place i: of the words 2, 7, 15 and 16 before it.
+pub(crate) fn follower(w: &[u32], i: usize) -> u32
+    requires { ⌜ (i < 16) × (length (now w) ≡ 16) ⌝ }
+    ensures { λ r. ⌜ r ≡ R.follower i (now (w .entry)) ⌝ }
 {
-    let x = words::add(words::lower_sigma1(w[t - 2]), w[t - 7]);
-    words::add(words::add(x, words::lower_sigma0(w[t - 15])), w[t - 16])
+    let x = words::add(words::lower_sigma1(w[(i + 14) % 16]), w[(i + 9) % 16]);
+    words::add(words::add(x, words::lower_sigma0(w[(i + 1) % 16])), w[i])
 }
 
-// W_0 to W_15 of a block of 64 octets, with room for the others.
-pub(crate) fn first_words(block: &[u8]) -> [u32; 64]
+// W_0 to W_15 of a block of 64 octets.
+pub(crate) fn first_words(block: &[u8]) -> [u32; 16]
     requires { ⌜ length (now block) ≡ 64 ⌝ }
-    ensures { λ r. ⌜ take 16 r ≡ S.upTo (Q.word (now (block .entry))) 16 ⌝ }
+    ensures { λ r. ⌜ r ≡ S.upTo (Q.word (now (block .entry))) 16 ⌝ }
 {
-    let mut w = [0u32; 64];
+    let mut w = [0u32; 16];
     let mut t = 0;
     while t < 16 {
         w[t] = octets::word(block, t);

@@ -1,10 +1,11 @@
 -- The words before place t are the block's; a turn stores one more (`upTo-more`).
 use borrow.Author.Needs.{needs}
 use native.Mathlib.Omega.{arith}
-use mathlib.Core.Path.{_≡_}
+use mathlib.Core.Path.{_≡_, _∙_, sym}
 use denote.Ref.{now}
 use Prim.Native.Nat.{_≤_, _<_, _-_}
 use lib.ListN.{length, take}
+use lib.Seq.{take-all}
 use Rattle.sha256.specs.Parsing.{word}
 use Rattle.sha256.specs.Hash.{upTo}
 use Rattle.sha256.proofs.ScheduleLaws.{upTo-more}
@@ -12,7 +13,7 @@ use Rattle.sha256.proofs.schedule.first_words.Statement.{statement}
 use Rattle.sha256.proofs.schedule.first_words.Tie as tie
 
 abbrev Inv-loop : tie.InvT-loop
-Inv-loop block w₀ t₀ w t = (t ≤ 16) × (length w ≡ 64) × (take t w ≡ upTo (word block) t)
+Inv-loop block w₀ t₀ w t = (t ≤ 16) × (length w ≡ 16) × (take t w ≡ upTo (word block) t)
 
 abbrev μ-loop : tie.MeasureT-loop
 μ-loop block w₀ t₀ w t = 16 - t
@@ -34,7 +35,7 @@ returns : tie.Need-returns Inv-loop μ-loop
 returns c =
     let l = c .before .loop in
     let e : l .t ≡ 16 = omega arith in
-    rw e at (l .inv .2)
+    sym (take-all 16 (l .w) (omega (arith, l .inv .1))) ∙ rw e at (l .inv .2)
 
 pub first-words-spec : {M : Type 1} → statement M
 first-words-spec =

@@ -1,11 +1,11 @@
 -- The code adds what the definition adds, in its order.
 use borrow.Author.Needs.{needs}
-use Rattle.sha256.specs.Hash.{nextWord}
-use Rattle.sha256.proofs.schedule.next_word.Statement.{statement}
-use Rattle.sha256.proofs.schedule.next_word.Tie as tie
+use Rattle.sha256.specs.Inner.Ring.{follower}
+use Rattle.sha256.proofs.schedule.follower.Statement.{statement}
+use Rattle.sha256.proofs.schedule.follower.Tie as tie
 
 returns : tie.Need-returns
-unfolding nextWord
+unfolding follower
 returns c = rw (
   c .add3 .ensures,
   c .before .before .add2 .ensures,
@@ -14,8 +14,8 @@ returns c = rw (
   c .before .before .before .before .before .before .before .lower-sigma1 .ensures,
 )
 
-pub next-word-spec : {M : Type 1} → statement M
-next-word-spec =
+pub follower-spec : {M : Type 1} → statement M
+follower-spec =
     tie.close
     (tie.spec
     (λ c. search needs)
@@ -31,7 +31,6 @@ next-word-spec =
     (λ c. search needs)
     (λ c κs. search needs)
     (λ c κs. search needs)
-    (λ c. search needs)
     (λ c. search needs)
     (λ c. search needs)
     (λ c κs. search needs)
