@@ -6,3 +6,5 @@ pub mod NoSecondAnswer
 pub mod KeyOfAnswers
 -- the expected digit at the C border (`text-digit-told`, `presentation-digit-told`)
 pub mod ExpectedInC
+-- SEPARATION at the C border (`calls-apart`, `lines-never-meet`)
+pub mod Separation

@@ -14,3 +14,5 @@ pub mod AnyRun
 pub mod EntryLengths
 -- the expected digit where what was read is entered (`entered-told`)
 pub mod Expected
+-- SEPARATION: keys of accepted calls, and a house's own lines (`entries-apart`, `houses-apart`, `own-lines`)
+pub mod Separation

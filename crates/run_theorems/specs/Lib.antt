@@ -4,3 +4,5 @@ pub mod Runs
 pub mod Keys
 -- the expected digit where what was read is entered
 pub mod Expected
+-- the lines of a house
+pub mod Separation

@@ -1,12 +1,10 @@
 -- What a C host may rely on of `lamphudet_read_seal`: every call is told in one of two ways, and the entries of two accepted
 -- calls begin alike exactly when house, form, state, whole number, birth and expiry agree.
 use Prim.Native.Nat.{ℕ}
-use mathlib.Core.Path.{_≡_, refl, ap, sym, _∙_}
+use mathlib.Core.Path.{_≡_, refl}
 use mathlib.Core.Logic.{_↔_}
 use mathlib.Core.List.{List, _++_}
-use native.Mathlib.Omega.{arith}
 use lib.ListN.{take, drop}
-use lib.Seq.{take-append-le}
 use Rattle.refusal.specs.Numbers.{Why, noDigit, numberOf, expectedOf}
 use Rattle.refusal.specs.Length as told
 use Rattle.refusal.specs.Length.{Length}
@@ -16,9 +14,8 @@ use Rattle.entry.proofs.Entered.{Enters, entered, entered-only, not-entered}
 use Rattle.seal_header.specs.Header.{blankHeader}
 use Rattle.seal.specs.Seal.{readSeal}
 use Rattle.lamphudet_seals.specs.Answer.{fieldsInC, sealInC, readSealInC, readSealOut}
-use Rattle.run_theorems.specs.Keys.{keyOf, SameKey}
-use Rattle.run_theorems.proofs.Keys.{key-exactly}
-use Rattle.run_theorems.proofs.EntryLengths.{entry-bounds}
+use Rattle.run_theorems.specs.Keys.{SameKey}
+use Rattle.run_theorems.proofs.Separation.{entries-apart}
 
 module _ (house : ℕ) (s out : List ℕ) where
   -- the seal is accepted, the house is one and the range has room
@@ -52,19 +49,9 @@ module _ (house : ℕ) (s out : List ℕ) where
       go (told.refused why place) e =
           denied why place (rw e) (not-entered house (readSeal s .kept) out (readSeal s .outcome) why place e)
 
-  -- an accepted call leaves an entry, which begins with its key
-  pub seal-begins : Kept → take 30 (readSealOut house s out) ≡ keyOf house (readSeal s .kept)
-  unfolding readSealOut keyOf
-  seal-begins h =
-      let w = entered house (readSeal s .kept) out (readSeal s .outcome) h in
-      let long = entry-bounds house (readSeal s .kept) (h .sound) in
-      ap (take 30) (w .1) ∙ take-append-le 30 (entryOf house (readSeal s .kept)) (drop octets out) (omega (arith, long .0))
-
 -- SEPARATION: what two accepted calls leave in their ranges shares its first thirty octets exactly when all of these agree
 pub seals-apart : (h k : ℕ) (s u out to : List ℕ) → Kept h s out → Kept k u to
     → (take 30 (readSealOut h s out) ≡ take 30 (readSealOut k u to)) ↔ SameKey h (readSeal s .kept) k (readSeal u .kept)
+unfolding readSealOut
 seals-apart h k s u out to x y =
-    let both = key-exactly h k (readSeal s .kept) (readSeal u .kept) (x .housed) (x .sound) (y .housed) (y .sound) in (
-      λ e. both .0 (sym (seal-begins h s out x) ∙ e ∙ seal-begins k u to y),
-      λ same. seal-begins h s out x ∙ both .1 same ∙ sym (seal-begins k u to y),
-    )
+    entries-apart h k (readSeal s .outcome) (readSeal u .outcome) (readSeal s .kept) (readSeal u .kept) out to x y
