@@ -8,3 +8,5 @@ pub mod FirstFile
 pub mod Near
 -- stages 5 and 6 by the table decide as they do by the entries
 pub mod StagesByTable
+-- no two answers are told alike (`walked-tells`)
+pub mod Told

@@ -12,3 +12,5 @@ pub mod Standing
 pub mod Stretches
 -- what every refusal of steps in their order has (`EachRead`)
 pub mod Each
+-- no two answers are told alike (`taken-tells`)
+pub mod Told
