@@ -8,3 +8,7 @@ pub mod KeyOfAnswers
 pub mod ExpectedInC
 -- SEPARATION at the C border (`calls-apart`, `lines-never-meet`)
 pub mod Separation
+-- no second answer: elements, outer parts, EF.COM, the object (`only-element` and the others)
+pub mod OneElement
+-- the demands are not empty: a text, a sound record and a presentation that are accepted (`T3-accepted` and the others)
+pub mod NotEmpty

@@ -1,29 +1,48 @@
 -- The starred examples of document 01 hold.
 use mathlib.Core.Path.{_≡_, refl}
 use mathlib.Core.Bool.{true}
-use Rattle.zone.specs.Alphabet.{isDigit, isLetter, isFiller}
+use Rattle.refusal.specs.Outcome.{passed}
+use Rattle.zone.specs.Alphabet.{isDigit, isLetter, isFiller, isCharacter, isForeign, every, first, firstForeign}
 use Rattle.zone.specs.Part.{rank, same}
-use Rattle.zone.specs.Form.{layout, start, startIn, width, widthIn, field, line, covers, pieceOf, pieces, cut, joinedCuts}
-use Rattle.zone.specs.Form.{covered}
-use Rattle.digit.specs.Check.{value, weight, sumFrom, checkOf}
-use Rattle.field.specs.Date.{pairOf, yearOf, monthOf, dayOf, isLeap, isShort, daysIn, yearRule, monthRule, dayRule, birthRule}
-use Rattle.zone.specs.Form.{longest}
+use Rattle.zone.specs.Form.{layout, partOf, parts, start, startIn, width, widthIn, total, formOf, field, line, covers, pieceOf}
+use Rattle.zone.specs.Form.{pieces, cut, joinedCuts, covered, longest}
 use Rattle.zone.specs.Record.{trimmed, trimmedLength, padded}
-use Rattle.text.specs.Number.{isLong, spanOf, numberBy}
-use Rattle.text.specs.Read.{recordBy}
+use Rattle.zone.specs.Codes.{codeOf}
+use Rattle.digit.specs.Check.{value, weight, sumFrom, checkOf, digitOf}
+use Rattle.field.specs.Date.{pairOf, yearOf, monthOf, dayOf, isLeap, isShort, daysIn, yearRule, monthRule, dayRule, birthRule}
+use Rattle.field.specs.Date.{isKnown, expiryRule}
+use Rattle.field.specs.Code.{isSecond, passportRule, codeRule}
+use Rattle.field.specs.Letters.{lettersThenFillers, stateRule, sexRule, nameRule, isNameCharacter}
+use Rattle.text.specs.Number.{isLong, spanOf, spanRule, numberRule, numberBy, checkedBy}
+use Rattle.text.specs.Order.{characters, fieldCheck, digitAt, numberDigit, furtherDigit, isLeftOut, personalDigit, digitCheck}
+use Rattle.text.specs.Order.{inOrder, verdictBy}
+use Rattle.text.specs.Read.{recordBy, answered, readBy, readText}
 use Rattle.entry.specs.Bits.{put, gathered}
 use Rattle.entry.specs.Bits as bits
 use Rattle.entry.specs.Codes.{formCode, sexCode}
-use Rattle.zone.specs.Codes.{codeOf}
 use Rattle.entry.specs.Entry.{puts, putKey, putRest, entryOf}
 use Rattle.tlv.specs.Element.{element, tagAt, tagWidth, sizeAt, sizeOf, sized, endsWithin}
 use Rattle.lent.specs.Octets.{alike, octets}
-use Rattle.demands.specs.Examples.{told, isRead, isRefused, isDigitAt, isRight, T3, examples, allRight}
+use Rattle.demands.specs.Examples.{told, isRead, isRefused, isPassed, isDigitAt, isRight, T3, examples, allRight}
 
 pub starred : allRight examples ≡ true
-unfolding allRight examples isRight isDigitAt T3 octets checkOf sumFrom value weight isDigit isLetter isFiller birthRule
+unfolding allRight examples isRight isPassed isDigitAt T3 octets checkOf sumFrom value weight isDigit isLetter isFiller birthRule
     pairOf yearOf monthOf dayOf isLeap isShort daysIn yearRule monthRule dayRule layout start startIn width widthIn field line
     covers pieceOf pieces cut joinedCuts covered rank same recordBy spanOf isLong longest numberBy trimmed trimmedLength
     padded entryOf bits.octets gathered put puts putKey putRest codeOf formCode sexCode alike told isRead isRefused element
     tagAt tagWidth sizeAt sizeOf sized endsWithin
+    readText readBy answered formOf total verdictBy characters firstForeign first isForeign isCharacter inOrder parts partOf
+    fieldCheck codeRule stateRule numberRule spanRule sexRule nameRule isNameCharacter every expiryRule
+    digitCheck numberDigit furtherDigit personalDigit isLeftOut digitAt digitOf checkedBy passportRule isSecond
+    lettersThenFillers isKnown
 starred = refl
+
+-- and by itself: T3 is accepted
+pub T3-accepted : readText (octets T3) .outcome ≡ passed
+unfolding T3 octets readText readBy answered formOf total verdictBy characters firstForeign first isForeign isCharacter isDigit
+    isLetter isFiller inOrder parts partOf layout start startIn width widthIn rank same field fieldCheck codeRule passportRule
+    isSecond stateRule lettersThenFillers numberRule spanRule sexRule nameRule isNameCharacter every birthRule expiryRule isKnown
+    pairOf yearOf monthOf dayOf isLeap isShort daysIn yearRule monthRule dayRule spanOf isLong longest
+    digitCheck numberDigit furtherDigit personalDigit isLeftOut digitAt digitOf checkedBy checkOf sumFrom value weight
+    covered covers pieceOf pieces line cut joinedCuts
+T3-accepted = refl

@@ -11,11 +11,11 @@ use Rattle.zone.specs.Part.{Part, number, numberCheck, birth, birthCheck, expir
 use Rattle.zone.specs.Form.{start, field, covered}
 use Rattle.digit.specs.Check.{checkOf}
 use Rattle.field.specs.Date.{birthRule}
-use Rattle.text.specs.Number.{spanOf}
-use Rattle.text.specs.Read.{recordBy}
+use Rattle.text.specs.Read.{readText}
 use Rattle.entry.specs.Entry.{entryOf}
 use Rattle.tlv.specs.declared.Stretch.{Stretch}
 use Rattle.refusal.specs.Numbers.{numberOf}
+use Rattle.refusal.specs.Outcome.{Outcome, passed, refused}
 use Rattle.tlv.specs.Read.{Read, value, refusal}
 use Rattle.tlv.specs.Element.{element}
 use Rattle.tlv.specs.Tags.{octetString}
@@ -28,7 +28,7 @@ pub data Example : Type 0 where
   birthKept birthRefused : String → Example
   -- an element whose length is told so, before so many octets, is read, or is refused with 10
   lengthRead lengthRefused : List ℕ → ℕ → Example
-  -- with this house the entry of a TD3 text has so many bytes, and begins with these
+  -- a text is accepted, and with this house the entry of its record has so many bytes, and begins with these
   entry : String → (house n : ℕ) → List ℕ → Example
   -- the four check digits of a TD3 text besides the personal one: number, birth, expiry, composite
   digits : String → (n b e c : ℕ) → Example
@@ -50,6 +50,11 @@ isRefused n (refusal why p) = eqb (numberOf why) n
 unfoldable pub told : List ℕ → ℕ → Read Stretch
 told l n = element (octetString ∷ (l ++ replicate n 0)) 0 octetString
 
+-- whether a reader passed
+unfoldable pub isPassed : Outcome → Bool
+isPassed passed = true
+isPassed (refused why p) = false
+
 unfoldable pub isRight : Example → Bool
 isRight (check s n) = eqb (checkOf (octets s)) n
 isRight (birthKept s) = birthRule (octets s)
@@ -62,8 +67,9 @@ isRight (digits s n b e c) =
 isRight (lengthRead l n) = isRead (told l n)
 isRight (lengthRefused l n) = isRefused 10 (told l n)
 isRight (entry s house n front) =
-    eqb (length (entryOf house (recordBy Td3 (octets s) (spanOf Td3 (octets s))))) n
-    && alike (take (length front) (entryOf house (recordBy Td3 (octets s) (spanOf Td3 (octets s))))) front
+    isPassed (readText (octets s) .outcome)
+    && (eqb (length (entryOf house (readText (octets s) .kept))) n
+    && alike (take (length front) (entryOf house (readText (octets s) .kept))) front)
 
 -- `P<UTONORD<<ELIN`, fillers to 44, then the second line
 unfoldable pub T3 : String

@@ -1,0 +1,23 @@
+-- The demands are not empty: document 01's T3 is accepted (`T3-accepted`, with the starred examples), its record is sound, and a
+-- presentation around it is accepted with that record.
+use mathlib.Core.Path.{_≡_, ap, _∙_}
+use mathlib.Core.Bool.{true}
+use Rattle.lent.specs.Octets.{octets}
+use Rattle.refusal.specs.Outcome.{passed}
+use Rattle.sound.specs.Sound.{isSound}
+use Rattle.text.specs.Read.{Answer, readText}
+use Rattle.chip.specs.Presentation.{readPresentation}
+use Rattle.text_theorems.proofs.RecordOfText.{kept-and-sound}
+use Rattle.presentation_theorems.specs.Presented.{octetsOf, around}
+use Rattle.presentation_theorems.proofs.TextsCarried.{every-text-carried}
+use Rattle.demands.specs.Examples.{T3}
+use Rattle.demands.proofs.Starred.{T3-accepted}
+
+pub T3-sound : isSound (readText (octets T3) .kept) ≡ true
+T3-sound = kept-and-sound (octets T3) T3-accepted .3
+
+pub T3-carried : readPresentation (octetsOf (around (octets T3))) ≡ readText (octets T3)
+T3-carried = every-text-carried (octets T3) T3-accepted .1
+
+pub T3-carried-accepted : readPresentation (octetsOf (around (octets T3))) .outcome ≡ passed
+T3-carried-accepted = ap (λ (a : Answer). a .outcome) T3-carried ∙ T3-accepted
