@@ -1,10 +1,10 @@
 -- The laws of elements in the words of the stages: a stretch is cut from its holder, which is octets; ends, octets alike.
 use Prim.Native.Nat.{ℕ, zero, suc, _-_, _≤_}
 use mathlib.Core.Path.{_≡_, refl, ap, sym, _∙_}
-use mathlib.Core.Bool.{true}
+use mathlib.Core.Bool.{Bool, true, false}
 use mathlib.Core.List.{List, [], _∷_}
 use native.Mathlib.Omega.{arith}
-use borrow.Author.Tests.{eqb-true, eq-eqb}
+use borrow.Author.Tests.{eqb-true, eqb-false, eq-eqb, ne-eqb}
 use lib.Dec.{eqb}
 use lib.ListN.{length, take, drop, length-take, length-drop, drop-of-length-le}
 use lib.Seq.{take-take, take-all}
@@ -34,7 +34,7 @@ pub read-element : (s : List ℕ) (at tag : ℕ) → areOctets s → (v : Stretc
 unfolding cut
 read-element s at tag small v e = reads s at tag (octet-below s small) v e
 
--- ---- ends, octets alike
+-- ---- ends, octets alike, tests that agree
 
 pub end-there : (s : List ℕ) (at : ℕ) → endCheck s at ≡ passed → at ≡ length s
 unfolding endCheck
@@ -70,6 +70,14 @@ same-alike a b e = rw e (itself b)
     itself : (b : List ℕ) → alike b b ≡ true
     itself [] = refl
     itself (d ∷ b) = both-and (eq-eqb d d refl) (itself b)
+
+-- two tests that hold together are the same
+pub same-test : (a b c d : ℕ) → (a ≡ b → c ≡ d) → (c ≡ d → a ≡ b) → eqb a b ≡ eqb c d
+same-test a b c d to back = go (eqb c d) refl
+  where
+    go : (t : Bool) → eqb c d ≡ t → eqb a b ≡ t
+    go true e = eq-eqb a b (back (eqb-true c d e))
+    go false e = ne-eqb a b (λ h. eqb-false c d e (to h))
 
 -- ---- a stretch of a prefix is a stretch of the whole
 

@@ -204,7 +204,7 @@ stages-each w =
     each-checked P (filesCheck w (cut w tags) [] es fs) _ (signed-each P p w (cut w tags) [] es fs)
     (each-then P (firstFile w 1 fs) _ (first-each P p w 1 fs) (λ file i. text-each w (file .held .to) (file .held .from)))))))
 
-answer-outcome : (m : Read Record) → answerBy m .outcome ≡ outcomeIn m
+pub answer-outcome : (m : Read Record) → answerBy m .outcome ≡ outcomeIn m
 unfolding answerBy outcomeIn
 answer-outcome (value r) = refl
 answer-outcome (refusal n p) = refl

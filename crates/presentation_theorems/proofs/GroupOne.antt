@@ -32,7 +32,7 @@ use Rattle.presentation_theorems.proofs.GroupFiles.{lentAt, lentIn, Fil
 
 -- ---- the tag of group 1
 
-one-tag : (tag : ℕ) → groupOf tag ≡ 1 → tag ≡ 0x61
+pub one-tag : (tag : ℕ) → groupOf tag ≡ 1 → tag ≡ 0x61
 unfolding groupOf
 one-tag tag e =
     go (eqb tag 0x61) (eqb tag 0x75) (eqb tag 0x63) (eqb tag 0x76) (eqb tag 0x65) (leb 0x67 tag && leb tag 0x70) refl refl e
@@ -49,7 +49,7 @@ one-tag tag e =
         absurd (omega (arith, leb-true 0x67 tag (both .0)))
     go false false false false false false p q h = absurd (omega arith)
 
-tag-one : groupOf 0x61 ≡ 1
+pub tag-one : groupOf 0x61 ≡ 1
 unfolding groupOf
 tag-one = refl
 

@@ -32,3 +32,17 @@ pub mod ContentsByOctets
 pub mod Expected
 -- REQUEST 2026-02: what it lets in and what stays (`newly-presented`, `still-presented`)
 pub mod LeftOut
+-- the checks as rows: what rows of checks before a value decide, and how they are joined
+pub mod Rows
+-- a walk from place to place is the rows of each
+pub mod Places
+-- stage 3 as rows
+pub mod EfComRows
+-- stage 4 as rows
+pub mod ObjectRows
+-- stages 2 and 5 as rows
+pub mod FilesRows
+-- stage 6 as rows
+pub mod GroupOneRows
+-- DEMAND 2: the answer is the first failing check (`presentation-refused-exactly`)
+pub mod FirstFailing
