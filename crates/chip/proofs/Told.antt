@@ -1,5 +1,5 @@
 -- What was answered is told by what the papers say of it: `walkedOf` gives one reading to no two answers.
-use mathlib.Core.Path.{_≡_, ap, sym, _∙_}
+use mathlib.Core.Path.{_≡_, ap, sym}
 use Rattle.refusal.proofs.Numbers.{refused-tells}
 use Rattle.tlv.specs.Read.{outcomeIn}
 use Rattle.tlv.proofs.Joined.{same-value, never-value}

@@ -1,6 +1,6 @@
--- SEPARATION at the C border: what two accepted calls of `lamphudet_read_text` or `lamphudet_read_presentation` leave in their ranges
--- shares its first thirty octets exactly when house, form, state, whole number, birth and expiry agree; so those of two houses
--- never do.
+-- SEPARATION at the C border: what two accepted calls of `lamphudet_read_text` or `lamphudet_read_presentation` leave in their
+-- ranges shares its first thirty octets exactly when house, form, state, whole number, birth and expiry agree; so those of two
+-- houses never do.
 use Prim.Native.Nat.{ℕ}
 use mathlib.Core.Path.{_≡_}
 use mathlib.Core.List.{List}

@@ -55,13 +55,15 @@ module _ (house : ℕ) (r : Record) (out : List ℕ) where
       sides false q k = absurd (refused-not-written k)
 
   -- a refusal changes nothing
-  pub not-entered : (o : Outcome) (n : Why) (p : ℕ) → enteredAnswer o house r out ≡ told.refused n p → enteredOut o house r out ≡ out
+  pub not-entered : (o : Outcome) (n : Why) (p : ℕ) → enteredAnswer o house r out ≡ told.refused n p
+      → enteredOut o house r out ≡ out
   unfolding enteredAnswer enteredOut entryAnswer entryOut
   not-entered (refused m q) n p e = refl
   not-entered passed n p e = go (isHouse house && isSound r) (leb (size (r .«name_len»)) (length out)) e
     where
       go : (a b : Bool)
-          → cond a (cond b (told.written (size (r .«name_len»))) (told.refused (by 16) 0)) (told.refused (by 17) 0) ≡ told.refused n p
+          → cond a (cond b (told.written (size (r .«name_len»))) (told.refused (by 16) 0)) (told.refused (by 17) 0)
+          ≡ told.refused n p
           → cond a (cond b (entryOf house r ++ drop (size (r .«name_len»)) out) out) out ≡ out
       go true true k = absurd (refused-not-written (sym k))
       go true false k = refl

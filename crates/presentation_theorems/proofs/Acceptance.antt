@@ -170,7 +170,8 @@ passed-value (value r) e = (r, refl, refl)
 passed-value (refusal n p) e = absurd (refused-not-passed e)
 
 -- every refusal gives the blank record
-pub presentation-blank : (w : List ℕ) (n : Why) (p : ℕ) → readPresentation w .outcome ≡ refused n p → readPresentation w .kept ≡ blank
+pub presentation-blank : (w : List ℕ) (n : Why) (p : ℕ) → readPresentation w .outcome ≡ refused n p
+    → readPresentation w .kept ≡ blank
 unfolding readPresentation answerBy
 presentation-blank w n p e = go (readStages w) e
   where

@@ -2,9 +2,8 @@
 -- the text in the presentation is refused with.
 use Prim.Native.Nat.{ℕ, zero, suc, _+_, _≤_}
 use mathlib.Core.Path.{_≡_, refl, ap, sym, _∙_}
-use mathlib.Core.Bool.{Bool, true, false, cond}
+use mathlib.Core.Bool.{false}
 use mathlib.Core.List.{List, [], _∷_}
-use mathlib.Core.Logic.{_⊎_, inl, inr}
 use native.Mathlib.Omega.{arith}
 use borrow.Author.Tests.{ne-eqb, eqb-false}
 use lib.Dec.{eqb, leb}
@@ -13,9 +12,6 @@ use Rattle.refusal.specs.Numbers.{Why, by, expecting, numberOf}
 use Rattle.refusal.specs.Outcome.{Outcome, passed, refused, unless}
 use Rattle.refusal.proofs.Each.{Each, each-passed, each-refused, each-else, each-either, each-unless}
 use Rattle.zone.specs.declared.record.Record.{Record}
-use Rattle.zone.specs.declared.form.Form.{Form}
-use Rattle.zone.specs.declared.form.Recognised.the-variants.{As}
-use Rattle.zone.specs.Form.{formOf}
 use Rattle.lent.specs.Octets.{stands}
 use Rattle.text.specs.Read.{readText}
 use Rattle.tlv.specs.declared.Stretch.{Stretch}
@@ -31,8 +27,7 @@ use Rattle.object.specs.Object as object
 use Rattle.chip.specs.Outer.{File, sizeCheck, fileAt, filesFrom, files, outer, walked}
 use Rattle.chip.specs.Files.{isExpected, isDigested, fileCheck, filesCheck}
 use Rattle.chip.specs.Presentation.{firstFile, moved, textAt, groupOne, decided, readStages, answerBy, readPresentation}
-use Rattle.chip.specs.declared.outer.Outer.{Outer}
-use Rattle.text_theorems.proofs.Expected.{Tells, text-tells, nine-tells}
+use Rattle.text_theorems.proofs.Expected.{nine-tells}
 use Rattle.presentation_theorems.specs.Expected.{FromText}
 use Rattle.presentation_theorems.proofs.Elements.{cut-before}
 
@@ -123,7 +118,8 @@ module _ (P : Why → ℕ → Type 0) (plain : (n q : ℕ) → eqb n 9 ≡ false
   files-each (suc k) w at =
       each-step P (leb (length w) at) _ _ (each-value P [])
       (each-then P (fileAt w at) _
-      (each-step P (isGroup (getD w at 0)) _ _ (at-element w at (getD w at 0)) (each-refusal P Stretch (by 10) at (plain 10 at refl)))
+      (each-step P (isGroup (getD w at 0)) _ _ (at-element w at (getD w at 0))
+      (each-refusal P Stretch (by 10) at (plain 10 at refl)))
       (λ held e. each-then P (filesFrom k w (held .to)) _ (files-each k w (held .to)) (λ rest f. each-value P _)))
 
   outer-each : (w : List ℕ) → EachRead P (walked w)

@@ -1,11 +1,11 @@
 -- REQUEST 2026-02, for presentations: newly accepted are those whose text is (`newly-presented`), and what was accepted keeps its
 -- answer (`still-presented`).
-use Prim.Native.Nat.{ℕ, _+_, _≤_}
+use Prim.Native.Nat.{ℕ, _+_}
 use mathlib.Core.Path.{_≡_, refl, ap, sym, _∙_}
 use mathlib.Core.List.{List, []}
 use mathlib.Core.Logic.{_↔_}
 use native.Mathlib.Omega.{arith}
-use lib.ListN.{length, take, length-take}
+use lib.ListN.{take, length-take}
 use Rattle.refusal.specs.Outcome.{Outcome, passed, refused}
 use Rattle.refusal.proofs.Outcomes.{refused-not-passed}
 use Rattle.zone.specs.declared.record.Record.{Record}
@@ -18,7 +18,7 @@ use Rattle.tlv.specs.Tags as Tag
 use Rattle.tlv.proofs.Past.{value-within}
 use Rattle.efcom.specs.EfCom.{readEfCom}
 use Rattle.object.specs.Object.{readObject}
-use Rattle.chip.specs.Outer.{File, files, walked}
+use Rattle.chip.specs.Outer.{files, walked}
 use Rattle.chip.specs.Files.{filesCheck}
 use Rattle.chip.specs.Presentation.{firstFile, moved, textAt, groupOne, decided, readStages, answerBy, readPresentation}
 use Rattle.text_theorems.specs.Before as old
@@ -98,7 +98,8 @@ moved-passed at a e = go (a .outcome) (a .kept) e
         h′ : refused n (at + p) ≡ passed → refused n p ≡ passed
         h′ q = absurd (refused-not-passed q)
 
-passed-moved : (at : ℕ) (o : Outcome) (r : Record) → o ≡ passed → answerBy (moved at (record { outcome = o; kept = r })) .outcome ≡ passed
+passed-moved : (at : ℕ) (o : Outcome) (r : Record) → o ≡ passed
+    → answerBy (moved at (record { outcome = o; kept = r })) .outcome ≡ passed
 unfolding moved checked answerBy
 passed-moved at o r e = rw e
 
@@ -119,7 +120,8 @@ module _ (w : List ℕ) where
       go : (m : Read Stretch) → textOf w ≡ m → readPresentation w ≡ before.readPresentation w
       go (refusal n p) q = answer-now (refusal n p) q ∙ sym (answer-then (refusal n p) q)
       go (value v) q =
-          let was = moved-passed (v .from) (old.readText (cut w v)) (ap (λ (a : Answer). a .outcome) (sym (answer-then (value v) q)) ∙ e) in
+          let was = moved-passed (v .from) (old.readText (cut w v))
+          (ap (λ (a : Answer). a .outcome) (sym (answer-then (value v) q)) ∙ e) in
           answer-now (value v) q ∙ (ap (λ (a : Answer). answerBy (moved (v .from) a)) (still-accepted (cut w v) was)
           ∙ sym (answer-then (value v) q))
 

@@ -129,7 +129,8 @@ unfolding numbersOnce onceAfter numbers signedIn signedAt
 once-numbers s before [] e = refl
 once-numbers s before (x ∷ es) e = go (stands (x .group) before) refl e (once-numbers s (x .group ∷ before) es)
   where
-    go : (b : Bool) → stands (x .group) before ≡ b → cond b (refused (by 12) (x .place)) (numbersOnce (x .group ∷ before) es) ≡ passed
+    go : (b : Bool) → stands (x .group) before ≡ b
+        → cond b (refused (by 12) (x .place)) (numbersOnce (x .group ∷ before) es) ≡ passed
         → (numbersOnce (x .group ∷ before) es ≡ passed → onceAfter (x .group ∷ before) (numbers (signedIn s es)) ≡ true)
         → not (stands (x .group) before) && onceAfter (x .group ∷ before) (numbers (signedIn s es)) ≡ true
     go true f h rest = absurd (refused-not-passed h)

@@ -1,5 +1,5 @@
--- Reading a presentation before request 2026-02: the definitions of chip, specs/Presentation, word for word, over the text's reading
--- as it stood then; and where a presentation's text stands.
+-- Reading a presentation before request 2026-02: the definitions of chip, specs/Presentation, word for word, over the text's
+-- reading as it stood then; and where a presentation's text stands.
 use Prim.Native.Nat.{ℕ}
 use mathlib.Core.List.{List, []}
 use lib.ListN.{take}

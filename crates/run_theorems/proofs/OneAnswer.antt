@@ -62,7 +62,8 @@ module _ (w : List ℕ) (at : ℕ) where
       go false p true h = absurd (none-not-refused _ at (sym h))
       go false p false h = absurd (other (entry-or-not (formIn (drop at w)) (drop at w) at none h))
 
-  pub refused-here : (k : Why) (p : ℕ) → readEntry w at .onward ≡ refused k p → (refused k p ≡ refused (by 18) at) × (at ≡ length w → ⊥)
+  pub refused-here : (k : Why) (p : ℕ) → readEntry w at .onward ≡ refused k p
+      → (refused k p ≡ refused (by 18) at) × (at ≡ length w → ⊥)
   unfolding readEntry noEntry
   refused-here k p e = go (eqb at (length w)) refl (ltb (length w) at) e
     where

@@ -1,14 +1,13 @@
--- SEPARATION: what two accepted calls leave in their ranges shares its first thirty octets exactly when house, form, state, whole
--- number, birth and expiry agree (`entries-apart`); so entries of two houses never share a key (`houses-apart`); and of a run that
--- is read, the lines whose first fifteen bits are a house are exactly that house's (`own-lines`). A call may have read anything, a
--- text, a presentation or a seal: `enteredOut` is what it leaves.
+-- SEPARATION: what two accepted calls leave in their ranges shares its first thirty octets exactly when house, form, state,
+-- whole number, birth and expiry agree (`entries-apart`); so entries of two houses never share a key (`houses-apart`); and of a
+-- run that is read, the lines whose first fifteen bits are a house are exactly that house's (`own-lines`). A call may have read
+-- anything, a text, a presentation or a seal: `enteredOut` is what it leaves.
 use Prim.Native.Nat.{ℕ}
 use mathlib.Core.Path.{_≡_, refl, ap, sym, _∙_}
-use mathlib.Core.Bool.{true, cond}
+use mathlib.Core.Bool.{true}
 use mathlib.Core.List.{List, [], _∷_, append-nil}
 use mathlib.Core.Logic.{_↔_}
 use native.Mathlib.Omega.{arith}
-use lib.Dec.{eqb}
 use lib.ListN.{take, drop}
 use lib.Seq.{take-append-le}
 use Rattle.lent.proofs.Bools.{and-both}

@@ -1,5 +1,5 @@
--- The expected digit where what was read is entered: document 02, 2026-07, "every refusal 9 shall carry that digit up through text
--- and presentation to the C host. Every other refusal, and a success at the C host, has 255 there."
+-- The expected digit where what was read is entered: document 02, 2026-07, "every refusal 9 shall carry that digit up through
+-- text and presentation to the C host. Every other refusal, and a success at the C host, has 255 there."
 use Prim.Native.Nat.{ℕ}
 use mathlib.Core.Path.{_≡_}
 use Rattle.refusal.specs.Numbers.{expecting}

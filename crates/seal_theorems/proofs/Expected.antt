@@ -1,7 +1,7 @@
--- THE EXPECTED DIGIT of a seal (document 02, 2026-07): every refusal 9 carries one, and it is the digit that the text in feature 02
--- is refused with; at the C border too.
+-- THE EXPECTED DIGIT of a seal (document 02, 2026-07): every refusal 9 carries one, and it is the digit that the text in
+-- feature 02 is refused with; at the C border too.
 use Prim.Native.Nat.{ℕ, zero, suc, _+_}
-use mathlib.Core.Path.{_≡_, refl, ap, sym, _∙_}
+use mathlib.Core.Path.{_≡_, refl, sym, _∙_}
 use mathlib.Core.Bool.{Bool, false, not}
 use mathlib.Core.List.{List}
 use native.Mathlib.Omega.{arith}
@@ -15,18 +15,18 @@ use Rattle.refusal.proofs.Each.{Each, each-passed, each-refused, each-else, eac
 use Rattle.field.specs.Letters.{stateRule}
 use Rattle.text.specs.Read.{readText}
 use Rattle.tlv.specs.declared.Stretch.{Stretch}
-use Rattle.tlv.specs.Read.{Read, value, refusal, outcomeIn}
+use Rattle.tlv.specs.Read.{Read, value, refusal}
 use Rattle.tlv.specs.Element.{element}
 use Rattle.tlv.proofs.Each.{EachRead, each-value, each-refusal, each-then, each-checked, each-step}
 use Rattle.c40.specs.Field.{isField}
 use Rattle.seal_header.specs.Day.{isDay, dayAt}
 use Rattle.seal_header.specs.Reference.{version, width, reference, isReference}
 use Rattle.seal_header.specs.declared.header.Header.{Header}
-use Rattle.seal_header.specs.Header.{isVersion, country, frontCheck, backCheck, checkBy, headerCheck, headerOf, headerEnd, filled}
+use Rattle.seal_header.specs.Header.{isVersion, country, frontCheck, backCheck, checkBy, headerCheck, headerEnd, filled}
 use Rattle.seal.specs.declared.features.Features.{Features}
 use Rattle.seal.specs.Features.{numbered, signatureTag, featureRule, featureAt, isEnd, textPlace, featuresFrom, features}
 use Rattle.seal.specs.Signature.{signatureAt}
-use Rattle.seal.specs.Seal.{Said, featureOctets, textIn, placed, withText, withImage, withFeatures, withHeader, saidIn, answerBy}
+use Rattle.seal.specs.Seal.{featureOctets, textIn, placed, withText, withImage, withFeatures, withHeader, saidIn}
 use Rattle.seal.specs.Seal.{readSeal}
 use Rattle.lamphudet_seals.specs.declared.SealInC.{SealInC}
 use Rattle.lamphudet_seals.specs.Answer.{fieldsInC, sealInC, readSealInC}
@@ -34,6 +34,7 @@ use Rattle.text_theorems.proofs.Expected.{nine-tells}
 use Rattle.run_theorems.specs.Expected.{DigitTold}
 use Rattle.run_theorems.proofs.Expected.{numberTold, expectedTold, valueTold, entered-told}
 use Rattle.seal_theorems.specs.Expected.{FromFeature}
+use Rattle.seal_theorems.proofs.FirstFailing.{answer-outcome}
 
 -- ---- what comes before the text refuses by other numbers
 
@@ -121,11 +122,6 @@ said-each s =
     each-checked P (placed (f .text) (readText (filled (textIn s f)) .outcome)) _
     (placed-each P p (f .text) (readText (filled (textIn s f)) .outcome) (λ n q h. carries s f w n q h))
     (each-value P _)))))))
-
-answer-outcome : (m : Read Said) → answerBy m .outcome ≡ outcomeIn m
-unfolding answerBy outcomeIn
-answer-outcome (value r) = refl
-answer-outcome (refusal n p) = refl
 
 seal-carries : (s : List ℕ) (n : Why) (q : ℕ) → readSeal s .outcome ≡ refused n q → Carries s n q
 unfolding readSeal

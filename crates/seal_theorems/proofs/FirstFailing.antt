@@ -35,7 +35,7 @@ use Rattle.seal_theorems.specs.SealChecks.{sealChecks}
 
 -- ---- what joined steps decide
 
-answer-outcome : (m : Read Said) → answerBy m .outcome ≡ outcomeIn m
+pub answer-outcome : (m : Read Said) → answerBy m .outcome ≡ outcomeIn m
 unfolding answerBy outcomeIn
 answer-outcome (value c) = refl
 answer-outcome (refusal n p) = refl

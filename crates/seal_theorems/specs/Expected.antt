@@ -1,5 +1,5 @@
--- The digit that a seal's refusal 9 carries is that of the text in its feature 02: document 02, 2026-07, "every refusal 9 shall carry
--- that digit up"; 2026-08, "then those of the text, at the feature's first octet".
+-- The digit that a seal's refusal 9 carries is that of the text in its feature 02: document 02, 2026-07, "every refusal 9 shall
+-- carry that digit up"; 2026-08, "then those of the text, at the feature's first octet".
 use Prim.Native.Nat.{ℕ}
 use mathlib.Core.Path.{_≡_}
 use mathlib.Core.List.{List}

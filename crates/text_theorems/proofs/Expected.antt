@@ -1,9 +1,8 @@
 -- DEMAND 2, the digit of a refusal 9 (document 02, 2026-07): it is the check of the characters that document 01 has its place run
 -- over, it is one digit, and it is not what stands there; and every refusal 9 carries one.
-use Prim.Native.Nat.{ℕ, _+_, _≤_, _<_}
-use Prim.Native.Char.{code}
+use Prim.Native.Nat.{ℕ, _+_, _<_}
 use mathlib.Core.Path.{_≡_, refl, ap, sym, _∙_}
-use mathlib.Core.Bool.{Bool, true, false, cond}
+use mathlib.Core.Bool.{Bool, true, false}
 use mathlib.Core.List.{List, [], _∷_}
 use mathlib.Core.Logic.{_↔_, _⊎_, inl, inr}
 use native.Mathlib.Nat.{mod-lt}
@@ -20,8 +19,8 @@ use Rattle.zone.specs.declared.form.Recognised.{Recognised}
 use Rattle.zone.specs.declared.form.Recognised.the-variants.{As, Unknown}
 use Rattle.zone.specs.Alphabet.{firstForeign}
 use Rattle.zone.specs.Record.{blank}
-use Rattle.zone.specs.Part.{Part, code as codePart, state, number, numberCheck, optional, birth, birthCheck, sex, expiry, expiryCheck}
-use Rattle.zone.specs.Part.{nationality, optional2, composite, name, personal, personalCheck, rank, same}
+use Rattle.zone.specs.Part.{Part, code as codePart, state, number, numberCheck, optional, birth, birthCheck, sex, expiry}
+use Rattle.zone.specs.Part.{expiryCheck, nationality, optional2, composite, name, personal, personalCheck, rank, same}
 use Rattle.zone.specs.Form.{formOf, layout, parts, start, startIn, width, widthIn, field, covered}
 use Rattle.digit.specs.Check.{sumFrom, checkOf, digitOf}
 use Rattle.field.specs.Code.{codeRule}
@@ -79,15 +78,25 @@ long-covered : (f : Form) (t : List ℕ) (n : ℕ) → n < width f optional
     → coveredAt f t (start f optional + n) ≡ checkedBy f t (spanOf f t)
 unfolding coveredAt start startIn width widthIn layout same rank
 long-covered Td1 t n h =
-    rw (ne-eqb (15 + n) 36 (λ e. omega arith), ne-eqb (15 + n) 44 (λ e. omega arith), ne-eqb (15 + n) 90 (λ e. omega arith), ne-eqb (15 + n) 59 (λ e. omega arith))
+    rw (
+      ne-eqb (15 + n) 36 (λ e. omega arith),
+      ne-eqb (15 + n) 44 (λ e. omega arith),
+      ne-eqb (15 + n) 90 (λ e. omega arith),
+      ne-eqb (15 + n) 59 (λ e. omega arith),
+    )
 long-covered Td2 t n h =
-    rw (ne-eqb (64 + n) 55 (λ e. omega arith), ne-eqb (64 + n) 63 (λ e. omega arith), ne-eqb (64 + n) 72 (λ e. omega arith), ne-eqb (64 + n) 71 (λ e. omega arith))
+    rw (
+      ne-eqb (64 + n) 55 (λ e. omega arith),
+      ne-eqb (64 + n) 63 (λ e. omega arith),
+      ne-eqb (64 + n) 72 (λ e. omega arith),
+      ne-eqb (64 + n) 71 (λ e. omega arith),
+    )
 long-covered Td3 t n h = absurd (omega (arith, h))
 
 -- ---- the checks
 
-expected-at : (f : Form) (t : List ℕ) (p : ℕ) (covers : List ℕ) → covers ≡ coveredAt f t p → eqb (getD t p 0) (digitOf covers) ≡ false
-    → Expected f t (checkOf covers) p
+expected-at : (f : Form) (t : List ℕ) (p : ℕ) (covers : List ℕ) → covers ≡ coveredAt f t p
+    → eqb (getD t p 0) (digitOf covers) ≡ false → Expected f t (checkOf covers) p
 unfolding digitOf checkOf
 expected-at f t p covers same wrong = record {
   worked-out = ap checkOf same;
@@ -142,7 +151,8 @@ each-field : (f : Form) (t : List ℕ) (span : Span) (x : Part) → Each (Tells 
 unfolding fieldCheck
 each-field f t span codePart = each-unless (Tells f t) (codeRule f (field f codePart t)) 3 (start f codePart) (λ e. omega arith)
 each-field f t span state = each-unless (Tells f t) (stateRule (field f state t)) 4 (start f state) (λ e. omega arith)
-each-field f t span nationality = each-unless (Tells f t) (stateRule (field f nationality t)) 4 (start f nationality) (λ e. omega arith)
+each-field f t span nationality =
+    each-unless (Tells f t) (stateRule (field f nationality t)) 4 (start f nationality) (λ e. omega arith)
 each-field f t span number = each-unless (Tells f t) (numberRule f t span) 5 (start f number) (λ e. omega arith)
 each-field f t span birth = each-unless (Tells f t) (birthRule (field f birth t)) 6 (start f birth) (λ e. omega arith)
 each-field f t span expiry = each-unless (Tells f t) (expiryRule (field f expiry t)) 6 (start f expiry) (λ e. omega arith)

@@ -1,44 +1,38 @@
 -- REQUEST 2026-02: a TD3 text with `<` for the personal check of fourteen fillers is read as the text with 0 in its place was
 -- (`left-out-read`), every other text as before (`others-as-before`); so those are newly accepted of which that was accepted
 -- (`newly-accepted`), and what was accepted keeps its answer (`still-accepted`).
-use Prim.Native.Nat.{ℕ, zero, suc, _+_, _*_, _-_, _≤_, _<_}
+use Prim.Native.Nat.{ℕ, suc, _+_, _-_, _≤_, _<_}
 use Prim.Native.Char.{code}
 use mathlib.Core.Path.{_≡_, refl, ap, sym, _∙_}
-use mathlib.Core.Bool.{Bool, true, false, cond, false≢true, _&&_}
+use mathlib.Core.Bool.{Bool, true, false, false≢true}
 use mathlib.Core.List.{List, [], _∷_, _++_, append-nil}
 use mathlib.Core.Logic.{_↔_}
 use native.Mathlib.Nat.{mod-lt}
 use native.Mathlib.Omega.{arith}
 use borrow.Author.Tests.{eqb-true, eqb-false}
 use lib.Dec.{eqb, lit<}
-use lib.ListN.{length, take, drop, getD, replicate, length-take, length-drop, length-append, take-append-drop}
+use lib.ListN.{length, take, drop, getD, length-take, length-drop, length-append, take-append-drop}
 use lib.ListN.{List·getD-append}
 use lib.Seq.{drop-cons, take-append-le, drop-append-le, take-append-add, getD-append-seam, getD-append-add}
 use Rattle.lent.proofs.Bools.{and-both}
 use Rattle.refusal.specs.Numbers.{expecting}
-use Rattle.refusal.specs.Outcome.{Outcome, passed, refused, refusedUnless, unless, orElse}
-use Rattle.refusal.proofs.Outcomes.{refused-not-passed, both-passed}
+use Rattle.refusal.specs.Outcome.{Outcome, passed, refused}
+use Rattle.refusal.proofs.Outcomes.{both-passed}
 use Rattle.zone.specs.declared.form.Form.{Form}
 use Rattle.zone.specs.declared.form.Form.the-variants.{Td1, Td2, Td3}
 use Rattle.zone.specs.declared.form.Recognised.{Recognised}
 use Rattle.zone.specs.declared.form.Recognised.the-variants.{As, Unknown}
-use Rattle.zone.specs.declared.record.Record.{Record}
 use Rattle.zone.specs.Alphabet.{filler, isFiller, isForeign, isCharacter, isDigit, isLetter, every, first, firstForeign}
-use Rattle.zone.specs.Part.{Part, code as codePart, state, number, numberCheck, optional, birth, birthCheck, sex, expiry, expiryCheck}
-use Rattle.zone.specs.Part.{nationality, optional2, composite, name, personal, personalCheck, rank, same}
+use Rattle.zone.specs.Part.{Part, code as codePart, state, number, numberCheck, optional, birth, birthCheck, sex, expiry}
+use Rattle.zone.specs.Part.{expiryCheck, nationality, optional2, composite, name, personal, personalCheck, rank, same}
 use Rattle.zone.specs.Form.{formOf, layout, partOf, parts, start, startIn, width, widthIn, total, field, longest}
 use Rattle.zone.specs.Form.{covers, pieceOf, pieces, line, cut, joinedCuts, covered}
-use Rattle.zone.specs.Record.{padded, trimmed}
-use Rattle.zone.specs.Rooms.{codeRoom, stateRoom, dateRoom, numberRoom, nameRoom, nine}
 use Rattle.zone.proofs.FormByLength.{told-by, by-told, as-same}
 use Rattle.digit.specs.Check.{value, sumFrom, checkOf, digitOf}
 use Rattle.digit.proofs.Sums.{sum-append}
-use Rattle.field.specs.Code.{codeRule}
-use Rattle.field.specs.Letters.{stateRule, sexRule, nameRule}
-use Rattle.field.specs.Date.{birthRule, expiryRule}
 use Rattle.text.specs.declared.number.Span.{Span}
 use Rattle.text.specs.declared.number.Span.the-variants.{Short}
-use Rattle.text.specs.Number.{isLong, spanOf, spanRule, numberRule, numberBy, checkedBy}
+use Rattle.text.specs.Number.{isLong, spanOf, numberRule, numberBy, checkedBy}
 use Rattle.text.specs.Order.{characters, fieldCheck, digitAt, numberDigit, furtherDigit, isLeftOut, personalDigit}
 use Rattle.text.specs.Order.{digitCheck, inOrder, verdictBy}
 use Rattle.text.specs.Read.{Answer, readText, readBy, answered, recordBy}
@@ -206,7 +200,8 @@ module _ (a b : List ℕ) (long : length a ≡ 86) where
     unfolding isLeftOut start startIn width widthIn layout same rank
     all-fillers =
         ap (every isFiller) (field-same personal (code "0") filler (omega arith))
-        ∙ and-both (isFiller (getD (text filler) (start Td3 personalCheck) 0)) (every isFiller (field Td3 personal (text filler))) out .1
+        ∙ and-both (isFiller (getD (text filler) (start Td3 personalCheck) 0))
+        (every isFiller (field Td3 personal (text filler))) out .1
 
     zero-passes : digitAt (text (code "0")) 86 (field Td3 personal (text (code "0"))) ≡ passed
     unfolding digitOf checkOf
@@ -272,7 +267,8 @@ unfolding isLeftOut isFiller total start startIn layout same rank
 parted t l =
     let there : getD t 86 0 ≡ filler = eqb-true (getD t 86 0) filler
     (and-both (eqb (getD t 86 0) filler) (every isFiller (field Td3 personal t)) (l .left-out) .0) in
-    let behind : drop 86 t ≡ filler ∷ drop 87 t = drop-cons t 86 0 (omega (arith, l .size)) ∙ ap (λ (c : ℕ). c ∷ drop 87 t) there in
+    let behind : drop 86 t ≡ filler ∷ drop 87 t = drop-cons t 86 0 (omega (arith, l .size))
+    ∙ ap (λ (c : ℕ). c ∷ drop 87 t) there in
     sym (take-append-drop 86 t) ∙ ap (λ (l : List ℕ). take 86 t ++ l) behind
 
 short-td3 : (t : List ℕ) → spanOf Td3 t ≡ Short
@@ -307,7 +303,8 @@ left-out-read t l =
 
 -- before, such a text was refused
 out-before : (t : List ℕ) → LeavesOut t → before.readText t .outcome ≡ passed → ⊥
-unfolding before.verdictBy before.digitCheck inOrder parts partOf layout start startIn same rank isLeftOut isFiller digitOf checkOf among
+unfolding before.verdictBy before.digitCheck inOrder parts partOf layout start startIn same rank isLeftOut isFiller
+    digitOf checkOf among
 out-before t l e =
     let stages = both-passed (characters t) _ (sym (answered-outcome (before.verdictBy Td3 t Short) (recordBy Td3 t Short))
     ∙ (ap (λ (x : Answer). x .outcome) (sym (before-td3 t (l .size))) ∙ e)) in

@@ -1,5 +1,5 @@
--- Reading a text before request 2026-02: the definitions that changed, word for word as they stood (text, specs/Order and specs/Read),
--- and those that rest on them.
+-- Reading a text before request 2026-02: the definitions that changed, word for word as they stood (text, specs/Order and
+-- specs/Read), and those that rest on them.
 use Prim.Native.Nat.{ℕ}
 use mathlib.Core.List.{List}
 use lib.ListN.{length}

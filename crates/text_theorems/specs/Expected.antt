@@ -1,5 +1,5 @@
--- The digit that a refusal 9 carries: document 02, 2026-07, "The check of one field shall answer with the digit that it worked out,
--- and every refusal 9 shall carry that digit up".
+-- The digit that a refusal 9 carries: document 02, 2026-07, "The check of one field shall answer with the digit that it worked
+-- out, and every refusal 9 shall carry that digit up".
 use Prim.Native.Nat.{ℕ, _+_, _≤_}
 use Prim.Native.Char.{code}
 use mathlib.Core.Path.{_≡_}
@@ -13,8 +13,8 @@ use Rattle.zone.specs.Form.{start, field, covered}
 use Rattle.digit.specs.Check.{checkOf}
 use Rattle.text.specs.Number.{spanOf, checkedBy}
 
--- the characters that document 01, "The text", has the check digit at a place run over: those of the birth, of the expiry and of the
--- personal number at theirs, all that the composite covers at its own, and at the one that is left those of the number
+-- the characters that document 01, "The text", has the check digit at a place run over: those of the birth, of the expiry and
+-- of the personal number at theirs, all that the composite covers at its own, and at the one that is left those of the number
 unfoldable pub coveredAt : Form → List ℕ → (place : ℕ) → List ℕ
 coveredAt f t place =
     cond (eqb place (start f birthCheck)) (field f birth t)

@@ -64,7 +64,8 @@ value-within s at tag v e =
 place-told : {A : Type 0} {n m : Why} {p q : ℕ} → _≡_ {A = Read A} (refusal n p) (refusal m q) → p ≡ q
 place-told e = cc
 
-value-or-refused : {A : Type 0} (b : Bool) (a : A) (at : ℕ) (n : Why) (p : ℕ) → cond b (value a) (refusal (by 10) at) ≡ refusal n p → p ≡ at
+value-or-refused : {A : Type 0} (b : Bool) (a : A) (at : ℕ) (n : Why) (p : ℕ)
+    → cond b (value a) (refusal (by 10) at) ≡ refusal n p → p ≡ at
 value-or-refused true a at n p e = absurd (never-value n p a (sym e))
 value-or-refused false a at n p e = sym (place-told e)
 

@@ -1,5 +1,5 @@
 -- What was answered is told by what the papers say of it: `takenOf` gives one reading to no two answers.
-use mathlib.Core.Path.{_≡_, ap, sym, _∙_}
+use mathlib.Core.Path.{_≡_, ap, sym}
 use Rattle.refusal.proofs.Numbers.{refused-tells}
 use Rattle.tlv.specs.declared.Taken.{Taken}
 use Rattle.tlv.specs.declared.Taken.the-variants.{Value, Refused}

@@ -55,7 +55,8 @@ sizeAt s place = sizeOf (getD s place 0) (getD s (place + 1) 0) (getD s (place +
 
 -- the value of the element with this tag that stands at a place of what holds it, or 10 there
 unfoldable pub element : List ℕ → (at tag : ℕ) → Read Stretch
-element s at tag = cond (eqb (tagAt s at tag) tag) (sized s at (at + tagWidth tag) (sizeAt s (at + tagWidth tag))) (refusal (by 10) at)
+element s at tag = cond (eqb (tagAt s at tag) tag) (sized s at (at + tagWidth tag) (sizeAt s (at + tagWidth tag)))
+    (refusal (by 10) at)
 
 -- the paper's number and values of each case
 abbrev pub takenOf : Taken → Read Stretch

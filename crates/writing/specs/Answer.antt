@@ -16,7 +16,8 @@ use Rattle.writing.specs.Text.{textOf}
 -- 17 for a record that is not sound, then 16; else 72, 88 or 90 octets are written
 unfoldable pub textAnswer : Record → List ℕ → Length
 textAnswer r out =
-    cond (isSound r) (cond (leb (total (r .form)) (length out)) (written (total (r .form))) (refused (by 16) 0)) (refused (by 17) 0)
+    cond (isSound r)
+    (cond (leb (total (r .form)) (length out)) (written (total (r .form))) (refused (by 16) 0)) (refused (by 17) 0)
 
 -- a refusal changes no octet, a success those of the text and no others
 unfoldable pub textOut : Record → List ℕ → List ℕ
