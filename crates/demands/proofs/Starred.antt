@@ -13,9 +13,11 @@ use Rattle.field.specs.Date.{pairOf, yearOf, monthOf, dayOf, isLeap, isShort, d
 use Rattle.field.specs.Date.{isKnown, expiryRule}
 use Rattle.field.specs.Code.{isSecond, passportRule, codeRule}
 use Rattle.field.specs.Letters.{lettersThenFillers, stateRule, sexRule, nameRule, isNameCharacter}
-use Rattle.text.specs.Number.{isLong, spanOf, spanRule, numberRule, numberBy, checkedBy}
-use Rattle.text.specs.Order.{characters, fieldCheck, digitAt, numberDigit, furtherDigit, isLeftOut, personalDigit, digitCheck}
-use Rattle.text.specs.Order.{inOrder, verdictBy}
+use Rattle.text_digits.specs.Number.{isLong, spanOf, spanRule, numberRule, numberBy, checkedBy}
+use Rattle.text_digits.specs.Digits.{digitAt, numberDigit, furtherDigit, isLeftOut, personalDigit, digitCheck}
+use Rattle.text.specs.Order.{characters, fieldCheck}
+use Rattle.text_digits.specs.Digits.{inOrder}
+use Rattle.text.specs.Order.{verdictBy}
 use Rattle.text.specs.Read.{recordBy, answered, readBy, readText}
 use Rattle.entry.specs.Bits.{put, gathered}
 use Rattle.entry.specs.Bits as bits

@@ -19,8 +19,9 @@ use Rattle.zone.specs.Part.{rank, same}
 use Rattle.zone.specs.Form.{layout, partOf, parts, start, startIn, width, widthIn, field, total}
 use Rattle.zone.proofs.Every.{every-first}
 use Rattle.field.specs.Code.{isCardLetter, cardRule, codeRule}
-use Rattle.text.specs.Number.{spanOf}
-use Rattle.text.specs.Order.{characters, fieldCheck, inOrder, verdictBy}
+use Rattle.text_digits.specs.Number.{spanOf}
+use Rattle.text_digits.specs.Digits.{inOrder}
+use Rattle.text.specs.Order.{characters, fieldCheck, verdictBy}
 use Rattle.text.specs.Read.{Answer, readText, recordBy}
 use Rattle.c40.specs.Values.{space, isC40}
 use Rattle.seal_header.specs.Header.{filled}

@@ -1,5 +1,3 @@
 -- The laws of this crate.
-pub mod Numbers  -- what a number leaves in its room, and where a long one ends
-pub mod Walks  -- the order in which the code joins its checks is the text order
-pub mod Written  -- a digit that was worked out, against its place
+pub mod Walks  -- the order in which the code joins the fields' checks is the text order
 pub mod Near  -- a refusal stands near the text

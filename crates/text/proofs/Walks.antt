@@ -1,4 +1,4 @@
--- The order in which the code joins its checks is the text order of each form.
+-- The order in which the code joins the fields' checks is the text order of each form.
 use Prim.Native.Nat.{ℕ}
 use mathlib.Core.Path.{_≡_}
 use mathlib.Core.List.{List}
@@ -7,12 +7,12 @@ use Rattle.refusal.specs.Outcome.{Outcome, orElse}
 use Rattle.refusal.proofs.Outcomes.{orElse-assoc, orElse-passed}
 use Rattle.zone.specs.declared.form.Form.{Form}
 use Rattle.zone.specs.declared.form.Form.the-variants.{Td1, Td2, Td3}
-use Rattle.zone.specs.Part.{Part, code, state, number, numberCheck, birth, birthCheck, sex, expiry, expiryCheck, nationality}
-use Rattle.zone.specs.Part.{composite, name, personal, personalCheck, optional, rank, same}
-use Rattle.zone.specs.Form.{layout, partOf, parts, start, startIn, width, widthIn}
-use Rattle.text.specs.Order.{fieldCheck, digitCheck, inOrder}
-use Rattle.text.specs.Inner.Checks.{ifHas, inTurn}
-use Rattle.text.specs.declared.number.Span.{Span}
+use Rattle.zone.specs.Part.{Part, code, state, number, birth, sex, expiry, nationality, name, rank, same}
+use Rattle.zone.specs.Form.{layout, partOf, parts, start, startIn}
+use Rattle.text_digits.specs.Digits.{inOrder}
+use Rattle.text_digits.specs.Inner.Checks.{inTurn}
+use Rattle.text_digits.specs.declared.number.Span.{Span}
+use Rattle.text.specs.Order.{fieldCheck}
 
 -- what the code joins in every form: code and state, birth, sex and expiry
 abbrev opening : (Part → Outcome) → Outcome
@@ -30,20 +30,3 @@ unfolding inOrder inTurn fieldCheck parts partOf layout start startIn rank same
 fields-in-order Td1 t span = simp (orElse-assoc, orElse-passed)
 fields-in-order Td2 t span = simp (orElse-assoc, orElse-passed)
 fields-in-order Td3 t span = simp (orElse-assoc, orElse-passed)
-
--- the dates' digits, and the last two: these too stand so in every form
-abbrev dates : (Part → Outcome) → Outcome
-dates check = orElse (check birthCheck) (check expiryCheck)
-
-abbrev last : Form → (Part → Outcome) → Outcome
-last f check = orElse (ifHas f personal (check personalCheck)) (check composite)
-
--- the optional field stands before birth, TD1, or behind expiry, or there is none
-pub digits-in-order : (f : Form) (t : List ℕ) (span : Span) → let check = digitCheck f t span in
-    let further = ifHas f optional (check optional) in
-    orElse (check numberCheck) (orElse (inTurn (ltb (start f optional) (start f birth)) further (dates check)) (last f check))
-    ≡ inOrder check (parts f)
-unfolding inOrder inTurn digitCheck ifHas parts partOf layout start startIn width widthIn rank same
-digits-in-order Td1 t span = simp (orElse-assoc, orElse-passed)
-digits-in-order Td2 t span = simp (orElse-assoc, orElse-passed)
-digits-in-order Td3 t span = simp (orElse-assoc, orElse-passed)

@@ -1,4 +1,2 @@
-pub mod Number
 pub mod Order
 pub mod Read
-pub mod Inner

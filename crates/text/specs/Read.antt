@@ -12,9 +12,9 @@ use Rattle.zone.specs.declared.form.Form.{Form}
 use Rattle.zone.specs.declared.form.Recognised.{Recognised}
 use Rattle.zone.specs.declared.form.Recognised.the-variants.{As, Unknown}
 use Rattle.zone.specs.declared.record.Record.{Record}
-use Rattle.text.specs.Number.{spanOf, numberBy}
+use Rattle.text_digits.specs.Number.{spanOf, numberBy}
 use Rattle.text.specs.Order.{verdictBy}
-use Rattle.text.specs.declared.number.Span.{Span}
+use Rattle.text_digits.specs.declared.number.Span.{Span}
 use Rattle.text.specs.declared.read.Reading.{Reading}
 
 -- an answer in the paper's terms: what was decided, and the record

@@ -22,9 +22,10 @@ use Rattle.digit.specs.Check.{digitOf}
 use Rattle.field.specs.Code.{codeRule}
 use Rattle.field.specs.Letters.{stateRule, sexRule, nameRule}
 use Rattle.field.specs.Date.{birthRule, expiryRule}
-use Rattle.text.specs.declared.number.Span.{Span}
-use Rattle.text.specs.Number.{isLong, spanOf, spanRule, numberRule, checkedBy}
-use Rattle.text.specs.Order.{characters, fieldCheck, numberDigit, furtherDigit, digitCheck, inOrder, verdictBy}
+use Rattle.text_digits.specs.declared.number.Span.{Span}
+use Rattle.text_digits.specs.Number.{isLong, spanOf, spanRule, numberRule, checkedBy}
+use Rattle.text_digits.specs.Digits.{numberDigit, furtherDigit, digitCheck, inOrder}
+use Rattle.text.specs.Order.{characters, fieldCheck, verdictBy}
 use Rattle.text.specs.Read.{readText, readBy, answered, recordBy}
 use Rattle.text_theorems.specs.Accepted.{Keeps, has, fillerAt}
 use Rattle.text_theorems.proofs.FirstFailing.{answered-outcome}

@@ -26,13 +26,13 @@ use Rattle.digit.specs.Check.{sumFrom, checkOf, digitOf}
 use Rattle.field.specs.Code.{codeRule}
 use Rattle.field.specs.Letters.{stateRule, sexRule, nameRule}
 use Rattle.field.specs.Date.{birthRule, expiryRule}
-use Rattle.text.specs.declared.number.Span.{Span}
-use Rattle.text.specs.declared.number.Span.the-variants.{Short, Long, Bad}
-use Rattle.text.specs.Number.{spanOf, checkedBy, numberRule}
-use Rattle.text.specs.Order.{characters, fieldCheck, digitAt, numberDigit, furtherDigit, isLeftOut, personalDigit}
-use Rattle.text.specs.Order.{digitCheck, inOrder, verdictBy}
+use Rattle.text_digits.specs.declared.number.Span.{Span}
+use Rattle.text_digits.specs.declared.number.Span.the-variants.{Short, Long, Bad}
+use Rattle.text_digits.specs.Number.{spanOf, checkedBy, numberRule}
+use Rattle.text_digits.specs.Digits.{digitAt, numberDigit, furtherDigit, isLeftOut, personalDigit, digitCheck, inOrder}
+use Rattle.text.specs.Order.{characters, fieldCheck, verdictBy}
 use Rattle.text.specs.Read.{readText, readBy, recordBy}
-use Rattle.text.proofs.Numbers.{span-within}
+use Rattle.text_digits.proofs.Numbers.{span-within}
 use Rattle.text_theorems.specs.Ordered.{checksOf, FirstFailing}
 use Rattle.text_theorems.specs.Expected.{coveredAt, Expected}
 use Rattle.text_theorems.proofs.FirstFailing.{answered-outcome, refused-exactly}

@@ -16,10 +16,11 @@ use Rattle.zone.specs.Record.{blank}
 use Rattle.zone.specs.declared.form.Form.{Form}
 use Rattle.zone.specs.declared.form.Form.the-variants.{Td1, Td2, Td3}
 use Rattle.zone.specs.Form.{formOf, layout, partOf, parts, start, startIn, width}
-use Rattle.text.specs.declared.number.Span.the-variants.{Long}
-use Rattle.text.specs.Number.{spanOf}
-use Rattle.text.proofs.Numbers.{span-within}
-use Rattle.text.specs.Order.{inOrder, verdictBy, fieldCheck, digitCheck}
+use Rattle.text_digits.specs.declared.number.Span.the-variants.{Long}
+use Rattle.text_digits.specs.Number.{spanOf}
+use Rattle.text_digits.proofs.Numbers.{span-within}
+use Rattle.text_digits.specs.Digits.{inOrder, digitCheck}
+use Rattle.text.specs.Order.{verdictBy, fieldCheck}
 use Rattle.text.specs.Read.{readText, readBy, answered, recordBy}
 use Rattle.zone.specs.declared.record.Record.{Record}
 use Rattle.text_theorems.specs.Ordered.{checksBy, checksOf, FirstFailing, here, later, isRising}

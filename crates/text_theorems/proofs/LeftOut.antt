@@ -30,11 +30,13 @@ use Rattle.zone.specs.Form.{covers, pieceOf, pieces, line, cut, joinedCuts, cov
 use Rattle.zone.proofs.FormByLength.{told-by, by-told, as-same}
 use Rattle.digit.specs.Check.{value, sumFrom, checkOf, digitOf}
 use Rattle.digit.proofs.Sums.{sum-append}
-use Rattle.text.specs.declared.number.Span.{Span}
-use Rattle.text.specs.declared.number.Span.the-variants.{Short}
-use Rattle.text.specs.Number.{isLong, spanOf, numberRule, numberBy, checkedBy}
-use Rattle.text.specs.Order.{characters, fieldCheck, digitAt, numberDigit, furtherDigit, isLeftOut, personalDigit}
-use Rattle.text.specs.Order.{digitCheck, inOrder, verdictBy}
+use Rattle.text_digits.specs.declared.number.Span.{Span}
+use Rattle.text_digits.specs.declared.number.Span.the-variants.{Short}
+use Rattle.text_digits.specs.Number.{isLong, spanOf, numberRule, numberBy, checkedBy}
+use Rattle.text_digits.specs.Digits.{digitAt, numberDigit, furtherDigit, isLeftOut, personalDigit}
+use Rattle.text.specs.Order.{characters, fieldCheck}
+use Rattle.text_digits.specs.Digits.{digitCheck, inOrder}
+use Rattle.text.specs.Order.{verdictBy}
 use Rattle.text.specs.Read.{Answer, readText, readBy, answered, recordBy}
 use Rattle.text_theorems.specs.Accepted.{among}
 use Rattle.text_theorems.specs.Before as before

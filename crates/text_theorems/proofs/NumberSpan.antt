@@ -10,8 +10,8 @@ use Rattle.zone.specs.declared.form.Form.{Form}
 use Rattle.zone.specs.declared.form.Form.the-variants.{Td1, Td2, Td3}
 use Rattle.zone.specs.Part.{optional, rank, same}
 use Rattle.zone.specs.Form.{width, longest, parts, partOf, layout}
-use Rattle.text.specs.declared.number.Span.the-variants.{Short, Long, Bad}
-use Rattle.text.specs.Number.{isLong, cutAt, spanOf, spanRule}
+use Rattle.text_digits.specs.declared.number.Span.the-variants.{Short, Long, Bad}
+use Rattle.text_digits.specs.Number.{isLong, cutAt, spanOf, spanRule}
 use Rattle.text_theorems.specs.Accepted.{fillerAt, has, among}
 
 pub short-span : (f : Form) (t : List ℕ) → isLong f t ≡ false → spanOf f t ≡ Short

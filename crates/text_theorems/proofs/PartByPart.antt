@@ -13,7 +13,7 @@ use Rattle.refusal.proofs.Outcomes.{both-passed, rule-kept, kept-rule}
 use Rattle.zone.specs.declared.form.Form.{Form}
 use Rattle.zone.specs.Part.{Part, personal, personalCheck, same}
 use Rattle.zone.specs.Form.{start, field}
-use Rattle.text.specs.Order.{inOrder, digitAt, isLeftOut, personalDigit}
+use Rattle.text_digits.specs.Digits.{inOrder, digitAt, isLeftOut, personalDigit}
 use Rattle.digit.specs.Check.{checkOf, digitOf}
 use Rattle.text_theorems.specs.Accepted.{among}
 use Rattle.zone.proofs.Parts.{same-one, same-self}

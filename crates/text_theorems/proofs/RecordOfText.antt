@@ -20,7 +20,7 @@ use Rattle.zone.proofs.Padded.{padded-exact, padded-spare, padded-trimmed, leng
 use Rattle.field.specs.Code.{codeRule}
 use Rattle.field.specs.Letters.{stateRule, nameRule, isNameCharacter}
 use Rattle.field.specs.Date.{birthRule, expiryRule}
-use Rattle.text.specs.Number.{isLong, spanOf, numberBy}
+use Rattle.text_digits.specs.Number.{isLong, spanOf, numberBy}
 use Rattle.text.specs.Read.{readText, answered, recordBy}
 use Rattle.sound.specs.Sound.{isShaped, isHeld, isSolid, isNumber, isDocument, isHolder, isSound}
 use Rattle.text_theorems.specs.Accepted.{Keeps, fillerAt}

@@ -26,7 +26,7 @@ use Rattle.digit.specs.Check.{digitOf}
 use Rattle.field.specs.Code.{codeRule}
 use Rattle.field.specs.Letters.{stateRule, sexRule, nameRule, isNameCharacter}
 use Rattle.field.specs.Date.{birthRule, expiryRule}
-use Rattle.text.specs.Number.{isLong, spanOf, numberBy}
+use Rattle.text_digits.specs.Number.{isLong, spanOf, numberBy}
 use Rattle.text.specs.Read.{Answer, readText, answered, recordBy}
 use Rattle.sound.specs.Sound.{isSolid, isSound}
 use Rattle.writing.specs.Text.{numberIn, furtherIn, isWide, textOf}

@@ -14,8 +14,8 @@ use Rattle.digit.specs.Check.{digitOf}
 use Rattle.field.specs.Code.{codeRule}
 use Rattle.field.specs.Letters.{stateRule, sexRule, nameRule}
 use Rattle.field.specs.Date.{birthRule, expiryRule}
-use Rattle.text.specs.Number.{isLong}
-use Rattle.text.specs.Order.{isLeftOut}
+use Rattle.text_digits.specs.Number.{isLong}
+use Rattle.text_digits.specs.Digits.{isLeftOut}
 
 -- whether a form has a part
 unfoldable pub among : Part → List Part → Bool

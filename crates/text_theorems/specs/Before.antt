@@ -12,10 +12,11 @@ use Rattle.zone.specs.Record.{blank}
 use Rattle.zone.specs.declared.form.Form.{Form}
 use Rattle.zone.specs.declared.form.Recognised.{Recognised}
 use Rattle.zone.specs.declared.form.Recognised.the-variants.{As, Unknown}
-use Rattle.text.specs.Number.{spanOf}
-use Rattle.text.specs.Order.{characters, fieldCheck, digitAt, numberDigit, furtherDigit, inOrder}
+use Rattle.text_digits.specs.Number.{spanOf}
+use Rattle.text_digits.specs.Digits.{digitAt, numberDigit, furtherDigit, inOrder}
+use Rattle.text.specs.Order.{characters, fieldCheck}
 use Rattle.text.specs.Read.{Answer, recordBy, answered}
-use Rattle.text.specs.declared.number.Span.{Span}
+use Rattle.text_digits.specs.declared.number.Span.{Span}
 
 unfoldable pub digitCheck : Form → List ℕ → Span → Part → Outcome
 digitCheck f t span numberCheck = numberDigit f t span

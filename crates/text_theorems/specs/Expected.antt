@@ -11,7 +11,7 @@ use Rattle.zone.specs.declared.form.Form.{Form}
 use Rattle.zone.specs.Part.{birth, birthCheck, expiry, expiryCheck, composite, personal, personalCheck}
 use Rattle.zone.specs.Form.{start, field, covered}
 use Rattle.digit.specs.Check.{checkOf}
-use Rattle.text.specs.Number.{spanOf, checkedBy}
+use Rattle.text_digits.specs.Number.{spanOf, checkedBy}
 
 -- the characters that document 01, "The text", has the check digit at a place run over: those of the birth, of the expiry and
 -- of the personal number at theirs, all that the composite covers at its own, and at the one that is left those of the number

@@ -9,7 +9,7 @@ use Rattle.zone.specs.declared.record.Record.{Record}
 use Rattle.zone.specs.Part.{code, state, number, optional, nationality, birth, sex, expiry, name}
 use Rattle.zone.specs.Form.{start, field}
 use Rattle.zone.specs.Record.{trimmed}
-use Rattle.text.specs.Number.{isLong}
+use Rattle.text_digits.specs.Number.{isLong}
 use Rattle.text_theorems.specs.Accepted.{fillerAt}
 
 -- the fields that stand in the text, number and name without their trailing fillers

@@ -8,7 +8,7 @@ use lib.ListN.{length, take, drop}
 use Rattle.zone.specs.declared.form.Form.the-variants.{Td3}
 use Rattle.zone.specs.Part.{personalCheck}
 use Rattle.zone.specs.Form.{start, total}
-use Rattle.text.specs.Order.{isLeftOut}
+use Rattle.text_digits.specs.Digits.{isLeftOut}
 
 -- a TD3 text with `<` for the personal check of fourteen fillers
 pub record LeavesOut (t : List ℕ) : Type 0 where

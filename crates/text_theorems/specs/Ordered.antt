@@ -9,8 +9,9 @@ use Rattle.refusal.specs.Outcome.{Outcome, passed, refused}
 use Rattle.zone.specs.declared.form.Recognised.{Recognised}
 use Rattle.zone.specs.declared.form.Recognised.the-variants.{As, Unknown}
 use Rattle.zone.specs.Form.{formOf, parts}
-use Rattle.text.specs.Number.{spanOf}
-use Rattle.text.specs.Order.{characters, fieldCheck, digitCheck}
+use Rattle.text_digits.specs.Number.{spanOf}
+use Rattle.text_digits.specs.Digits.{digitCheck}
+use Rattle.text.specs.Order.{characters, fieldCheck}
 
 -- 1, 2, then 3 to 8 by field in text order, then check digits in text order
 unfoldable pub checksBy : Recognised → List ℕ → List Outcome

@@ -1,6 +1,6 @@
 -- The cases of `spanRule`.
 use borrow.Author.Needs.{needs}
-use Rattle.text.specs.Number.{spanRule}
+use Rattle.text_digits.specs.Number.{spanRule}
 use Rattle.text.proofs.fields.is_ended.Statement.{statement}
 use Rattle.text.proofs.fields.is_ended.Tie as tie
 

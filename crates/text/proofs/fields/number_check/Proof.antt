@@ -4,7 +4,7 @@ use Rattle.zone.proofs.Widths.{fixed}
 use Rattle.text.specs.Order.{fieldCheck}
 use Rattle.zone.specs.Form.{field}
 use Rattle.zone.specs.Inner.Places.{placesOf}
-use Rattle.text.specs.Number.{numberRule}
+use Rattle.text_digits.specs.Number.{numberRule}
 use Rattle.text.proofs.fields.number_check.Statement.{statement}
 use Rattle.text.proofs.fields.number_check.Tie as tie
 

@@ -1,6 +1,6 @@
 -- The cases of `furtherIn`.
 use borrow.Author.Needs.{needs}
-use Rattle.text.specs.Inner.Spans.{furtherIn}
+use Rattle.text_digits.specs.Inner.Spans.{furtherIn}
 use Rattle.text.proofs.record.further_in.Statement.{statement}
 use Rattle.text.proofs.record.further_in.Tie as tie
 

@@ -4,7 +4,7 @@ use denote.Ref.{now}
 use Rattle.zone.proofs.Widths.{fixed}
 use Rattle.zone.specs.Form.{field}
 use Rattle.zone.specs.Inner.Places.{placesOf}
-use Rattle.text.proofs.Numbers.{number-room}
+use Rattle.text_digits.proofs.Numbers.{number-room}
 use Rattle.text.proofs.record.number_chars.Statement.{statement}
 use Rattle.text.proofs.record.number_chars.Tie as tie
 

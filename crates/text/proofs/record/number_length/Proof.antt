@@ -8,7 +8,7 @@ use Rattle.zone.specs.Part.{number, optional}
 use Rattle.zone.proofs.Padded.{trimmed-length}
 use Rattle.zone.specs.Form.{field, start}
 use Rattle.zone.specs.Inner.Places.{placesOf}
-use Rattle.text.specs.Number.{numberBy}
+use Rattle.text_digits.specs.Number.{numberBy}
 use Rattle.text.proofs.record.number_length.Statement.{statement}
 use Rattle.text.proofs.record.number_length.Tie as tie
 

@@ -1,0 +1,32 @@
+-- The order in which the code joins the check digits is the text order of each form.
+use Prim.Native.Nat.{ℕ}
+use mathlib.Core.Path.{_≡_}
+use mathlib.Core.List.{List}
+use lib.Dec.{ltb}
+use Rattle.refusal.specs.Outcome.{Outcome, orElse}
+use Rattle.refusal.proofs.Outcomes.{orElse-assoc, orElse-passed}
+use Rattle.zone.specs.declared.form.Form.{Form}
+use Rattle.zone.specs.declared.form.Form.the-variants.{Td1, Td2, Td3}
+use Rattle.zone.specs.Part.{Part, numberCheck, optional, birth, birthCheck, expiryCheck, personal, personalCheck, composite}
+use Rattle.zone.specs.Part.{rank, same}
+use Rattle.zone.specs.Form.{layout, partOf, parts, start, startIn, width, widthIn}
+use Rattle.text_digits.specs.Digits.{digitCheck, inOrder}
+use Rattle.text_digits.specs.Inner.Checks.{ifHas, inTurn}
+use Rattle.text_digits.specs.declared.number.Span.{Span}
+
+-- what the code joins in every form: the dates' digits, and the last two
+abbrev dates : (Part → Outcome) → Outcome
+dates check = orElse (check birthCheck) (check expiryCheck)
+
+abbrev last : Form → (Part → Outcome) → Outcome
+last f check = orElse (ifHas f personal (check personalCheck)) (check composite)
+
+-- the optional field stands before birth, TD1, or behind expiry, or there is none
+pub digits-in-order : (f : Form) (t : List ℕ) (span : Span) → let check = digitCheck f t span in
+    let further = ifHas f optional (check optional) in
+    orElse (check numberCheck) (orElse (inTurn (ltb (start f optional) (start f birth)) further (dates check)) (last f check))
+    ≡ inOrder check (parts f)
+unfolding inOrder inTurn digitCheck ifHas parts partOf layout start startIn width widthIn rank same
+digits-in-order Td1 t span = simp (orElse-assoc, orElse-passed)
+digits-in-order Td2 t span = simp (orElse-assoc, orElse-passed)
+digits-in-order Td3 t span = simp (orElse-assoc, orElse-passed)
