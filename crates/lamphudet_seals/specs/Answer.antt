@@ -6,7 +6,7 @@ use Rattle.refusal.specs.Numbers.{noDigit, numberOf, expectedOf}
 use Rattle.refusal.specs.Length.{Length, written, refused}
 use Rattle.tlv.specs.declared.Stretch.{Stretch}
 use Rattle.entry.specs.Entered.{enteredAnswer, enteredOut}
-use Rattle.seal_header.specs.declared.day.Day.{Day}
+use Rattle.seal_fields.specs.declared.day.Day.{Day}
 use Rattle.seal_header.specs.declared.header.Header.{Header}
 use Rattle.seal_header.specs.Header.{blankHeader}
 use Rattle.seal.specs.Seal.{readSeal}

@@ -7,7 +7,7 @@ use crate::SealInC;
 use crate::StretchInC;
 use refusal::NO_DIGIT;
 use refusal::Written;
-use seal_header::day::Day;
+use seal_fields::day::Day;
 use seal_header::header::Header;
 use tlv::Stretch;
 

@@ -14,8 +14,9 @@ use Rattle.text.specs.Read.{Answer, readText}
 use Rattle.tlv.specs.declared.Stretch.{Stretch}
 use Rattle.tlv.specs.Read.{Read, value, refusal, andThen, checked}
 use Rattle.c40.specs.Field.{isField, fieldAt}
+use Rattle.seal_fields.specs.Spaces.{filled}
 use Rattle.seal_header.specs.declared.header.Header.{Header}
-use Rattle.seal_header.specs.Header.{headerCheck, headerOf, headerEnd, blankHeader, filled}
+use Rattle.seal_header.specs.Header.{headerCheck, headerOf, headerEnd, blankHeader}
 use Rattle.seal.specs.declared.features.Features.{Features}
 use Rattle.seal.specs.declared.read.Seal.{Seal}
 use Rattle.seal.specs.Features.{features}

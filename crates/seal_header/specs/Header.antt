@@ -1,8 +1,8 @@
 -- The header of a seal, for emergency documents: document 02, 2026-08, "octet DC, version octet, issuing country, signer and
 -- certificate reference, issue date, signature date, feature definition reference, type category" (source 002, table 1).
 use Prim.Native.Nat.{ℕ, _+_}
-use mathlib.Core.Bool.{Bool, cond, _||_}
-use mathlib.Core.List.{List, map}
+use mathlib.Core.Bool.{Bool, _||_}
+use mathlib.Core.List.{List}
 use mathlib.Core.Path.{_≡_}
 use lib.Dec.{eqb}
 use lib.ListN.{length, take, drop, getD, replicate}
@@ -11,17 +11,13 @@ use Rattle.zone.specs.Alphabet.{filler}
 use Rattle.zone.specs.Record.{padded}
 use Rattle.zone.specs.Rooms.{stateRoom}
 use Rattle.field.specs.Letters.{stateRule}
-use Rattle.c40.specs.Values.{space}
 use Rattle.c40.specs.Field.{fieldAt}
-use Rattle.seal_header.specs.declared.day.Day.{Day}
+use Rattle.seal_fields.specs.declared.day.Day.{Day}
+use Rattle.seal_fields.specs.Day.{isDay, dayAt}
+use Rattle.seal_fields.specs.Spaces.{filled}
 use Rattle.seal_header.specs.declared.header.Header.{Header}
 use Rattle.seal_header.specs.declared.header.Headed.{Headed}
-use Rattle.seal_header.specs.Day.{isDay, dayAt}
 use Rattle.seal_header.specs.Reference.{version, width, reference, isReference, before}
-
--- spaces become fillers
-unfoldable pub filled : List ℕ → List ℕ
-filled t = map (λ (c : ℕ). cond (eqb c space) filler c) t
 
 -- version octets 02 and 03 are kept
 unfoldable pub isVersion : ℕ → Bool

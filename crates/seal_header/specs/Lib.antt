@@ -1,5 +1,3 @@
--- a calendar day in three octets
-pub mod Day
 -- the signer and the certificate reference
 pub mod Reference
 -- the header's fields, and their checks in order

@@ -1,29 +1,18 @@
 -- The signer and the certificate reference: source 002, table 1; document 02, 2026-08, "Version octets 02 and 03 are kept, laid
 -- out as in source 002 and Doc 9303-13". 02: nine characters. 03: six, of which the last two say in hexadecimal how many more
 -- follow.
-use Prim.Native.Nat.{ℕ, _+_, _-_, _*_}
-use Prim.Native.Char.{code}
+use Prim.Native.Nat.{ℕ, _+_, _*_}
 use mathlib.Core.Bool.{Bool, cond, _&&_, _||_}
 use mathlib.Core.List.{List}
-use lib.Dec.{eqb, leb}
+use lib.Dec.{eqb}
 use lib.ListN.{drop, getD}
 use Rattle.zone.specs.Alphabet.{isDigit, isLetter, every}
 use Rattle.c40.specs.Field.{octetsFor, fieldAt}
+use Rattle.seal_fields.specs.Hex.{isHex, hexOf}
 
 -- the version octet stands at 1, the reference at 4
 unfoldable pub version : List ℕ → ℕ
 version s = getD s 1 0
-
--- A to F
-unfoldable pub isHexLetter : ℕ → Bool
-isHexLetter c = leb (code "A") c && leb c (code "F")
-
--- of 0-9 and A-F
-unfoldable pub isHex : ℕ → Bool
-isHex c = isDigit c || isHexLetter c
-
-unfoldable pub hexOf : ℕ → ℕ
-hexOf c = cond (isDigit c) (c - code "0") (cond (isHexLetter c) (c - code "A" + 10) 0)
 
 -- how many more the six characters say
 unfoldable pub moreBy : List ℕ → ℕ

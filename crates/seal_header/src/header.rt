@@ -5,14 +5,14 @@ ghost use lib.ListN.{length};
 ghost use Rattle.refusal.specs.Outcome.{outcomeOf};
 ghost use Rattle.seal_header.specs.Reference.{before};
 ghost use Rattle.seal_header.specs.Header as Head;
-use crate::day::Day;
-use crate::day::day_at;
-use crate::day::is_day;
 use crate::reference;
-use crate::spaces::to_fillers;
 use field::letters::is_state;
 use refusal::Cause;
 use refusal::Verdict;
+use seal_fields::day::Day;
+use seal_fields::day::day_at;
+use seal_fields::day::is_day;
+use seal_fields::spaces::to_fillers;
 use zone::alphabet::FILLER;
 use zone::form::Form;
 

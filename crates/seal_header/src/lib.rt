@@ -1,6 +1,3 @@
 // The header of a seal: its fields from the left, and what is handed out of them.
-pub mod day;
 pub mod header;
-mod hex;
 mod reference;
-pub mod spaces;

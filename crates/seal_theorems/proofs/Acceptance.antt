@@ -23,7 +23,8 @@ use Rattle.tlv.proofs.Joined.{value-then, value-checked}
 use Rattle.c40.specs.Image.{imageOf}
 use Rattle.c40.specs.Field.{isField}
 use Rattle.c40.proofs.Images.{image-length}
-use Rattle.seal_header.specs.Header.{headerCheck, headerOf, headerEnd, filled}
+use Rattle.seal_fields.specs.Spaces.{filled}
+use Rattle.seal_header.specs.Header.{headerCheck, headerOf, headerEnd}
 use Rattle.seal.specs.declared.features.Features.{Features}
 use Rattle.seal.specs.Features.{textTag, signatureTag, features}
 use Rattle.seal.specs.Signature.{signatureAt}

@@ -19,10 +19,11 @@ use Rattle.tlv.specs.Read.{Read, value, refusal}
 use Rattle.tlv.specs.Element.{element}
 use Rattle.tlv.proofs.Each.{EachRead, each-value, each-refusal, each-then, each-checked, each-step}
 use Rattle.c40.specs.Field.{isField}
-use Rattle.seal_header.specs.Day.{isDay, dayAt}
+use Rattle.seal_fields.specs.Day.{isDay, dayAt}
+use Rattle.seal_fields.specs.Spaces.{filled}
 use Rattle.seal_header.specs.Reference.{version, width, reference, isReference}
 use Rattle.seal_header.specs.declared.header.Header.{Header}
-use Rattle.seal_header.specs.Header.{isVersion, country, frontCheck, backCheck, checkBy, headerCheck, headerEnd, filled}
+use Rattle.seal_header.specs.Header.{isVersion, country, frontCheck, backCheck, checkBy, headerCheck, headerEnd}
 use Rattle.seal.specs.declared.features.Features.{Features}
 use Rattle.seal.specs.Features.{numbered, signatureTag, featureRule, featureAt, isEnd, textPlace, featuresFrom, features}
 use Rattle.seal.specs.Signature.{signatureAt}

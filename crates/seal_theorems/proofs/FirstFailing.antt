@@ -19,10 +19,11 @@ use Rattle.tlv.specs.Cut.{hasOctets}
 use Rattle.tlv.proofs.Joined.{checked-outcome, then-outcome, then-then}
 use Rattle.tlv.proofs.Past.{refused-there}
 use Rattle.c40.specs.Field.{isField}
+use Rattle.seal_fields.specs.Day.{dayAt}
+use Rattle.seal_fields.specs.Spaces.{filled}
 use Rattle.seal_header.specs.declared.header.Header.{Header}
-use Rattle.seal_header.specs.Day.{dayAt}
 use Rattle.seal_header.specs.Reference.{version, width, reference, isReference}
-use Rattle.seal_header.specs.Header.{isVersion, country, frontCheck, backCheck, checkBy, headerCheck, headerOf, headerEnd, filled}
+use Rattle.seal_header.specs.Header.{isVersion, country, frontCheck, backCheck, checkBy, headerCheck, headerOf, headerEnd}
 use Rattle.seal.specs.declared.features.Features.{Features}
 use Rattle.seal.specs.Features.{numbered, textTag, signatureTag, featureRule, featureAt, isEnd, textPlace, featuresFrom, features}
 use Rattle.seal.specs.Signature.{signatureAt}

@@ -11,7 +11,7 @@ use Rattle.lent.proofs.Bools.{or-either}
 use Rattle.refusal.specs.Outcome.{passed, orElse, unless}
 use Rattle.refusal.proofs.Outcomes.{both-passed, unless-kept}
 use Rattle.field.specs.Letters.{stateRule}
-use Rattle.seal_header.specs.Day.{isDay, dayAt}
+use Rattle.seal_fields.specs.Day.{isDay, dayAt}
 use Rattle.seal_header.specs.Reference.{version, width, reference, isReference}
 use Rattle.seal_header.specs.Header.{isVersion, country, frontCheck, backCheck, checkBy, headerCheck}
 

@@ -18,12 +18,12 @@ use Rattle.c40.specs.Image.{imageOf}
 use Rattle.c40.specs.Field.{octetsFor}
 use Rattle.c40.proofs.Images.{image-length}
 use Rattle.c40.proofs.Fields.{read-field}
-use Rattle.seal_header.specs.declared.day.Day.{Day}
-use Rattle.seal_header.specs.Day.{isDay, dayAt, dayOf, numberIn}
+use Rattle.seal_fields.specs.declared.day.Day.{Day}
+use Rattle.seal_fields.specs.Day.{isDay, dayAt, dayOf, numberIn}
+use Rattle.seal_fields.specs.Spaces.{filled}
+use Rattle.seal_fields.proofs.Filled.{length-filled}
 use Rattle.seal_header.specs.Reference.{version, width, reference, isReference, before}
-use Rattle.seal_header.specs.Header.{filled, country, headerCheck, headerBy, saidBy}
-use Rattle.seal_header.specs.Header.{headerOf, headerEnd}
-use Rattle.seal_header.proofs.Filled.{length-filled}
+use Rattle.seal_header.specs.Header.{country, headerCheck, headerBy, saidBy, headerOf, headerEnd}
 use Rattle.seal_theorems.specs.Sealed.{Head, threeOctets, dayOctets, countOf, referenceOf, headOctets, HeadKept, headerIn}
 use Rattle.seal_theorems.proofs.Places.{then-there}
 use Rattle.seal_theorems.proofs.Days.{day-read}

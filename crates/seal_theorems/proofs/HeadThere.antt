@@ -17,11 +17,11 @@ use Rattle.c40.specs.Image.{imageOf}
 use Rattle.c40.specs.Field.{octetsFor, isField, fieldAt}
 use Rattle.c40.proofs.Exactly.{no-field}
 use Rattle.c40.proofs.Fields.{FieldStands, field-read}
-use Rattle.seal_header.specs.Day.{isDay, dayAt, dayOf, numberIn}
+use Rattle.seal_fields.specs.Day.{isDay, dayAt, dayOf, numberIn}
+use Rattle.seal_fields.specs.Spaces.{filled}
+use Rattle.seal_fields.proofs.Filled.{length-filled}
 use Rattle.seal_header.specs.Reference.{version, referenceLength, width}
-use Rattle.seal_header.specs.Header.{filled, country, headerCheck}
-use Rattle.seal_header.specs.Header.{headerEnd}
-use Rattle.seal_header.proofs.Filled.{length-filled}
+use Rattle.seal_header.specs.Header.{country, headerCheck, headerEnd}
 use Rattle.seal_theorems.specs.Sealed.{Head, dayOctets, referenceOf, headOctets, HeadKept}
 use Rattle.seal_theorems.proofs.Places.{there-then, octet-there}
 use Rattle.seal_theorems.proofs.Days.{read-day}

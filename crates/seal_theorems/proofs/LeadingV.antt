@@ -24,13 +24,13 @@ use Rattle.text_digits.specs.Digits.{inOrder}
 use Rattle.text.specs.Order.{characters, fieldCheck, verdictBy}
 use Rattle.text.specs.Read.{Answer, readText, recordBy}
 use Rattle.c40.specs.Values.{space, isC40}
-use Rattle.seal_header.specs.Header.{filled}
+use Rattle.seal_fields.specs.Spaces.{filled}
 use Rattle.seal.specs.Seal as seal
 use Rattle.seal.specs.Seal.{placed, withText, answerBy, readSeal}
 use Rattle.tlv.specs.Read.{Read, checked}
 use Rattle.text_theorems.proofs.FirstFailing.{answered-outcome}
 use Rattle.text_theorems.proofs.Acceptance.{read-as}
-use Rattle.seal_header.proofs.Filled.{length-filled}
+use Rattle.seal_fields.proofs.Filled.{length-filled}
 use Rattle.seal_theorems.specs.Sealed.{Contents, octetsOf, Shaped, featurePlace}
 use Rattle.seal_theorems.proofs.Acceptance.{shaped-answer}
 

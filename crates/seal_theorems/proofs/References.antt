@@ -20,8 +20,8 @@ use Rattle.c40.proofs.Counting.{pair-at}
 use Rattle.c40.proofs.Images.{images-joined, image-length}
 use Rattle.c40.proofs.Exactly.{no-field}
 use Rattle.c40.proofs.Fields.{FieldStands, field-read, read-field}
-use Rattle.seal_header.specs.Reference.{version, isHex, hexOf, moreBy, referenceLength, width, reference, isLetterOrDigit}
-use Rattle.seal_header.specs.Reference.{isReference, before}
+use Rattle.seal_fields.specs.Hex.{isHex, hexOf}
+use Rattle.seal_header.specs.Reference.{version, moreBy, referenceLength, width, reference, isLetterOrDigit, isReference, before}
 use Rattle.seal_theorems.specs.Sealed.{Head, hexDigit, hexadecimal, countOf, referenceOf, HeadKept}
 use Rattle.seal_theorems.proofs.Places.{then-there, of-four}
 use Rattle.seal_theorems.proofs.Hexadecimal.{two-said, said-two, hex-c40}

@@ -9,7 +9,7 @@ use Rattle.refusal.specs.Outcome.{passed}
 use Rattle.sound.specs.Sound.{isSound}
 use Rattle.text.specs.Read.{readText}
 use Rattle.entry.specs.Entry.{isHouse}
-use Rattle.seal_header.specs.Header.{filled}
+use Rattle.seal_fields.specs.Spaces.{filled}
 use Rattle.seal.specs.Seal.{textIn, saidIn, readSeal}
 use Rattle.text_theorems.proofs.RecordOfText.{kept-and-sound}
 use Rattle.run_theorems.specs.Keys.{keyOf, SameKey}

@@ -14,8 +14,9 @@ use Rattle.tlv.specs.declared.Stretch.{Stretch}
 use Rattle.tlv.specs.Read.{Read, value, refusal, checked}
 use Rattle.tlv.proofs.Joined.{first-value, checked-value, same-value}
 use Rattle.c40.specs.Field.{isField}
+use Rattle.seal_fields.specs.Spaces.{filled}
 use Rattle.seal_header.specs.declared.header.Header.{Header}
-use Rattle.seal_header.specs.Header.{headerCheck, headerOf, headerEnd, filled}
+use Rattle.seal_header.specs.Header.{headerCheck, headerOf, headerEnd}
 use Rattle.seal.specs.declared.features.Features.{Features}
 use Rattle.seal.specs.Features.{features}
 use Rattle.seal.specs.Signature.{signatureAt}

@@ -8,8 +8,8 @@ use lib.Dec.{eqb}
 use Rattle.lent.specs.Octets.{alike, octets}
 use Rattle.c40.specs.Image.{imageOf}
 use Rattle.c40.specs.Reader.{Reading, characters, noImage, readC40}
-use Rattle.seal_header.specs.declared.day.Day.{Day}
-use Rattle.seal_header.specs.Day.{isDay, dayOf, numberIn}
+use Rattle.seal_fields.specs.declared.day.Day.{Day}
+use Rattle.seal_fields.specs.Day.{isDay, dayOf, numberIn}
 use Rattle.seal_theorems.specs.Sealed.{dayOctets}
 
 pub data Example : Type 0 where

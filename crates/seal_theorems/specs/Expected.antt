@@ -7,7 +7,8 @@ use Rattle.refusal.specs.Numbers.{expecting}
 use Rattle.refusal.specs.Outcome.{refused}
 use Rattle.text.specs.Read.{readText}
 use Rattle.tlv.specs.Read.{value}
-use Rattle.seal_header.specs.Header.{headerEnd, filled}
+use Rattle.seal_fields.specs.Spaces.{filled}
+use Rattle.seal_header.specs.Header.{headerEnd}
 use Rattle.seal.specs.declared.features.Features.{Features}
 use Rattle.seal.specs.Features.{features}
 use Rattle.seal.specs.Seal.{textIn}

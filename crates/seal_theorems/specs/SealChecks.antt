@@ -13,9 +13,10 @@ use Rattle.tlv.specs.Read.{Read, value, refusal}
 use Rattle.tlv.specs.Element.{element}
 use Rattle.tlv.specs.Cut.{hasOctets}
 use Rattle.c40.specs.Field.{isField}
-use Rattle.seal_header.specs.Day.{isDay, dayAt}
+use Rattle.seal_fields.specs.Day.{isDay, dayAt}
+use Rattle.seal_fields.specs.Spaces.{filled}
 use Rattle.seal_header.specs.Reference.{version, width, reference, isReference}
-use Rattle.seal_header.specs.Header.{isVersion, country, headerEnd, filled}
+use Rattle.seal_header.specs.Header.{isVersion, country, headerEnd}
 use Rattle.seal.specs.declared.features.Features.{Features}
 use Rattle.seal.specs.Features.{textTag, signatureTag, isEnd, textPlace}
 use Rattle.seal.specs.Seal.{featureOctets, textIn, placed}

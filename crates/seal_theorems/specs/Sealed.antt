@@ -19,11 +19,12 @@ use Rattle.tlv.specs.declared.Stretch.{Stretch}
 use Rattle.tlv.specs.Element.{tlv}
 use Rattle.c40.specs.Values.{isC40}
 use Rattle.c40.specs.Image.{imageOf}
-use Rattle.seal_header.specs.declared.day.Day.{Day}
+use Rattle.seal_fields.specs.declared.day.Day.{Day}
+use Rattle.seal_fields.specs.Day.{isDay}
+use Rattle.seal_fields.specs.Hex.{isHex}
+use Rattle.seal_fields.specs.Spaces.{filled}
 use Rattle.seal_header.specs.declared.header.Header.{Header}
-use Rattle.seal_header.specs.Day.{isDay}
-use Rattle.seal_header.specs.Reference.{isHex, isLetterOrDigit}
-use Rattle.seal_header.specs.Header.{filled}
+use Rattle.seal_header.specs.Reference.{isLetterOrDigit}
 use Rattle.seal.specs.Features.{textTag, signatureTag}
 use Rattle.seal.specs.Seal.{SealAnswer}
 use Rattle.text_theorems.specs.Accepted.{Keeps}

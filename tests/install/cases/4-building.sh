@@ -41,8 +41,8 @@ tells() {
 liblamphudet.a: 16 crates are proved before it is compiled; target/lamphudet.log has all that is said
 $(cd "$copy" && tools/built-on lamphudet | awk -v n=16 '{ printf "  %s, %d of %d, %d left .. %s\n", $1, NR, n, n - NR,
     NR < n ? "proved (3 s)" : "proved and compiled" }')
-liblamphudet_seals.a: 14 crates are proved before it is compiled; target/lamphudet_seals.log has all that is said
-$(cd "$copy" && tools/built-on lamphudet_seals | awk -v n=14 '{ printf "  %s, %d of %d, %d left .. %s\n", $1, NR, n, n - NR,
+liblamphudet_seals.a: 15 crates are proved before it is compiled; target/lamphudet_seals.log has all that is said
+$(cd "$copy" && tools/built-on lamphudet_seals | awk -v n=15 '{ printf "  %s, %d of %d, %d left .. %s\n", $1, NR, n, n - NR,
     NR < n ? "proved (3 s)" : "proved and compiled" }')
 built target/sharedlib/liblamphudet.so
 built target/sharedlib/liblamphudet_seals.so

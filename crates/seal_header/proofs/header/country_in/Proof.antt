@@ -6,8 +6,9 @@ use Rattle.zone.specs.Record.{padded}
 use Rattle.zone.proofs.Padded.{padded-exact}
 use Rattle.c40.specs.Field.{fieldAt}
 use Rattle.c40.proofs.Exactly.{field-length, no-field}
-use Rattle.seal_header.specs.Header.{filled, country}
-use Rattle.seal_header.proofs.Filled.{length-filled}
+use Rattle.seal_fields.specs.Spaces.{filled}
+use Rattle.seal_fields.proofs.Filled.{length-filled}
+use Rattle.seal_header.specs.Header.{country}
 use Rattle.seal_header.proofs.header.country_in.Statement.{statement}
 use Rattle.seal_header.proofs.header.country_in.Tie as tie
 

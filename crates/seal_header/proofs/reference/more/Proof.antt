@@ -4,7 +4,8 @@ use mathlib.Core.Path.{sym, _∙_}
 use denote.Ref.{now}
 use Rattle.zone.specs.Alphabet.{isDigit}
 use Rattle.c40.proofs.Exactly.{no-field}
-use Rattle.seal_header.specs.Reference.{isHexLetter, hexOf, moreBy}
+use Rattle.seal_fields.specs.Hex.{isHexLetter, hexOf}
+use Rattle.seal_header.specs.Reference.{moreBy}
 use Rattle.seal_header.proofs.reference.more.Statement.{statement}
 use Rattle.seal_header.proofs.reference.more.Tie as tie
 
