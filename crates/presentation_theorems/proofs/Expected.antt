@@ -2,14 +2,15 @@
 -- the text in the presentation is refused with.
 use Prim.Native.Nat.{ℕ, zero, suc, _+_, _≤_}
 use mathlib.Core.Path.{_≡_, refl, ap, sym, _∙_}
-use mathlib.Core.Bool.{false}
+use mathlib.Core.Bool.{true}
 use mathlib.Core.List.{List, [], _∷_}
 use native.Mathlib.Omega.{arith}
-use borrow.Author.Tests.{ne-eqb, eqb-false}
 use lib.Dec.{eqb, leb}
 use lib.ListN.{length, take, getD, length-take}
 use Rattle.refusal.specs.Numbers.{Why, by, expecting, numberOf}
+use Rattle.refusal.specs.Readers.{isPlain, isOfReader}
 use Rattle.refusal.specs.Outcome.{Outcome, passed, refused, unless}
+use Rattle.refusal.proofs.Readers.{not-plain}
 use Rattle.refusal.proofs.Each.{Each, each-passed, each-refused, each-else, each-either, each-unless}
 use Rattle.zone.specs.declared.record.Record.{Record}
 use Rattle.lent.specs.Octets.{stands}
@@ -27,13 +28,13 @@ use Rattle.object.specs.Object as object
 use Rattle.chip.specs.Outer.{File, sizeCheck, fileAt, filesFrom, files, outer, walked}
 use Rattle.chip.specs.Files.{isExpected, isDigested, fileCheck, filesCheck}
 use Rattle.chip.specs.Presentation.{firstFile, moved, textAt, groupOne, decided, readStages, answerBy, readPresentation}
-use Rattle.text_theorems.proofs.Expected.{nine-tells}
+use Rattle.text_theorems.proofs.Expected.{text-numbered}
 use Rattle.presentation_theorems.specs.Expected.{FromText}
 use Rattle.presentation_theorems.proofs.Elements.{cut-before}
 
 -- ---- the stages before the text refuse by other numbers
 
-module _ (P : Why → ℕ → Type 0) (plain : (n q : ℕ) → eqb n 9 ≡ false → P (by n) q) where
+module _ (P : Why → ℕ → Type 0) (plain : (n q : ℕ) → isPlain n ≡ true → P (by n) q) where
   at-element : (s : List ℕ) (at tag : ℕ) → EachRead P (element s at tag)
   at-element s at tag = each-element P s at tag (plain 10 at refl)
 
@@ -157,20 +158,17 @@ module _ (P : Why → ℕ → Type 0) (plain : (n q : ℕ) → eqb n 9 ≡ false
 
 -- what a refusal of a presentation tells
 abbrev Carries : List ℕ → Why → ℕ → Type 0
-Carries w (by n) q = eqb n 9 ≡ false
+Carries w (by n) q = isPlain n ≡ true
 Carries w (expecting d) q = FromText w d q
 
-plainly : (w : List ℕ) (n q : ℕ) → eqb n 9 ≡ false → Carries w (by n) q
+plainly : (w : List ℕ) (n q : ℕ) → isPlain n ≡ true → Carries w (by n) q
 plainly w n q h = h
 
 -- a text that is cut out of the presentation
 carries : (w : List ℕ) (v : Stretch) → v .to ≤ length w → (n : Why) (p : ℕ) → readText (cut w v) .outcome ≡ refused n p
     → Carries w n (v .from + p)
 carries w v h (expecting d) p e = record { held = v; within = h; own = p; text-refused = e; there = refl }
-carries w v h (by n) p e = ne-eqb n 9 (λ q. not-nine q (nine-tells (cut w v) (by n) p e q))
-  where
-    not-nine : n ≡ 9 → (d : ℕ) × (by n ≡ expecting d) → ⊥
-    not-nine q (d, r) = let z : _≡_ {A = ℕ} 0 1 = cc in omega arith
+carries w v h (by n) p e = text-numbered (cut w v) (by n) p e
 
 pub cut-same : (w : List ℕ) (k : ℕ) (v : Stretch) → v .to ≤ k → v .from ≤ v .to → cut (take k w) v ≡ cut w v
 unfolding cut
@@ -213,8 +211,13 @@ presentation-carries w n q e = stages-each w n q (sym (answer-outcome (readStage
 pub expected-carried : (w : List ℕ) (d q : ℕ) → readPresentation w .outcome ≡ refused (expecting d) q → FromText w d q
 expected-carried w d q e = presentation-carries w (expecting d) q e
 
+-- every refusal is by one of the numbers by which what is read is refused
+pub presentation-numbered : (w : List ℕ) → Each (λ n q. isOfReader n ≡ true) (readPresentation w .outcome)
+presentation-numbered w (expecting d) q e = refl
+presentation-numbered w (by n) q e = presentation-carries w (by n) q e
+
 -- and every refusal 9 carries a digit
 pub presentation-nine : (w : List ℕ) (n : Why) (q : ℕ) → readPresentation w .outcome ≡ refused n q → numberOf n ≡ 9
     → (d : ℕ) × (n ≡ expecting d)
 presentation-nine w (expecting d) q e h = (d, refl)
-presentation-nine w (by n) q e h = absurd (eqb-false n 9 (presentation-carries w (by n) q e) h)
+presentation-nine w (by n) q e h = absurd (not-plain n 9 (presentation-carries w (by n) q e) refl h)

@@ -4,3 +4,5 @@ pub mod Outcomes
 pub mod Numbers
 -- what every refusal of checks in their order has (`Each`)
 pub mod Each
+-- a number by which what is read is refused is no other's (`not-of-reader`)
+pub mod Readers

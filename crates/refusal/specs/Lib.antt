@@ -1,3 +1,4 @@
 pub mod Length
 pub mod Numbers
 pub mod Outcome
+pub mod Readers

@@ -2,15 +2,15 @@
 -- feature 02 is refused with; at the C border too.
 use Prim.Native.Nat.{ℕ, zero, suc, _+_}
 use mathlib.Core.Path.{_≡_, refl, sym, _∙_}
-use mathlib.Core.Bool.{Bool, false, not}
+use mathlib.Core.Bool.{Bool, true, not}
 use mathlib.Core.List.{List}
-use native.Mathlib.Omega.{arith}
-use borrow.Author.Tests.{ne-eqb, eqb-false}
 use lib.Dec.{eqb, leb}
 use lib.ListN.{length, getD}
 use Rattle.refusal.specs.Numbers.{Why, by, expecting, numberOf}
+use Rattle.refusal.specs.Readers.{isPlain, isOfReader}
 use Rattle.refusal.specs.Outcome.{Outcome, passed, refused, unless}
 use Rattle.refusal.specs.Length as told
+use Rattle.refusal.proofs.Readers.{not-plain}
 use Rattle.refusal.proofs.Each.{Each, each-passed, each-refused, each-else, each-unless}
 use Rattle.field.specs.Letters.{stateRule}
 use Rattle.text.specs.Read.{readText}
@@ -31,7 +31,7 @@ use Rattle.seal.specs.Seal.{featureOctets, textIn, placed, withText, withImage,
 use Rattle.seal.specs.Seal.{readSeal}
 use Rattle.lamphudet_seals.specs.declared.SealInC.{SealInC}
 use Rattle.lamphudet_seals.specs.Answer.{fieldsInC, sealInC, readSealInC}
-use Rattle.text_theorems.proofs.Expected.{nine-tells}
+use Rattle.text_theorems.proofs.Expected.{text-numbered}
 use Rattle.run_theorems.specs.Expected.{DigitTold}
 use Rattle.run_theorems.proofs.Expected.{numberTold, expectedTold, valueTold, entered-told}
 use Rattle.seal_theorems.specs.Expected.{FromFeature}
@@ -39,7 +39,7 @@ use Rattle.seal_theorems.proofs.FirstFailing.{answer-outcome}
 
 -- ---- what comes before the text refuses by other numbers
 
-module _ (P : Why → ℕ → Type 0) (plain : (n q : ℕ) → eqb n 9 ≡ false → P (by n) q) where
+module _ (P : Why → ℕ → Type 0) (plain : (n q : ℕ) → isPlain n ≡ true → P (by n) q) where
   field-each : (b : Bool) (q : ℕ) → Each P (unless b 24 q)
   field-each b q = each-unless P b 24 q (plain 24 q refl)
 
@@ -94,19 +94,16 @@ module _ (P : Why → ℕ → Type 0) (plain : (n q : ℕ) → eqb n 9 ≡ false
 
 -- what a refusal of a seal tells
 abbrev Carries : List ℕ → Why → ℕ → Type 0
-Carries s (by n) q = eqb n 9 ≡ false
+Carries s (by n) q = isPlain n ≡ true
 Carries s (expecting d) q = FromFeature s d q
 
-plainly : (s : List ℕ) (n q : ℕ) → eqb n 9 ≡ false → Carries s (by n) q
+plainly : (s : List ℕ) (n q : ℕ) → isPlain n ≡ true → Carries s (by n) q
 plainly s n q h = h
 
 carries : (s : List ℕ) (f : Features) → features s (headerEnd s) ≡ value f → (n : Why) (p : ℕ)
     → readText (filled (textIn s f)) .outcome ≡ refused n p → Carries s n (f .text)
 carries s f w (expecting d) p e = record { found = f; walked = w; own = p; text-refused = e; there = refl }
-carries s f w (by n) p e = ne-eqb n 9 (λ q. not-nine q (nine-tells (filled (textIn s f)) (by n) p e q))
-  where
-    not-nine : n ≡ 9 → (d : ℕ) × (by n ≡ expecting d) → ⊥
-    not-nine q (d, r) = let z : _≡_ {A = ℕ} 0 1 = cc in omega arith
+carries s f w (by n) p e = text-numbered (filled (textIn s f)) (by n) p e
 
 said-each : (s : List ℕ) → EachRead (Carries s) (saidIn s)
 unfolding saidIn withHeader withFeatures withImage withText features
@@ -132,10 +129,15 @@ seal-carries s n q e = said-each s n q (sym (answer-outcome (saidIn s)) ∙ e)
 pub seal-expected : (s : List ℕ) (d q : ℕ) → readSeal s .outcome ≡ refused (expecting d) q → FromFeature s d q
 seal-expected s d q e = seal-carries s (expecting d) q e
 
+-- every refusal is by one of the numbers by which what is read is refused
+pub seal-numbered : (s : List ℕ) → Each (λ n q. isOfReader n ≡ true) (readSeal s .outcome)
+seal-numbered s (expecting d) q e = refl
+seal-numbered s (by n) q e = seal-carries s (by n) q e
+
 -- and every refusal 9 carries a digit
 pub seal-nine : (s : List ℕ) (n : Why) (q : ℕ) → readSeal s .outcome ≡ refused n q → numberOf n ≡ 9 → (d : ℕ) × (n ≡ expecting d)
 seal-nine s (expecting d) q e h = (d, refl)
-seal-nine s (by n) q e h = absurd (eqb-false n 9 (seal-carries s (by n) q e) h)
+seal-nine s (by n) q e h = absurd (not-plain n 9 (seal-carries s (by n) q e) refl h)
 
 -- ---- at the C border
 

@@ -11,7 +11,9 @@ use borrow.Author.Tests.{ne-eqb, eqb-false}
 use lib.Dec.{eqb, lit<}
 use lib.ListN.{length, getD}
 use Rattle.refusal.specs.Numbers.{Why, by, expecting, numberOf}
+use Rattle.refusal.specs.Readers.{isPlain, isOfReader}
 use Rattle.refusal.specs.Outcome.{Outcome, passed, refused, refusedUnless}
+use Rattle.refusal.proofs.Readers.{not-plain}
 use Rattle.refusal.proofs.Each.{Each, each-passed, each-refused, each-else, each-either, each-unless}
 use Rattle.zone.specs.declared.form.Form.{Form}
 use Rattle.zone.specs.declared.form.Form.the-variants.{Td1, Td2, Td3}
@@ -39,7 +41,7 @@ use Rattle.text_theorems.proofs.FirstFailing.{answered-outcome, refused
 
 -- what a refusal of a text tells: 9 is told with the digit that was expected, and with that alone
 abbrev pub Tells : Form → List ℕ → Why → ℕ → Type 0
-Tells f t (by n) p = n ≡ 9 → ⊥
+Tells f t (by n) p = isPlain n ≡ true
 Tells f t (expecting d) p = Expected f t d p
 
 -- ---- what each check place runs over
@@ -149,15 +151,15 @@ each-check f t personal = each-passed (Tells f t)
 -- a field is refused by another number
 each-field : (f : Form) (t : List ℕ) (span : Span) (x : Part) → Each (Tells f t) (fieldCheck f t span x)
 unfolding fieldCheck
-each-field f t span codePart = each-unless (Tells f t) (codeRule f (field f codePart t)) 3 (start f codePart) (λ e. omega arith)
-each-field f t span state = each-unless (Tells f t) (stateRule (field f state t)) 4 (start f state) (λ e. omega arith)
+each-field f t span codePart = each-unless (Tells f t) (codeRule f (field f codePart t)) 3 (start f codePart) refl
+each-field f t span state = each-unless (Tells f t) (stateRule (field f state t)) 4 (start f state) refl
 each-field f t span nationality =
-    each-unless (Tells f t) (stateRule (field f nationality t)) 4 (start f nationality) (λ e. omega arith)
-each-field f t span number = each-unless (Tells f t) (numberRule f t span) 5 (start f number) (λ e. omega arith)
-each-field f t span birth = each-unless (Tells f t) (birthRule (field f birth t)) 6 (start f birth) (λ e. omega arith)
-each-field f t span expiry = each-unless (Tells f t) (expiryRule (field f expiry t)) 6 (start f expiry) (λ e. omega arith)
-each-field f t span sex = each-unless (Tells f t) (sexRule (getD t (start f sex) 0)) 7 (start f sex) (λ e. omega arith)
-each-field f t span name = each-unless (Tells f t) (nameRule (field f name t)) 8 (start f name) (λ e. omega arith)
+    each-unless (Tells f t) (stateRule (field f nationality t)) 4 (start f nationality) refl
+each-field f t span number = each-unless (Tells f t) (numberRule f t span) 5 (start f number) refl
+each-field f t span birth = each-unless (Tells f t) (birthRule (field f birth t)) 6 (start f birth) refl
+each-field f t span expiry = each-unless (Tells f t) (expiryRule (field f expiry t)) 6 (start f expiry) refl
+each-field f t span sex = each-unless (Tells f t) (sexRule (getD t (start f sex) 0)) 7 (start f sex) refl
+each-field f t span name = each-unless (Tells f t) (nameRule (field f name t)) 8 (start f name) refl
 each-field f t span numberCheck = each-passed (Tells f t)
 each-field f t span optional = each-passed (Tells f t)
 each-field f t span birthCheck = each-passed (Tells f t)
@@ -177,7 +179,7 @@ each-verdict : (f : Form) (t : List ℕ) → Each (Tells f t) (verdictBy f t (sp
 unfolding verdictBy characters
 each-verdict f t =
     let P = Tells f t in
-    each-else P (characters t) _ (each-unless P (eqb (firstForeign t) (length t)) 2 (firstForeign t) (λ e. omega arith))
+    each-else P (characters t) _ (each-unless P (eqb (firstForeign t) (length t)) 2 (firstForeign t) refl)
     (each-else P (inOrder (fieldCheck f t (spanOf f t)) (parts f)) _ (each-order P _ (each-field f t (spanOf f t)) (parts f))
     (each-order P _ (each-check f t) (parts f)))
 
@@ -198,14 +200,19 @@ text-tells t n p e = go (formOf (length t)) refl e
       each-verdict f t n p (sym (answered-outcome (verdictBy f t (spanOf f t)) (recordBy f t (spanOf f t))) ∙ r),
     )
 
+-- so it is one of the numbers by which what is read is refused
+pub text-numbered : (t : List ℕ) → Each (λ n p. isOfReader n ≡ true) (readText t .outcome)
+text-numbered t (expecting d) p e = refl
+text-numbered t (by n) p e = go (text-tells t (by n) p e)
+  where
+    go : (by n ≡ by 1) ⊎ ((f : Form) × (formOf (length t) ≡ As f) × (isPlain n ≡ true)) → isPlain n ≡ true
+    go (inl q) = let z : n ≡ 1 = cc in ap isPlain z
+    go (inr q) = q .2
+
 -- a refusal 9 carries a digit
 pub nine-tells : (t : List ℕ) (n : Why) (p : ℕ) → readText t .outcome ≡ refused n p → numberOf n ≡ 9 → (d : ℕ) × (n ≡ expecting d)
 nine-tells t (expecting d) p e h = (d, refl)
-nine-tells t (by n) p e h = absurd (go (text-tells t (by n) p e))
-  where
-    go : (by n ≡ by 1) ⊎ ((f : Form) × (formOf (length t) ≡ As f) × (n ≡ 9 → ⊥)) → ⊥
-    go (inl q) = let z : n ≡ 1 = cc in omega (arith, h)
-    go (inr q) = q .2 h
+nine-tells t (by n) p e h = absurd (not-plain n 9 (text-numbered t (by n) p e) refl h)
 
 -- and the digit is the one expected at its place
 pub digit-told : (t : List ℕ) (d p : ℕ) → readText t .outcome ≡ refused (expecting d) p
