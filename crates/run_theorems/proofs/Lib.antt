@@ -16,3 +16,5 @@ pub mod EntryLengths
 pub mod Expected
 -- SEPARATION: keys of accepted calls, and a house's own lines (`entries-apart`, `houses-apart`, `own-lines`)
 pub mod Separation
+-- the number that is told where what was read is entered (`zero-allowed`, `seventeen-exactly`, `sixteen-exactly`)
+pub mod NumbersEntered

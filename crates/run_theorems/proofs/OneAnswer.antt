@@ -1,5 +1,5 @@
 -- What one answer of a run's reader says of the place where it reads: the end, or no entry.
-use Prim.Native.Nat.{ℕ, _+_, _≤_}
+use Prim.Native.Nat.{ℕ, _+_, _≤_, _<_}
 use mathlib.Core.Path.{_≡_, refl, ap, sym, _∙_}
 use mathlib.Core.Logic.{_↔_, _⊎_, inl, inr}
 use mathlib.Core.Bool.{Bool, true, false, cond}
@@ -61,6 +61,23 @@ module _ (w : List ℕ) (at : ℕ) where
       go true p b h = eqb-true at (length w) p
       go false p true h = absurd (none-not-refused _ at (sym h))
       go false p false h = absurd (other (entry-or-not (formIn (drop at w)) (drop at w) at none h))
+
+  -- the next offset is behind this one
+  pub next-behind : (n : ℕ) → readEntry w at .onward ≡ next n → at < n
+  unfolding readEntry noEntry size
+  next-behind n e = go (eqb at (length w)) (ltb (length w) at) e
+    where
+      other : (next n ≡ next (at + size (nameLength (drop at w)))) ⊎ (next n ≡ refused (by 18) at) → at < n
+      other (inl h) = let same : n ≡ at + size (nameLength (drop at w)) = cc in omega (arith, same)
+      other (inr h) = absurd (next-not-refused n _ at h)
+
+      go : (a b : Bool)
+          → cond a (record { onward = none; house = 0; kept = blank })
+          (cond b (noEntry at) (entryBy (formIn (drop at w)) (drop at w) at)) .onward ≡ next n
+          → at < n
+      go true b h = absurd (next-not-none n (sym h))
+      go false true h = absurd (next-not-refused n _ at (sym h))
+      go false false h = other (entry-or-not (formIn (drop at w)) (drop at w) at (next n) h)
 
   pub refused-here : (k : Why) (p : ℕ) → readEntry w at .onward ≡ refused k p
       → (refused k p ≡ refused (by 18) at) × (at ≡ length w → ⊥)

@@ -6,3 +6,5 @@ pub mod Keys
 pub mod Expected
 -- the lines of a house
 pub mod Separation
+-- when 0 is told where what was read is entered, and what is left
+pub mod Entered
