@@ -12,3 +12,7 @@ pub mod Separation
 pub mod OneElement
 -- the demands are not empty: a text, a sound record and a presentation that are accepted (`T3-accepted` and the others)
 pub mod NotEmpty
+-- the numbers that C receives are those of the answer
+pub mod NumbersInC
+-- AT THE C BORDER, a text or a presentation read: when 0, what is left, when 17 (`read-text-exactly` and the others)
+pub mod ReadInC
