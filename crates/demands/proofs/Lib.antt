@@ -16,3 +16,5 @@ pub mod NotEmpty
 pub mod NumbersInC
 -- AT THE C BORDER, a text or a presentation read: when 0, what is left, when 17 (`read-text-exactly` and the others)
 pub mod ReadInC
+-- AT THE C BORDER, the next entry: 0 and 0 where none is left (`none-left`)
+pub mod NextInC
