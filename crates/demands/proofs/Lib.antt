@@ -18,3 +18,7 @@ pub mod NumbersInC
 pub mod ReadInC
 -- AT THE C BORDER, the next entry: 0 and 0 where none is left (`none-left`)
 pub mod NextInC
+-- AT THE C BORDER, a text written: when 0, what is left, never 17 (`write-text-exactly` and the others)
+pub mod WriteInC
+-- AT THE C BORDER, a text written and then read: the entry again (`entry-again`)
+pub mod AgainInC
