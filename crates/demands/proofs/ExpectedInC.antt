@@ -3,28 +3,23 @@ use Prim.Native.Nat.{ℕ}
 use mathlib.Core.Path.{_≡_, refl}
 use mathlib.Core.List.{List}
 use native.Mathlib.Omega.{arith}
-use lib.Dec.{leb}
-use lib.ListN.{length}
 use Rattle.refusal.specs.Numbers.{Why, by, expecting}
 use Rattle.refusal.specs.Outcome.{Outcome}
 use Rattle.refusal.specs.Length as told
-use Rattle.zone.specs.declared.record.Record.{Record}
-use Rattle.zone.specs.Form.{total}
-use Rattle.sound.specs.Sound.{isSound}
 use Rattle.text.specs.Read.{readText}
 use Rattle.chip.specs.Presentation.{readPresentation}
 use Rattle.sha256.specs.Answer.{digestAnswer}
-use Rattle.writing.specs.Answer.{textAnswer}
 use Rattle.entry.specs.Run as run
 use Rattle.lamphudet.specs.Answer.{inC}
-use Rattle.lamphudet.specs.Calls.{readAnswer, isOnly, writtenAnswer, nextInC}
+use Rattle.lamphudet.specs.Calls.{readAnswer, writtenAnswer, nextInC}
 use Rattle.text_theorems.proofs.Expected.{nine-tells}
 use Rattle.presentation_theorems.proofs.Expected.{presentation-nine}
 use Rattle.run_theorems.proofs.OneAnswer.{refused-here}
 use Rattle.lamphudet.specs.declared.AnswerInC.{AnswerInC}
 use Rattle.run_theorems.specs.Expected.{DigitTold}
-use Rattle.run_theorems.proofs.Expected.{numberTold, expectedTold, valueTold, NoDigit, none-written, none-refused, none-either}
+use Rattle.run_theorems.proofs.Expected.{numberTold, expectedTold, valueTold, NoDigit, none-written, none-refused}
 use Rattle.run_theorems.proofs.Expected.{entered-told}
+use Rattle.demands.proofs.Writers.{written-each, digest-each}
 
 -- ---- the calls that read
 
@@ -60,25 +55,14 @@ unfolding inC
 in-c-none (told.written n) h = h .1
 in-c-none (told.refused why p) h = h .1
 
-none-text : (r : Record) (out : List ℕ) → NoDigit (textAnswer r out)
-unfolding textAnswer
-none-text r out =
-    none-either (isSound r) _ _
-    (none-either (leb (total (r .form)) (length out)) _ _ (none-written (total (r .form))) (none-refused 16 0 (λ e. omega arith)))
-    (none-refused 17 0 (λ e. omega arith))
+none-denied : (n q : ℕ) → (n ≡ 0 → ⊥) → (n ≡ 9 → ⊥) → NoDigit (told.refused (by n) q)
+none-denied n q some nine = none-refused n q nine
 
 pub written-no-digit : (e out : List ℕ) → inC (writtenAnswer e out) .expected ≡ 255
-unfolding writtenAnswer
-written-no-digit e out = in-c-none (writtenAnswer e out)
-    (none-either (isOnly (run.readEntry e 0 .onward) (length e)) _ _ (none-text (run.readEntry e 0 .kept) out)
-    (none-refused 18 0 (λ q. omega arith)))
+written-no-digit e out = in-c-none (writtenAnswer e out) (written-each NoDigit none-written none-denied e out)
 
 pub digest-no-digit : (input out : List ℕ) → inC (digestAnswer input out) .expected ≡ 255
-unfolding digestAnswer
-digest-no-digit input out = in-c-none (digestAnswer input out)
-    (none-either (leb (length input) 65535) _ _
-    (none-either (leb 32 (length out)) _ _ (none-written 32) (none-refused 16 0 (λ q. omega arith)))
-    (none-refused 1 0 (λ q. omega arith)))
+digest-no-digit input out = in-c-none (digestAnswer input out) (digest-each NoDigit none-written none-denied input out)
 
 pub next-no-digit : (w : List ℕ) (at : ℕ) → nextInC (run.readEntry w at .onward) .expected ≡ 255
 unfolding nextInC

@@ -22,3 +22,7 @@ pub mod NextInC
 pub mod WriteInC
 -- AT THE C BORDER, a text written and then read: the entry again (`entry-again`)
 pub mod AgainInC
+-- what every answer of a call that writes has (`written-each`, `digest-each`)
+pub mod Writers
+-- AT THE C BORDER, number 0 is never a refusal (`read-text-not-zero` and the others)
+pub mod NotZero

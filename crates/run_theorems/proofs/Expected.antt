@@ -39,7 +39,7 @@ none-written n = (λ e. omega arith, refl)
 pub none-refused : (n p : ℕ) → (n ≡ 9 → ⊥) → NoDigit (told.refused (by n) p)
 none-refused n p h = (h, refl)
 
-pub none-either : (b : Bool) (x y : told.Length) → NoDigit x → NoDigit y → NoDigit (cond b x y)
+none-either : (b : Bool) (x y : told.Length) → NoDigit x → NoDigit y → NoDigit (cond b x y)
 none-either true x y h k = h
 none-either false x y h k = k
 
