@@ -38,3 +38,5 @@ pub mod AtTheBorder
 pub mod Printed
 -- the digit that a refusal 9 carries is the text's (`seal-expected`, `seal-nine`)
 pub mod Expected
+-- the numbers that C receives of a seal (`read-seal-exactly`, `read-seal-house`, `read-seal-not-zero`)
+pub mod NumbersInC

@@ -1,0 +1,75 @@
+-- What a C host may rely on of the numbers of `lamphudet_read_seal`: 0 exactly when the seal keeps every rule, the house is 1 to
+-- 32,767 and the range has room, and then the entry of that house and record stands in it; 17 exactly when the seal is accepted
+-- and the house is none; and 0 is never a refusal.
+use Prim.Native.Nat.{ℕ}
+use mathlib.Core.Path.{_≡_, refl, sym, _∙_}
+use mathlib.Core.Logic.{_↔_}
+use mathlib.Core.Bool.{false}
+use mathlib.Core.List.{List}
+use Rattle.refusal.specs.Numbers.{Why}
+use Rattle.refusal.specs.Outcome.{passed}
+use Rattle.refusal.specs.Length.{Length, written, refused}
+use Rattle.zone.specs.Octets.{areOctets}
+use Rattle.tlv.specs.declared.Stretch.{Stretch}
+use Rattle.entry.specs.Entry.{entryOf, isHouse}
+use Rattle.entry.specs.Entered.{enteredAnswer}
+use Rattle.seal_header.specs.declared.header.Header.{Header}
+use Rattle.seal.specs.Seal.{readSeal}
+use Rattle.lamphudet_seals.specs.declared.SealInC.{SealInC}
+use Rattle.lamphudet_seals.specs.Answer.{fieldsInC, sealInC, readSealInC, readSealOut}
+use Rattle.run_theorems.specs.Entered.{Allowed, Leaves}
+use Rattle.run_theorems.proofs.Expected.{numberTold, valueTold}
+use Rattle.run_theorems.proofs.NumbersEntered.{zero-allowed, seventeen-exactly, zero-leaves, zero-no-refusal}
+use Rattle.seal_theorems.specs.Sealed.{Contents, Sealed, octetsOf}
+use Rattle.seal_theorems.proofs.Acceptance.{sealed-exactly}
+use Rattle.seal_theorems.proofs.Expected.{seal-numbered}
+use Rattle.seal_theorems.proofs.SealRecord.{seal-sound}
+
+number-in-c : (l : Length) (h : Header) (v : Stretch) → sealInC l h v .number ≡ numberTold l
+unfolding sealInC fieldsInC
+number-in-c (written n) h v = refl
+number-in-c (refused why p) h v = refl
+
+value-in-c : (l : Length) (h : Header) (v : Stretch) → sealInC l h v .value ≡ valueTold l
+unfolding sealInC fieldsInC
+value-in-c (written n) h v = refl
+value-in-c (refused why p) h v = refl
+
+module _ (house : ℕ) (s out : List ℕ) where
+  abbrev inSeal : SealInC
+  inSeal = readSealInC house s out
+
+  abbrev answer : Length
+  answer = enteredAnswer (readSeal s .outcome) house (readSeal s .kept) out
+
+  same-number : inSeal .number ≡ numberTold answer
+  unfolding readSealInC
+  same-number = number-in-c answer (readSeal s .header) (readSeal s .signature)
+
+  same-value : inSeal .value ≡ valueTold answer
+  unfolding readSealInC
+  same-value = value-in-c answer (readSeal s .header) (readSeal s .signature)
+
+  pub read-seal-exactly : areOctets s
+      → (inSeal .number ≡ 0) ↔ Allowed ((p : Contents) × Sealed p × (octetsOf p ≡ s)) house (readSeal s .kept) out
+  read-seal-exactly small =
+      rw same-number
+      (zero-allowed house (readSeal s .kept) out (readSeal s .outcome) (seal-numbered s) (seal-sound s) _
+      (sealed-exactly s small))
+
+  pub read-seal-leaves : inSeal .number ≡ 0
+      → Leaves (entryOf house (readSeal s .kept)) out (inSeal .value) (readSealOut house s out)
+  unfolding readSealOut
+  read-seal-leaves =
+      rw (same-number, same-value)
+      (zero-leaves house (readSeal s .kept) out (readSeal s .outcome) (seal-numbered s) (seal-sound s))
+
+  pub read-seal-house : (inSeal .number ≡ 17) ↔ ((readSeal s .outcome ≡ passed) × (isHouse house ≡ false))
+  read-seal-house =
+      rw same-number
+      (seventeen-exactly house (readSeal s .kept) out (readSeal s .outcome) (seal-numbered s) (seal-sound s))
+
+  pub read-seal-not-zero : (why : Why) (p : ℕ) → answer ≡ refused why p → inSeal .number ≡ 0 → ⊥
+  read-seal-not-zero why p denied zero =
+      zero-no-refusal house (readSeal s .kept) out (readSeal s .outcome) (seal-numbered s) (seal-sound s) why p denied
+      (sym same-number ∙ zero)
