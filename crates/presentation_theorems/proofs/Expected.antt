@@ -161,9 +161,6 @@ abbrev Carries : List ℕ → Why → ℕ → Type 0
 Carries w (by n) q = isPlain n ≡ true
 Carries w (expecting d) q = FromText w d q
 
-plainly : (w : List ℕ) (n q : ℕ) → isPlain n ≡ true → Carries w (by n) q
-plainly w n q h = h
-
 -- a text that is cut out of the presentation
 carries : (w : List ℕ) (v : Stretch) → v .to ≤ length w → (n : Why) (p : ℕ) → readText (cut w v) .outcome ≡ refused n p
     → Carries w n (v .from + p)
@@ -178,19 +175,19 @@ text-each : (w : List ℕ) (k at : ℕ) → EachRead (Carries w) (textAt (take k
 unfolding textAt
 text-each w k at =
     let s = take k w in
-    each-then (Carries w) (element s at Tag.text) _ (at-element (Carries w) (plainly w) s at Tag.text) (λ v e.
+    each-then (Carries w) (element s at Tag.text) _ (at-element (Carries w) (λ n q h. h) s at Tag.text) (λ v e.
     let in-s = value-within s at Tag.text v e in
     let short = length-take k w in
     let same : cut s v ≡ cut w v = cut-same w k v (omega (arith, in-s .2, short)) (in-s .1) in
     each-checked (Carries w) _ _ (each-end (Carries w) s (v .to) refl)
-    (moved-each (Carries w) (plainly w) (v .from) (readText (cut s v) .outcome) (readText (cut s v) .kept)
+    (moved-each (Carries w) (λ n q h. h) (v .from) (readText (cut s v) .outcome) (readText (cut s v) .kept)
     (λ n p f. carries w v (omega (arith, in-s .2, short)) n p (ap (λ (t : List ℕ). readText t .outcome) (sym same) ∙ f))))
 
 stages-each : (w : List ℕ) → EachRead (Carries w) (readStages w)
 unfolding readStages decided groupOne files
 stages-each w =
     let P = Carries w in
-    let p = plainly w in
+    let p : (n q : ℕ) → isPlain n ≡ true → P (by n) q = λ n q h. h in
     each-then P (walked w) _ (outer-each P p w) (λ o e.
     each-then P (efcom.readEfCom w (o .efcom)) _ (efcom-each P p w (o .efcom)) (λ tags f.
     each-then P (object.readObject w (o .object)) _ (object-each P p w (o .object)) (λ es g.

@@ -97,9 +97,6 @@ abbrev Carries : List ℕ → Why → ℕ → Type 0
 Carries s (by n) q = isPlain n ≡ true
 Carries s (expecting d) q = FromFeature s d q
 
-plainly : (s : List ℕ) (n q : ℕ) → isPlain n ≡ true → Carries s (by n) q
-plainly s n q h = h
-
 carries : (s : List ℕ) (f : Features) → features s (headerEnd s) ≡ value f → (n : Why) (p : ℕ)
     → readText (filled (textIn s f)) .outcome ≡ refused n p → Carries s n (f .text)
 carries s f w (expecting d) p e = record { found = f; walked = w; own = p; text-refused = e; there = refl }
@@ -109,7 +106,7 @@ said-each : (s : List ℕ) → EachRead (Carries s) (saidIn s)
 unfolding saidIn withHeader withFeatures withImage withText features
 said-each s =
     let P = Carries s in
-    let p = plainly s in
+    let p : (n q : ℕ) → isPlain n ≡ true → P (by n) q = λ n q h. h in
     each-checked P (unless (leb (length s) 65535) 1 0) _ (each-unless P (leb (length s) 65535) 1 0 refl)
     (each-checked P (headerCheck s) _ (head-each P p s)
     (each-then P (features s (headerEnd s)) _ (walk-each P p _ s (headerEnd s) 0) (λ f w.
