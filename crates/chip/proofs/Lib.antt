@@ -4,8 +4,6 @@ pub mod FilesWalked
 pub mod FilesByTable
 -- the first file of a group
 pub mod FirstFile
--- a text's refusal, moved to its place in the presentation, is a number of the machine
-pub mod Near
 -- stages 5 and 6 by the table decide as they do by the entries
 pub mod StagesByTable
 -- no two answers are told alike (`walked-tells`)

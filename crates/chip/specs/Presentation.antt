@@ -27,12 +27,12 @@ firstFile w group [] = refusal (by 14) (length w)
 firstFile w group (f ∷ fs) = cond (eqb (groupOf (getD w (f .start) 0)) group) (value f) (firstFile w group fs)
 
 -- then the text's refusals, at their places in the presentation
+abbrev pub movedTo : ℕ → outcome.Outcome → outcome.Outcome
+movedTo at outcome.passed = outcome.passed
+movedTo at (outcome.refused n p) = outcome.refused n (at + p)
+
 unfoldable pub moved : ℕ → Answer → Read Record
-moved at a = checked (shifted (a .outcome)) (value (a .kept))
-  where
-    shifted : outcome.Outcome → outcome.Outcome
-    shifted outcome.passed = outcome.passed
-    shifted (outcome.refused n p) = outcome.refused n (at + p)
+moved at a = checked (movedTo at (a .outcome)) (value (a .kept))
 
 -- inside group 1: 5F1F and the text, exactly filling 61
 unfoldable pub textAt : List ℕ → ℕ → Read Record

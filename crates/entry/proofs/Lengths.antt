@@ -1,10 +1,10 @@
 -- The lengths of a record that is read, be it an entry's or the blank one: the number's room, and what six bits say.
 use Prim.Native.Nat.{ℕ, _<_, _≤_}
-use mathlib.Core.Bool.{Bool, true, false, cond}
 use mathlib.Core.List.{List}
 use native.Mathlib.Omega.{arith}
 use lib.Dec.{eqb, ltb}
 use lib.ListN.{length, drop}
+use Rattle.lent.proofs.Bools.{either-way}
 use Rattle.zone.specs.declared.form.Form.{Form}
 use Rattle.zone.specs.declared.form.Recognised.{Recognised}
 use Rattle.zone.specs.declared.form.Recognised.the-variants.{As, Unknown}
@@ -33,17 +33,17 @@ entry-short f s = record {
   name-short = bits-below s (start part.nameLength) (width part.nameLength);
 }
 
-either : (b : Bool) (x y : Standing) → Short (x .kept) → Short (y .kept) → Short (cond b x y .kept)
-either true x y p q = p
-either false x y p q = q
+-- of what stands at an offset
+abbrev ShortKept : Standing → Type 0
+ShortKept x = Short (x .kept)
 
 short-by : (o : Recognised) (s : List ℕ) (at : ℕ) → Short (entryBy o s at .kept)
 unfolding entryBy noEntry
-short-by (As f) s at = either (isEntry f s) _ (noEntry at) (entry-short f s) blank-short
+short-by (As f) s at = either-way ShortKept (isEntry f s) _ (noEntry at) (entry-short f s) blank-short
 short-by Unknown s at = blank-short
 
 pub short-read : (w : List ℕ) (at : ℕ) → Short (readEntry w at .kept)
 unfolding readEntry noEntry
 short-read w at =
-    either (eqb at (length w)) _ _ blank-short
-    (either (ltb (length w) at) (noEntry at) _ blank-short (short-by (formIn (drop at w)) (drop at w) at))
+    either-way ShortKept (eqb at (length w)) _ _ blank-short
+    (either-way ShortKept (ltb (length w) at) (noEntry at) _ blank-short (short-by (formIn (drop at w)) (drop at w) at))

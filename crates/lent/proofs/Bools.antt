@@ -1,6 +1,6 @@
--- What a test that joins others says of them.
+-- What a test that joins others says of them, and what both ways of a test have.
 use mathlib.Core.Path.{_≡_, refl, sym}
-use mathlib.Core.Bool.{Bool, true, false, not, _&&_, _||_, and-eq-true-iff, false≢true}
+use mathlib.Core.Bool.{Bool, true, false, cond, not, _&&_, _||_, and-eq-true-iff, false≢true}
 use mathlib.Core.Logic.{_⊎_, inl, inr}
 
 pub and-both : (a b : Bool) → a && b ≡ true → (a ≡ true) × (b ≡ true)
@@ -19,3 +19,7 @@ or-neither false b e = (refl, e)
 
 pub not-so : (b : Bool) → b ≡ false → not b ≡ true
 not-so b e = rw e
+
+pub either-way : {A : Type 0} (P : A → Type 0) (b : Bool) (x y : A) → P x → P y → P (cond b x y)
+either-way P true x y h k = h
+either-way P false x y h k = k

@@ -1,5 +1,5 @@
 -- Where an entry and its parts stand: it ends behind its place and within what holds it, its integer and its digest stand behind
--- its place, and its number is 1 to 16.
+-- its place, the integer before its end, and its number is 1 to 16.
 use Prim.Native.Nat.{ℕ, _≤_, _<_}
 use mathlib.Core.Path.{_≡_, ap, sym}
 use mathlib.Core.Bool.{_&&_}
@@ -24,6 +24,7 @@ pub record EntrySound (e : GroupHash) : Type 0 where
   pub numbered : (1 ≤ e .group) × (e .group ≤ 16)
   pub placed : 0 < e .place
   pub digested : 0 < e .digest
+  pub ahead : e .place ≤ e .end
 
 -- the digest, in what holds the entry
 digest-stands : (s : List ℕ) (group place at : ℕ) (e : GroupHash) → digestAt s group place at ≡ value e
@@ -74,5 +75,5 @@ entry-stands s at e h =
     let later : v .from < e .digest = d .2 in (
       omega (arith, k .0, k .1),
       omega (arith, k .2),
-      record { numbered = d .0; placed = omega (arith, k .0); digested = omega (arith, k .0) },
+      record { numbered = d .0; placed = omega (arith, k .0); digested = omega (arith, k .0); ahead = omega (arith, k .1) },
     )

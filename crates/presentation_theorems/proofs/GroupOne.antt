@@ -61,7 +61,7 @@ unfolding moved checked
 passed-moved at passed k r e = (refl, same-value e)
 passed-moved at (refused n p) k r e = absurd (never-value n (at + p) r e)
 
-moved-passed : (at : ℕ) (o : Outcome) (k : Record) → o ≡ passed → moved at (record { outcome = o; kept = k }) ≡ value k
+pub moved-passed : (at : ℕ) (o : Outcome) (k : Record) → o ≡ passed → moved at (record { outcome = o; kept = k }) ≡ value k
 unfolding moved checked
 moved-passed at o k e = rw e
 

@@ -14,33 +14,28 @@ use Rattle.tlv.specs.Read.{Read, value, checked}
 use Rattle.tlv.specs.Cut.{cut, endCheck}
 use Rattle.tlv.specs.Tags.{groupOf}
 use Rattle.tlv.specs.Tags as Tag
-use Rattle.chip.specs.Presentation.{firstFile, moved, textAt, groupOne}
+use Rattle.chip.specs.Presentation.{firstFile, movedTo, moved, textAt, groupOne}
 use Rattle.text_theorems.specs.Ordered.{checksOf}
 use Rattle.text_theorems.proofs.FirstFailing.{firstOf, read-first}
 use Rattle.presentation_theorems.specs.Standing.{stretchAt, coded}
-use Rattle.presentation_theorems.specs.PresentationChecks.{lentFile, movedTo, textChecks, groupOnePlace, groupOneChecks}
+use Rattle.presentation_theorems.specs.PresentationChecks.{lentFile, textChecks, groupOnePlace, groupOneChecks}
 use Rattle.presentation_theorems.proofs.Elements.{same-test}
 use Rattle.presentation_theorems.proofs.GroupOne.{one-tag, tag-one}
 use Rattle.presentation_theorems.proofs.Rows.{under, under-first, keep, step-known, element-then}
 
 -- ---- the text
 
-moved-row : (at : ℕ) (o : Outcome) (r : Record) → moved at (record { outcome = o; kept = r }) ≡ checked (movedTo at o) (value r)
-unfolding moved movedTo
-moved-row at passed r = refl
-moved-row at (refused n p) r = refl
-
 first-moved : (at : ℕ) (os : List Outcome) → movedTo at (firstOf os) ≡ firstOf (map (movedTo at) os)
-unfolding firstOf movedTo
+unfolding firstOf
 first-moved at [] = refl
 first-moved at (passed ∷ os) = first-moved at os
 first-moved at (refused n p ∷ os) = refl
 
 moved-rows : (at : ℕ) (t : List ℕ) → moved at (readText t) ≡ under (map (movedTo at) (checksOf t)) (value (readText t .kept))
+unfolding moved
 moved-rows at t =
     let r : Read Record = value (readText t .kept) in
-    moved-row at (readText t .outcome) (readText t .kept)
-    ∙ ap (λ (o : Outcome). checked o r) (ap (movedTo at) (read-first t) ∙ first-moved at (checksOf t))
+    ap (λ (o : Outcome). checked o r) (ap (movedTo at) (read-first t) ∙ first-moved at (checksOf t))
     ∙ under-first (map (movedTo at) (checksOf t)) r
 
 text-rows : (s : List ℕ) (at : ℕ)

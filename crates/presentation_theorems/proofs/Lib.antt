@@ -28,9 +28,14 @@ pub mod TextsCarried
 pub mod Few
 -- no two contents have the same octets (`octets-tell`)
 pub mod ContentsByOctets
--- DEMAND 2: the digit that a refusal 9 carries is the text's (`expected-carried`, `presentation-nine`)
+-- reading a presentation is finding its text and reading it (`through-text`)
+pub mod ThroughText
+-- what every refusal before the text has
+pub mod Refusals
+-- DEMAND 2: the digit that a refusal 9 carries is the text's (`expected-carried`, `presentation-nine`); DEMAND 1: its number and
+-- its place (`presentation-numbered`, `presentation-within`)
 pub mod Expected
--- REQUEST 2026-02: what it lets in and what stays (`newly-presented`, `still-presented`)
+-- REQUEST 2026-02: what it lets in and what stays (`newly-presented`, `left-out-presented` and others)
 pub mod LeftOut
 -- the checks as rows: what rows of checks before a value decide, and how they are joined
 pub mod Rows

@@ -1,12 +1,11 @@
 -- Reading a presentation before request 2026-02: the definitions of chip, specs/Presentation, word for word, over the text's
--- reading as it stood then; and where a presentation's text stands.
+-- reading as it stood then.
 use Prim.Native.Nat.{ℕ}
 use mathlib.Core.List.{List, []}
 use lib.ListN.{take}
 use Rattle.zone.specs.declared.record.Record.{Record}
 use Rattle.text.specs.Read.{Answer}
-use Rattle.tlv.specs.declared.Stretch.{Stretch}
-use Rattle.tlv.specs.Read.{Read, value, andThen, checked}
+use Rattle.tlv.specs.Read.{Read, andThen, checked}
 use Rattle.tlv.specs.Element.{element}
 use Rattle.tlv.specs.Cut.{cut, endCheck}
 use Rattle.tlv.specs.Tags as Tag
@@ -36,15 +35,3 @@ readStages w = andThen (walked w) (λ o. decided w o)
 
 unfoldable pub readPresentation : List ℕ → Answer
 readPresentation w = answerBy (readStages w)
-
--- where the text of group 1 stands, once all that goes before the text is in order
-unfoldable pub textOf : List ℕ → Read Stretch
-textOf w =
-    andThen (walked w) (λ o.
-    andThen (readEfCom w (o .efcom)) (λ tags.
-    andThen (readObject w (o .object)) (λ es.
-    andThen (files w (o .object .to)) (λ fs.
-    checked (filesCheck w (cut w tags) [] es fs)
-    (andThen (firstFile w 1 fs) (λ f.
-    andThen (element (take (f .held .to) w) (f .held .from) Tag.text) (λ v.
-    checked (endCheck (take (f .held .to) w) (v .to)) (value v))))))))

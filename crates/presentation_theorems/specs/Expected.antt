@@ -1,19 +1,39 @@
 -- The digit that a presentation's refusal 9 carries is that of the text in it: document 02, 2026-07, "every refusal 9 shall carry
 -- that digit up through text and presentation".
-use Prim.Native.Nat.{ℕ, _+_, _≤_}
+use Prim.Native.Nat.{ℕ, _+_}
 use mathlib.Core.Path.{_≡_}
-use mathlib.Core.List.{List}
-use lib.ListN.{length}
+use mathlib.Core.List.{List, []}
+use lib.ListN.{take}
 use Rattle.refusal.specs.Numbers.{expecting}
 use Rattle.refusal.specs.Outcome.{refused}
 use Rattle.text.specs.Read.{readText}
 use Rattle.tlv.specs.declared.Stretch.{Stretch}
-use Rattle.tlv.specs.Cut.{cut}
+use Rattle.tlv.specs.Read.{Read, value, andThen, checked}
+use Rattle.tlv.specs.Element.{element}
+use Rattle.tlv.specs.Cut.{cut, endCheck}
+use Rattle.tlv.specs.Tags as Tag
+use Rattle.efcom.specs.EfCom.{readEfCom}
+use Rattle.object.specs.Object.{readObject}
+use Rattle.chip.specs.Outer.{files, walked}
+use Rattle.chip.specs.Files.{filesCheck}
+use Rattle.chip.specs.Presentation.{firstFile}
 
--- a text stands in the presentation whose reading is refused by 9 with this digit, at this place
+-- where the text of group 1 stands, once all that goes before the text is in order
+unfoldable pub textStretch : List ℕ → Read Stretch
+textStretch w =
+    andThen (walked w) (λ o.
+    andThen (readEfCom w (o .efcom)) (λ tags.
+    andThen (readObject w (o .object)) (λ es.
+    andThen (files w (o .object .to)) (λ fs.
+    checked (filesCheck w (cut w tags) [] es fs)
+    (andThen (firstFile w 1 fs) (λ f.
+    andThen (element (take (f .held .to) w) (f .held .from) Tag.text) (λ v.
+    checked (endCheck (take (f .held .to) w) (v .to)) (value v))))))))
+
+-- the presentation's text is refused by 9 with this digit, at this place of the presentation
 pub record FromText (w : List ℕ) (d place : ℕ) : Type 0 where
   pub held : Stretch
-  pub within : held .to ≤ length w
+  pub stands : textStretch w ≡ value held
   pub own : ℕ
   pub text-refused : readText (cut w held) .outcome ≡ refused (expecting d) own
   pub there : place ≡ held .from + own

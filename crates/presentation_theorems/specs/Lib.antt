@@ -1,8 +1,8 @@
 -- demand 2: what it is to be a presentation, said with encoders
 pub mod Presented
--- the digit that a refusal 9 carries is the text's
+-- where a presentation's text stands, and that the digit of a refusal 9 is that text's
 pub mod Expected
--- reading before request 2026-02, and where a presentation's text stands
+-- reading before request 2026-02
 pub mod Before
 -- the first failing check: elements said of the octets alone
 pub mod Standing

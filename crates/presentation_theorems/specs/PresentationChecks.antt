@@ -6,7 +6,7 @@ use mathlib.Core.Bool.{cond, not}
 use mathlib.Core.List.{List, [], _∷_, _++_, map}
 use lib.Dec.{eqb, leb}
 use lib.ListN.{length, take, getD}
-use Rattle.refusal.specs.Outcome.{Outcome, passed, refused, unless}
+use Rattle.refusal.specs.Outcome.{Outcome, unless}
 use Rattle.lent.specs.Octets.{stands}
 use Rattle.tlv.specs.declared.Stretch.{Stretch}
 use Rattle.tlv.specs.Cut.{cut, endCheck}
@@ -15,6 +15,7 @@ use Rattle.tlv.specs.Tags as Tag
 use Rattle.object.specs.Object.{GroupHash}
 use Rattle.chip.specs.Outer.{File}
 use Rattle.chip.specs.Files.{isDigested}
+use Rattle.chip.specs.Presentation.{movedTo}
 use Rattle.text_theorems.specs.Ordered.{checksOf}
 use Rattle.presentation_theorems.specs.Standing.{stretchAt, coded, places, each}
 use Rattle.presentation_theorems.specs.EfComChecks.{tagList, efComChecks}
@@ -63,11 +64,6 @@ filesChecks w tags before es [] = []
 filesChecks w tags before es (at ∷ ps) = fileChecks w tags before es at ++ filesChecks w tags (getD w at 0 ∷ before) es ps
 
 -- ---- stage 6
-
--- the place of a refusal of the text, in the presentation
-unfoldable pub movedTo : ℕ → Outcome → Outcome
-movedTo at passed = passed
-movedTo at (refused n p) = refused n (at + p)
 
 -- "5F1F and the text, exactly filling 61; then the text's refusals"
 unfoldable pub textChecks : List ℕ → ℕ → List Outcome

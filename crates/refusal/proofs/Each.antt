@@ -1,7 +1,7 @@
 -- What every refusal has that an outcome can be: of checks in their order, what each of them has.
 use Prim.Native.Nat.{ℕ}
 use mathlib.Core.Path.{_≡_, sym}
-use mathlib.Core.Bool.{Bool, true, false, cond}
+use mathlib.Core.Bool.{Bool, true, false}
 use Rattle.refusal.specs.Numbers.{Why, by}
 use Rattle.refusal.specs.Outcome.{Outcome, passed, refused, orElse, refusedUnless, unless}
 use Rattle.refusal.proofs.Outcomes.{refused-not-passed}
@@ -19,10 +19,6 @@ module _ (P : Why → ℕ → Type 0) where
   pub each-else : (a b : Outcome) → Each P a → Each P b → Each P (orElse a b)
   each-else passed b h k = k
   each-else (refused n p) b h k = h
-
-  pub each-either : (b : Bool) (x y : Outcome) → Each P x → Each P y → Each P (cond b x y)
-  each-either true x y h k = h
-  each-either false x y h k = k
 
   pub each-rule : (b : Bool) (n : Why) (p : ℕ) → P n p → Each P (refusedUnless b n p)
   each-rule true n p h = each-passed

@@ -6,6 +6,7 @@ use mathlib.Core.Bool.{Bool, true, not}
 use mathlib.Core.List.{List}
 use lib.Dec.{eqb, leb}
 use lib.ListN.{length, getD}
+use Rattle.lent.proofs.Bools.{either-way}
 use Rattle.refusal.specs.Numbers.{Why, by, expecting, numberOf}
 use Rattle.refusal.specs.Readers.{isPlain, isOfReader}
 use Rattle.refusal.specs.Outcome.{Outcome, passed, refused, unless}
@@ -17,7 +18,7 @@ use Rattle.text.specs.Read.{readText}
 use Rattle.tlv.specs.declared.Stretch.{Stretch}
 use Rattle.tlv.specs.Read.{Read, value, refusal}
 use Rattle.tlv.specs.Element.{element}
-use Rattle.tlv.proofs.Each.{EachRead, each-value, each-refusal, each-then, each-checked, each-step}
+use Rattle.tlv.proofs.Each.{EachRead, each-value, each-refusal, each-then, each-checked}
 use Rattle.c40.specs.Field.{isField}
 use Rattle.seal_fields.specs.Day.{isDay, dayAt}
 use Rattle.seal_fields.specs.Spaces.{filled}
@@ -33,7 +34,8 @@ use Rattle.lamphudet_seals.specs.declared.SealInC.{SealInC}
 use Rattle.lamphudet_seals.specs.Answer.{fieldsInC, sealInC, readSealInC}
 use Rattle.text_theorems.proofs.Expected.{text-numbered}
 use Rattle.run_theorems.specs.Expected.{DigitTold}
-use Rattle.run_theorems.proofs.Expected.{numberTold, expectedTold, valueTold, entered-told}
+use Rattle.run_theorems.specs.Expected.{numberTold, expectedTold, valueTold}
+use Rattle.run_theorems.proofs.Expected.{entered-told}
 use Rattle.seal_theorems.specs.Expected.{FromFeature}
 use Rattle.seal_theorems.proofs.FirstFailing.{answer-outcome}
 
@@ -74,7 +76,7 @@ module _ (P : Why → ℕ → Type 0) (plain : (n q : ℕ) → isPlain n ≡ tru
   unfolding featuresFrom
   walk-each zero s at text = each-refusal P Features (by 25) at (plain 25 at refl)
   walk-each (suc k) s at text =
-      each-step P (isEnd s at) _ _ (each-value P _)
+      either-way (EachRead P) (isEnd s at) _ _ (each-value P _)
       (each-then P (featureAt s at text) _ (feature-each s at text) (λ v e. walk-each k s (v .to) (textPlace s at text)))
 
   signature-each : (s : List ℕ) (at : ℕ) → EachRead P (signatureAt s at)

@@ -28,7 +28,7 @@ use Rattle.seal_fields.specs.Spaces.{filled}
 use Rattle.seal.specs.Seal as seal
 use Rattle.seal.specs.Seal.{placed, withText, answerBy, readSeal}
 use Rattle.tlv.specs.Read.{Read, checked}
-use Rattle.text_theorems.proofs.FirstFailing.{answered-outcome}
+use Rattle.text.proofs.EachCheck.{answered-outcome}
 use Rattle.text_theorems.proofs.Acceptance.{read-as}
 use Rattle.seal_fields.proofs.Filled.{length-filled}
 use Rattle.seal_theorems.specs.Sealed.{Contents, octetsOf, Shaped, featurePlace}

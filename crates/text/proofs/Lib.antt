@@ -1,3 +1,4 @@
 -- The laws of this crate.
 pub mod Walks  -- the order in which the code joins the fields' checks is the text order
-pub mod Near  -- a refusal stands near the text
+pub mod EachCheck  -- what every refusal of a text has
+pub mod Within  -- its place is no further than the end

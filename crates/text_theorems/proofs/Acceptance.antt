@@ -28,7 +28,7 @@ use Rattle.text_digits.specs.Digits.{numberDigit, furtherDigit, digitCheck, inO
 use Rattle.text.specs.Order.{characters, fieldCheck, verdictBy}
 use Rattle.text.specs.Read.{readText, readBy, answered, recordBy}
 use Rattle.text_theorems.specs.Accepted.{Keeps, has, fillerAt}
-use Rattle.text_theorems.proofs.FirstFailing.{answered-outcome}
+use Rattle.text.proofs.EachCheck.{answered-outcome}
 use Rattle.zone.proofs.FormByLength.{told-by, by-told}
 use Rattle.text_theorems.proofs.FormByLength.{common}
 use Rattle.refusal.proofs.Outcomes.{refused-not-passed, both-passed, unless-kept, kept-unless}

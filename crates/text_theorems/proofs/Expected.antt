@@ -3,7 +3,7 @@
 use Prim.Native.Nat.{ℕ, _+_, _<_}
 use mathlib.Core.Path.{_≡_, refl, ap, sym, _∙_}
 use mathlib.Core.Bool.{Bool, true, false}
-use mathlib.Core.List.{List, [], _∷_}
+use mathlib.Core.List.{List}
 use mathlib.Core.Logic.{_↔_, _⊎_, inl, inr}
 use native.Mathlib.Nat.{mod-lt}
 use native.Mathlib.Omega.{arith}
@@ -12,32 +12,29 @@ use lib.Dec.{eqb, lit<}
 use lib.ListN.{length, getD}
 use Rattle.refusal.specs.Numbers.{Why, by, expecting, numberOf}
 use Rattle.refusal.specs.Readers.{isPlain, isOfReader}
-use Rattle.refusal.specs.Outcome.{Outcome, passed, refused, refusedUnless}
+use Rattle.refusal.specs.Outcome.{refused, refusedUnless}
 use Rattle.refusal.proofs.Readers.{not-plain}
-use Rattle.refusal.proofs.Each.{Each, each-passed, each-refused, each-else, each-either, each-unless}
+use Rattle.refusal.proofs.Each.{Each, each-passed, each-refused}
 use Rattle.zone.specs.declared.form.Form.{Form}
 use Rattle.zone.specs.declared.form.Form.the-variants.{Td1, Td2, Td3}
 use Rattle.zone.specs.declared.form.Recognised.{Recognised}
 use Rattle.zone.specs.declared.form.Recognised.the-variants.{As, Unknown}
-use Rattle.zone.specs.Alphabet.{firstForeign}
 use Rattle.zone.specs.Record.{blank}
-use Rattle.zone.specs.Part.{Part, code as codePart, state, number, numberCheck, optional, birth, birthCheck, sex, expiry}
-use Rattle.zone.specs.Part.{expiryCheck, nationality, optional2, composite, name, personal, personalCheck, rank, same}
-use Rattle.zone.specs.Form.{formOf, layout, parts, start, startIn, width, widthIn, field, covered}
+use Rattle.zone.specs.Part.{numberCheck, optional, birth, birthCheck, expiry}
+use Rattle.zone.specs.Part.{expiryCheck, composite, personal, personalCheck, rank, same}
+use Rattle.zone.specs.Form.{formOf, layout, start, startIn, width, widthIn, field, covered}
 use Rattle.digit.specs.Check.{sumFrom, checkOf, digitOf}
-use Rattle.field.specs.Code.{codeRule}
-use Rattle.field.specs.Letters.{stateRule, sexRule, nameRule}
-use Rattle.field.specs.Date.{birthRule, expiryRule}
 use Rattle.text_digits.specs.declared.number.Span.{Span}
 use Rattle.text_digits.specs.declared.number.Span.the-variants.{Short, Long, Bad}
-use Rattle.text_digits.specs.Number.{spanOf, checkedBy, numberRule}
-use Rattle.text_digits.specs.Digits.{digitAt, numberDigit, furtherDigit, isLeftOut, personalDigit, digitCheck, inOrder}
-use Rattle.text.specs.Order.{characters, fieldCheck, verdictBy}
+use Rattle.text_digits.specs.Number.{spanOf, checkedBy}
+use Rattle.text_digits.specs.Digits.{digitAt, numberDigit, furtherDigit}
+use Rattle.text.specs.Order.{verdictBy}
 use Rattle.text.specs.Read.{readText, readBy, recordBy}
 use Rattle.text_digits.proofs.Numbers.{span-within}
 use Rattle.text_theorems.specs.Ordered.{checksOf, FirstFailing}
 use Rattle.text_theorems.specs.Expected.{coveredAt, Expected}
-use Rattle.text_theorems.proofs.FirstFailing.{answered-outcome, refused-exactly}
+use Rattle.text.proofs.EachCheck.{answered-outcome, each-verdict}
+use Rattle.text_theorems.proofs.FirstFailing.{refused-exactly}
 
 -- what a refusal of a text tells: 9 is told with the digit that was expected, and with that alone
 abbrev pub Tells : Form → List ℕ → Why → ℕ → Type 0
@@ -106,82 +103,40 @@ expected-at f t p covers same wrong = record {
   not-there = eqb-false (getD t p 0) (digitOf covers) wrong;
 }
 
-each-digit : (f : Form) (t : List ℕ) (p : ℕ) (covers : List ℕ) → covers ≡ coveredAt f t p → Each (Tells f t) (digitAt t p covers)
+tells-digit : (f : Form) (t : List ℕ) (p : ℕ) (covers : List ℕ) → covers ≡ coveredAt f t p → Each (Tells f t) (digitAt t p covers)
 unfolding digitAt
-each-digit f t p covers same = go (eqb (getD t p 0) (digitOf covers)) refl
+tells-digit f t p covers same = go (eqb (getD t p 0) (digitOf covers)) refl
   where
     go : (b : Bool) → eqb (getD t p 0) (digitOf covers) ≡ b → Each (Tells f t) (refusedUnless b (expecting (checkOf covers)) p)
     go true h = each-passed (Tells f t)
     go false h = each-refused (Tells f t) (expecting (checkOf covers)) p (expected-at f t p covers same h)
 
-each-number : (f : Form) (t : List ℕ) (span : Span) → spanOf f t ≡ span
+tells-number : (f : Form) (t : List ℕ) (span : Span) → spanOf f t ≡ span
     → Each (Tells f t) (numberDigit f t span) × Each (Tells f t) (furtherDigit f t span)
 unfolding numberDigit furtherDigit
-each-number f t Short e = (
-  each-digit f t (start f numberCheck) (checkedBy f t Short) (ap (checkedBy f t) (sym e) ∙ sym (short-covered f t)),
+tells-number f t Short e = (
+  tells-digit f t (start f numberCheck) (checkedBy f t Short) (ap (checkedBy f t) (sym e) ∙ sym (short-covered f t)),
   each-passed (Tells f t),
 )
-each-number f t (Long n) e = (
+tells-number f t (Long n) e = (
   each-passed (Tells f t),
-  each-digit f t (start f optional + n) (checkedBy f t (Long n))
+  tells-digit f t (start f optional + n) (checkedBy f t (Long n))
       (ap (checkedBy f t) (sym e) ∙ sym (long-covered f t n (span-within f t n e))),
 )
-each-number f t Bad e = (each-passed (Tells f t), each-passed (Tells f t))
+tells-number f t Bad e = (each-passed (Tells f t), each-passed (Tells f t))
 
-each-check : (f : Form) (t : List ℕ) (x : Part) → Each (Tells f t) (digitCheck f t (spanOf f t) x)
-unfolding digitCheck personalDigit
-each-check f t numberCheck = each-number f t (spanOf f t) refl .0
-each-check f t optional = each-number f t (spanOf f t) refl .1
-each-check f t birthCheck = each-digit f t (start f birthCheck) (field f birth t) (sym (birth-covered f t))
-each-check f t expiryCheck = each-digit f t (start f expiryCheck) (field f expiry t) (sym (expiry-covered f t))
-each-check f t personalCheck = each-either (Tells f t) (isLeftOut f t) passed _ (each-passed (Tells f t))
-    (each-digit f t (start f personalCheck) (field f personal t) (sym (personal-covered f t)))
-each-check f t composite = each-digit f t (start f composite) (covered f t) (sym (composite-covered f t))
-each-check f t codePart = each-passed (Tells f t)
-each-check f t state = each-passed (Tells f t)
-each-check f t number = each-passed (Tells f t)
-each-check f t birth = each-passed (Tells f t)
-each-check f t sex = each-passed (Tells f t)
-each-check f t expiry = each-passed (Tells f t)
-each-check f t nationality = each-passed (Tells f t)
-each-check f t optional2 = each-passed (Tells f t)
-each-check f t name = each-passed (Tells f t)
-each-check f t personal = each-passed (Tells f t)
-
--- a field is refused by another number
-each-field : (f : Form) (t : List ℕ) (span : Span) (x : Part) → Each (Tells f t) (fieldCheck f t span x)
-unfolding fieldCheck
-each-field f t span codePart = each-unless (Tells f t) (codeRule f (field f codePart t)) 3 (start f codePart) refl
-each-field f t span state = each-unless (Tells f t) (stateRule (field f state t)) 4 (start f state) refl
-each-field f t span nationality =
-    each-unless (Tells f t) (stateRule (field f nationality t)) 4 (start f nationality) refl
-each-field f t span number = each-unless (Tells f t) (numberRule f t span) 5 (start f number) refl
-each-field f t span birth = each-unless (Tells f t) (birthRule (field f birth t)) 6 (start f birth) refl
-each-field f t span expiry = each-unless (Tells f t) (expiryRule (field f expiry t)) 6 (start f expiry) refl
-each-field f t span sex = each-unless (Tells f t) (sexRule (getD t (start f sex) 0)) 7 (start f sex) refl
-each-field f t span name = each-unless (Tells f t) (nameRule (field f name t)) 8 (start f name) refl
-each-field f t span numberCheck = each-passed (Tells f t)
-each-field f t span optional = each-passed (Tells f t)
-each-field f t span birthCheck = each-passed (Tells f t)
-each-field f t span expiryCheck = each-passed (Tells f t)
-each-field f t span optional2 = each-passed (Tells f t)
-each-field f t span composite = each-passed (Tells f t)
-each-field f t span personal = each-passed (Tells f t)
-each-field f t span personalCheck = each-passed (Tells f t)
-
-each-order : (P : Why → ℕ → Type 0) (check : Part → Outcome) → ((x : Part) → Each P (check x)) → (xs : List Part)
-    → Each P (inOrder check xs)
-unfolding inOrder
-each-order P check each [] = each-passed P
-each-order P check each (x ∷ xs) = each-else P (check x) (inOrder check xs) (each x) (each-order P check each xs)
-
-each-verdict : (f : Form) (t : List ℕ) → Each (Tells f t) (verdictBy f t (spanOf f t))
-unfolding verdictBy characters
-each-verdict f t =
-    let P = Tells f t in
-    each-else P (characters t) _ (each-unless P (eqb (firstForeign t) (length t)) 2 (firstForeign t) refl)
-    (each-else P (inOrder (fieldCheck f t (spanOf f t)) (parts f)) _ (each-order P _ (each-field f t (spanOf f t)) (parts f))
-    (each-order P _ (each-check f t) (parts f)))
+tells-verdict : (f : Form) (t : List ℕ) → Each (Tells f t) (verdictBy f t (spanOf f t))
+tells-verdict f t =
+    let numbers = tells-number f t (spanOf f t) refl in
+    each-verdict (Tells f t) f t (spanOf f t) (λ n x h. h) refl
+    (record {
+      of-number = numbers .0;
+      of-further = numbers .1;
+      of-birth = tells-digit f t (start f birthCheck) (field f birth t) (sym (birth-covered f t));
+      of-expiry = tells-digit f t (start f expiryCheck) (field f expiry t) (sym (expiry-covered f t));
+      of-personal = tells-digit f t (start f personalCheck) (field f personal t) (sym (personal-covered f t));
+      of-all = tells-digit f t (start f composite) (covered f t) (sym (composite-covered f t));
+    })
 
 -- ---- the text
 
@@ -197,7 +152,7 @@ text-tells t n p e = go (formOf (length t)) refl e
     go (As f) h r = inr (
       f,
       h,
-      each-verdict f t n p (sym (answered-outcome (verdictBy f t (spanOf f t)) (recordBy f t (spanOf f t))) ∙ r),
+      tells-verdict f t n p (sym (answered-outcome (verdictBy f t (spanOf f t)) (recordBy f t (spanOf f t))) ∙ r),
     )
 
 -- so it is one of the numbers by which what is read is refused

@@ -23,6 +23,7 @@ use Rattle.text_digits.specs.Digits.{inOrder, digitCheck}
 use Rattle.text.specs.Order.{verdictBy, fieldCheck}
 use Rattle.text.specs.Read.{readText, readBy, answered, recordBy}
 use Rattle.zone.specs.declared.record.Record.{Record}
+use Rattle.text.proofs.EachCheck.{answered-outcome}
 use Rattle.text_theorems.specs.Ordered.{checksBy, checksOf, FirstFailing, here, later, isRising}
 
 never : (n : Why) (p : ℕ) → passed ≡ refused n p → ⊥
@@ -43,11 +44,6 @@ in-order : (check : Part → Outcome) (xs : List Part) → inOrder check xs ≡ 
 unfolding firstOf inOrder
 in-order check [] = refl
 in-order check (x ∷ xs) = ap (orElse (check x)) (in-order check xs)
-
-pub answered-outcome : (o : Outcome) (r : Record) → answered o r .outcome ≡ o
-unfolding answered
-answered-outcome passed r = refl
-answered-outcome (refused n p) r = refl
 
 answered-blank : (o : Outcome) (r : Record) (n : Why) (p : ℕ) → answered o r .outcome ≡ refused n p → answered o r .kept ≡ blank
 unfolding answered

@@ -41,7 +41,7 @@ use Rattle.text.specs.Read.{Answer, readText, readBy, answered, recordBy}
 use Rattle.text_theorems.specs.Accepted.{among}
 use Rattle.text_theorems.specs.Before as before
 use Rattle.text_theorems.specs.LeftOut.{LeavesOut, withZero}
-use Rattle.text_theorems.proofs.FirstFailing.{answered-outcome}
+use Rattle.text.proofs.EachCheck.{answered-outcome}
 use Rattle.text_theorems.proofs.PartByPart.{kept-digit, digit-kept, walk-each}
 use Rattle.text_theorems.specs.Expected.{coveredAt}
 use Rattle.text_theorems.proofs.Expected.{digit-told, personal-covered}
@@ -304,7 +304,7 @@ left-out-read t l =
     ∙ sym (before-td3 (withZero t) (zero-size t (l .size)))))
 
 -- before, such a text was refused
-out-before : (t : List ℕ) → LeavesOut t → before.readText t .outcome ≡ passed → ⊥
+pub out-before : (t : List ℕ) → LeavesOut t → before.readText t .outcome ≡ passed → ⊥
 unfolding before.verdictBy before.digitCheck inOrder parts partOf layout start startIn same rank isLeftOut isFiller
     digitOf checkOf among
 out-before t l e =

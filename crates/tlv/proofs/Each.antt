@@ -1,10 +1,10 @@
 -- What every refusal has that a reading step by step can be: of steps in their order, what each of them has.
 use Prim.Native.Nat.{ℕ, _+_}
 use mathlib.Core.Path.{_≡_, refl}
-use mathlib.Core.Bool.{Bool, true, false, cond}
 use mathlib.Core.List.{List}
 use lib.Dec.{eqb, leb}
 use lib.ListN.{length}
+use Rattle.lent.proofs.Bools.{either-way}
 use Rattle.refusal.specs.Numbers.{Why, by}
 use Rattle.refusal.specs.Outcome.{Outcome, passed, refused}
 use Rattle.refusal.proofs.Each.{Each, each-passed, each-refused, each-unless}
@@ -38,21 +38,17 @@ module _ (P : Why → ℕ → Type 0) where
   each-checked passed m h k = k
   each-checked (refused n p) m h k = h
 
-  pub each-step : {A : Type 0} (b : Bool) (x y : Read A) → EachRead P x → EachRead P y → EachRead P (cond b x y)
-  each-step true x y h k = h
-  each-step false x y h k = k
-
   sized-each : (s : List ℕ) (at place : ℕ) (z : Size) → P (by 10) at → EachRead P (sized s at place z)
   unfolding sized endsWithin
   sized-each s at place (Of z) h =
-      each-step (leb (place + z .told + z .count) (length s)) _ _ (each-value _) (each-refusal Stretch (by 10) at h)
+      either-way (EachRead P) (leb (place + z .told + z .count) (length s)) _ _ (each-value _) (each-refusal Stretch (by 10) at h)
   sized-each s at place Unknown h = each-refusal Stretch (by 10) at h
 
   -- an element is refused by 10 at its tag
   pub each-element : (s : List ℕ) (at tag : ℕ) → P (by 10) at → EachRead P (element s at tag)
   unfolding element
   each-element s at tag h =
-      each-step (eqb (tagAt s at tag) tag) _ _ (sized-each s at (at + tagWidth tag) (sizeAt s (at + tagWidth tag)) h)
+      either-way (EachRead P) (eqb (tagAt s at tag) tag) _ _ (sized-each s at (at + tagWidth tag) (sizeAt s (at + tagWidth tag)) h)
       (each-refusal Stretch (by 10) at h)
 
   pub each-end : (s : List ℕ) (at : ℕ) → P (by 10) at → Each P (endCheck s at)

@@ -34,3 +34,8 @@ cut-without s v h = let z : v .to - v .from ≡ 0 = omega arith in rw z
 pub cut-fits : (s : List ℕ) (v : Stretch) (m : ℕ) → v .from < m → length s < m → v .from + length (cut s v) < m
 unfolding cut
 cut-fits s v m a b = rw (length-take, length-drop) (omega arith)
+
+-- and end within what holds them
+pub cut-within : (s : List ℕ) (v : Stretch) → v .from ≤ length s → v .from + length (cut s v) ≤ length s
+unfolding cut
+cut-within s v h = rw (length-take, length-drop) (omega arith)

@@ -1,4 +1,4 @@
--- The element, then its end, then the text, whose refusals stand near enough to be moved.
+-- The element, then its end, then the text, whose refusals stand in it, so that they can be moved.
 use borrow.Author.Needs.{needs}
 use Prim.Native.Nat.{_<_, _^_}
 use mathlib.Core.Path.{ap, sym, _∙_}
@@ -8,12 +8,13 @@ use denote.Ref.{now}
 use lib.ListN.{length}
 use Rattle.refusal.specs.Outcome.{outcomeOf}
 use Rattle.text.specs.Read.{Answer, answerOf, readText}
+use Rattle.text.proofs.Within.{text-within}
 use Rattle.tlv.specs.Read.{andThen, checked}
 use Rattle.tlv.specs.Element.{takenOf}
 use Rattle.tlv.proofs.Past.{value-within}
+use Rattle.tlv.proofs.Stretches.{cut-within}
 use Rattle.tlv.specs.Cut.{cut}
 use Rattle.chip.specs.Presentation.{moved, textAt, answerBy}
-use Rattle.chip.proofs.Near.{moved-near}
 use Rattle.chip.proofs.group_one.text_at.Statement.{statement}
 use Rattle.chip.proofs.group_one.text_at.Tie as tie
 
@@ -28,8 +29,8 @@ move-by-requires c κs = λ n p r.
     let small : length s < 2 ^ 63 = search needs in
     let stood = value-within s
     (c .before .before .before .before .before .before .before .before .before .before .args .at) 0x5F1F v e in
-    let near = moved-near s v n p (le-trans (stood .1) (stood .2)) told in
-    omega (arith, near, small)
+    let held = cut-within s v (le-trans (stood .1) (stood .2)) in
+    omega (arith, text-within (cut s v) n p told, held, small)
 
 pub text-at-spec : {M : Type 1} → statement M
 unfolding textAt andThen checked

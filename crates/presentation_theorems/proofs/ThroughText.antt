@@ -1,0 +1,96 @@
+-- Reading a presentation is finding its text (`textStretch`) and then reading it (`through-text`), whatever reads it; and where
+-- the text stands (`text-stands`).
+use Prim.Native.Nat.{ℕ, _≤_}
+use mathlib.Core.Path.{_≡_, refl, ap}
+use mathlib.Core.List.{List, []}
+use native.Mathlib.Omega.{arith}
+use lib.ListN.{length, take, length-take}
+use Rattle.refusal.specs.Outcome.{Outcome, passed, refused}
+use Rattle.zone.specs.declared.record.Record.{Record}
+use Rattle.text.specs.Read.{Answer, readText}
+use Rattle.tlv.specs.declared.Stretch.{Stretch}
+use Rattle.tlv.specs.Read.{Read, value, refusal, andThen, checked}
+use Rattle.tlv.specs.Element.{element}
+use Rattle.tlv.specs.Cut.{cut, endCheck}
+use Rattle.tlv.specs.Tags as Tag
+use Rattle.tlv.proofs.Past.{value-within}
+use Rattle.tlv.proofs.Joined.{first-value, checked-value, same-value}
+use Rattle.efcom.specs.EfCom.{readEfCom}
+use Rattle.object.specs.Object.{readObject}
+use Rattle.chip.specs.Outer.{files, walked}
+use Rattle.chip.specs.Files.{filesCheck}
+use Rattle.chip.specs.Presentation.{firstFile, moved, textAt, groupOne, decided, readStages}
+use Rattle.presentation_theorems.specs.Expected.{textStretch}
+use Rattle.presentation_theorems.proofs.Elements.{cut-before}
+
+cut-same : (w : List ℕ) (k : ℕ) (v : Stretch) → v .to ≤ k → v .from ≤ v .to → cut (take k w) v ≡ cut w v
+unfolding cut
+cut-same w k v a b = cut-before w k (v .from) (v .to) a b
+
+-- what goes on from a reading may as well go on behind it
+then-behind : {A B C : Type 0} (m : Read A) (f : A → Read B) (g : B → Read C) (h : A → Read C)
+    → ((a : A) → m ≡ value a → h a ≡ andThen (f a) g) → andThen m h ≡ andThen (andThen m f) g
+unfolding andThen
+then-behind (value a) f g h e = e a refl
+then-behind (refusal n p) f g h e = refl
+
+checked-behind : {A B : Type 0} (o : Outcome) (m : Read A) (g : A → Read B) (k : Read B) → k ≡ andThen m g
+    → checked o k ≡ andThen (checked o m) g
+unfolding checked andThen
+checked-behind passed m g k e = e
+checked-behind (refused n p) m g k e = refl
+
+-- over any reading of the text
+module _ (read : List ℕ → Answer) (w : List ℕ) where
+  unfoldable pub onwards : Stretch → Read Record
+  onwards v = moved (v .from) (read (cut w v))
+
+  text-behind : (k at : ℕ)
+      → andThen (element (take k w) at Tag.text) (λ v.
+      checked (endCheck (take k w) (v .to)) (moved (v .from) (read (cut (take k w) v))))
+      ≡ andThen (andThen (element (take k w) at Tag.text) (λ v. checked (endCheck (take k w) (v .to)) (value v))) onwards
+  unfolding onwards andThen
+  text-behind k at = then-behind (element (take k w) at Tag.text) _ onwards _ (λ v e.
+      let in-s = value-within (take k w) at Tag.text v e in
+      checked-behind (endCheck (take k w) (v .to)) (value v) onwards _
+      (ap (λ (t : List ℕ). moved (v .from) (read t)) (cut-same w k v (omega (arith, in-s .2, length-take k w)) (in-s .1))))
+
+  pub stages-behind :
+      andThen (walked w) (λ o.
+      andThen (readEfCom w (o .efcom)) (λ tags.
+      andThen (readObject w (o .object)) (λ es.
+      andThen (files w (o .object .to)) (λ fs.
+      checked (filesCheck w (cut w tags) [] es fs)
+      (andThen (firstFile w 1 fs) (λ f.
+      andThen (element (take (f .held .to) w) (f .held .from) Tag.text) (λ v.
+      checked (endCheck (take (f .held .to) w) (v .to)) (moved (v .from) (read (cut (take (f .held .to) w) v))))))))))
+      ≡ andThen (textStretch w) onwards
+  unfolding textStretch
+  stages-behind =
+      then-behind (walked w) _ onwards _ (λ o e.
+      then-behind (readEfCom w (o .efcom)) _ onwards _ (λ tags f.
+      then-behind (readObject w (o .object)) _ onwards _ (λ es g.
+      then-behind (files w (o .object .to)) _ onwards _ (λ fs h.
+      checked-behind (filesCheck w (cut w tags) [] es fs) _ onwards _
+      (then-behind (firstFile w 1 fs) _ onwards _ (λ file i. text-behind (file .held .to) (file .held .from)))))))
+
+pub through-text : (w : List ℕ) → readStages w ≡ andThen (textStretch w) (onwards readText w)
+unfolding readStages decided groupOne textAt
+through-text w = stages-behind readText w
+
+-- the text stands in the presentation
+pub text-stands : (w : List ℕ) (v : Stretch) → textStretch w ≡ value v → (v .from ≤ v .to) × (v .to ≤ length w)
+unfolding textStretch
+text-stands w v e =
+    let a = first-value (walked w) _ v e in
+    let b = first-value (readEfCom w (a .0 .efcom)) _ v (a .2) in
+    let c = first-value (readObject w (a .0 .object)) _ v (b .2) in
+    let d = first-value (files w (a .0 .object .to)) _ v (c .2) in
+    let g = checked-value (filesCheck w (cut w (b .0)) [] (c .0) (d .0)) _ v (d .2) in
+    let f = first-value (firstFile w 1 (d .0)) _ v (g .1) in
+    let s = take (f .0 .held .to) w in
+    let h = first-value (element s (f .0 .held .from) Tag.text) _ v (f .2) in
+    let i = checked-value (endCheck s (h .0 .to)) (value (h .0)) v (h .2) in
+    let same : h .0 ≡ v = same-value (i .1) in
+    let k = value-within s (f .0 .held .from) Tag.text (h .0) (h .1) in
+    rw (← same) (k .1, omega (arith, k .2, length-take (f .0 .held .to) w))

@@ -1,0 +1,47 @@
+-- What every refusal of the check digits has: what that of each of them has.
+use Prim.Native.Nat.{ℕ}
+use mathlib.Core.List.{List, [], _∷_}
+use Rattle.lent.proofs.Bools.{either-way}
+use Rattle.refusal.specs.Numbers.{Why}
+use Rattle.refusal.specs.Outcome.{Outcome, passed}
+use Rattle.refusal.proofs.Each.{Each, each-passed, each-else}
+use Rattle.zone.specs.declared.form.Form.{Form}
+use Rattle.zone.specs.Part.{Part, code, state, number, numberCheck, optional, birth, birthCheck, sex, expiry, expiryCheck}
+use Rattle.zone.specs.Part.{nationality, optional2, composite, name, personal, personalCheck}
+use Rattle.zone.specs.Form.{start, field, covered}
+use Rattle.text_digits.specs.declared.number.Span.{Span}
+use Rattle.text_digits.specs.Digits.{digitAt, numberDigit, furtherDigit, isLeftOut, personalDigit, digitCheck, inOrder}
+
+-- the digits that are looked at
+pub record EachDigit (P : Why → ℕ → Type 0) (f : Form) (t : List ℕ) (span : Span) : Type 0 where
+  pub of-number : Each P (numberDigit f t span)
+  pub of-further : Each P (furtherDigit f t span)
+  pub of-birth : Each P (digitAt t (start f birthCheck) (field f birth t))
+  pub of-expiry : Each P (digitAt t (start f expiryCheck) (field f expiry t))
+  pub of-personal : Each P (digitAt t (start f personalCheck) (field f personal t))
+  pub of-all : Each P (digitAt t (start f composite) (covered f t))
+
+module _ (P : Why → ℕ → Type 0) where
+  pub each-digit : (f : Form) (t : List ℕ) (span : Span) → EachDigit P f t span → (x : Part) → Each P (digitCheck f t span x)
+  unfolding digitCheck personalDigit
+  each-digit f t span h numberCheck = h .of-number
+  each-digit f t span h optional = h .of-further
+  each-digit f t span h birthCheck = h .of-birth
+  each-digit f t span h expiryCheck = h .of-expiry
+  each-digit f t span h personalCheck = either-way (Each P) (isLeftOut f t) passed _ (each-passed P) (h .of-personal)
+  each-digit f t span h composite = h .of-all
+  each-digit f t span h code = each-passed P
+  each-digit f t span h state = each-passed P
+  each-digit f t span h number = each-passed P
+  each-digit f t span h birth = each-passed P
+  each-digit f t span h sex = each-passed P
+  each-digit f t span h expiry = each-passed P
+  each-digit f t span h nationality = each-passed P
+  each-digit f t span h optional2 = each-passed P
+  each-digit f t span h name = each-passed P
+  each-digit f t span h personal = each-passed P
+
+  pub each-order : (check : Part → Outcome) → ((x : Part) → Each P (check x)) → (xs : List Part) → Each P (inOrder check xs)
+  unfolding inOrder
+  each-order check each [] = each-passed P
+  each-order check each (x ∷ xs) = each-else P (check x) (inOrder check xs) (each x) (each-order check each xs)
