@@ -15,10 +15,11 @@ use Rattle.lamphudet.specs.Calls.{readAnswer, writtenAnswer, nextInC}
 use Rattle.text_theorems.proofs.Expected.{nine-tells}
 use Rattle.presentation_theorems.proofs.Expected.{presentation-nine}
 use Rattle.run_theorems.proofs.OneAnswer.{refused-here}
-use Rattle.lamphudet.specs.declared.AnswerInC.{AnswerInC}
 use Rattle.run_theorems.specs.Expected.{DigitTold}
-use Rattle.run_theorems.proofs.Expected.{numberTold, expectedTold, valueTold, NoDigit, none-written, none-refused}
+use Rattle.run_theorems.specs.Expected.{numberTold, expectedTold, valueTold}
+use Rattle.run_theorems.proofs.Expected.{NoDigit, none-written, none-refused}
 use Rattle.run_theorems.proofs.Expected.{entered-told}
+use Rattle.demands.specs.InC.{inText, inPresentation}
 use Rattle.demands.proofs.Writers.{written-each, digest-each}
 
 -- ---- the calls that read
@@ -30,20 +31,14 @@ in-c-told o (told.written n) h = h
 in-c-told o (told.refused why p) h = h
 
 module _ (house : ℕ) (t out : List ℕ) where
-  abbrev inText : AnswerInC
-  inText = inC (readAnswer house (readText t) out)
-
-  pub text-digit-told : DigitTold (readText t .outcome) (inText .number) (inText .expected) (inText .value)
+  pub text-digit-told : DigitTold (readText t .outcome) (inText house t out .number) (inText house t out .expected) (inText house t out .value)
   unfolding readAnswer
   text-digit-told = in-c-told (readText t .outcome) _
       (entered-told house (readText t .kept) out (readText t .outcome) (nine-tells t))
 
 module _ (house : ℕ) (w out : List ℕ) where
-  abbrev inPresentation : AnswerInC
-  inPresentation = inC (readAnswer house (readPresentation w) out)
-
-  pub presentation-digit-told : DigitTold (readPresentation w .outcome) (inPresentation .number) (inPresentation .expected)
-      (inPresentation .value)
+  pub presentation-digit-told : DigitTold (readPresentation w .outcome) (inPresentation house w out .number) (inPresentation house w out .expected)
+      (inPresentation house w out .value)
   unfolding readAnswer
   presentation-digit-told = in-c-told (readPresentation w .outcome) _
       (entered-told house (readPresentation w .kept) out (readPresentation w .outcome) (presentation-nine w))

@@ -2,7 +2,7 @@
 use mathlib.Core.Path.{_≡_, refl}
 use Rattle.refusal.specs.Length.{Length, written, refused}
 use Rattle.lamphudet.specs.Answer.{inC}
-use Rattle.run_theorems.proofs.Expected.{numberTold, valueTold}
+use Rattle.run_theorems.specs.Expected.{numberTold, valueTold}
 
 pub number-in-c : (l : Length) → inC l .number ≡ numberTold l
 unfolding inC

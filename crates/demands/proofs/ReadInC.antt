@@ -13,8 +13,6 @@ use Rattle.sound.specs.Sound.{isSound}
 use Rattle.text.specs.Read.{readText}
 use Rattle.chip.specs.Presentation.{readPresentation}
 use Rattle.entry.specs.Entry.{entryOf, isHouse}
-use Rattle.lamphudet.specs.declared.AnswerInC.{AnswerInC}
-use Rattle.lamphudet.specs.Answer.{inC}
 use Rattle.lamphudet.specs.Calls.{readAnswer, readOut}
 use Rattle.text_theorems.specs.Accepted.{Keeps}
 use Rattle.text_theorems.proofs.Acceptance.{accepted-exactly}
@@ -26,6 +24,7 @@ use Rattle.presentation_theorems.proofs.Expected.{presentation-numbered}
 use Rattle.run_theorems.specs.Entered.{Allowed, Leaves}
 use Rattle.run_theorems.proofs.NumbersEntered.{zero-allowed, seventeen-exactly, zero-leaves}
 use Rattle.demands.specs.Answered.{of-presentation}
+use Rattle.demands.specs.InC.{inText, inPresentation}
 use Rattle.demands.proofs.KeyOfAnswers.{accepted-sound}
 use Rattle.demands.proofs.NumbersInC.{number-in-c, value-in-c}
 
@@ -36,34 +35,28 @@ pub presentation-sound : (w : List ℕ) → readPresentation w .outcome ≡ pass
 presentation-sound w e = accepted-sound (readPresentation w) (of-presentation w refl e)
 
 module _ (house : ℕ) (t out : List ℕ) where
-  abbrev inText : AnswerInC
-  inText = inC (readAnswer house (readText t) out)
-
-  pub read-text-exactly : (inText .number ≡ 0) ↔ Allowed ((f : Form) × Keeps f t) house (readText t .kept) out
+  pub read-text-exactly : (inText house t out .number ≡ 0) ↔ Allowed ((f : Form) × Keeps f t) house (readText t .kept) out
   unfolding readAnswer
   read-text-exactly =
       rw (number-in-c (readAnswer house (readText t) out))
       (zero-allowed house (readText t .kept) out (readText t .outcome) (text-numbered t) (text-sound t) _ (accepted-exactly t))
 
-  pub read-text-leaves : inText .number ≡ 0
-      → Leaves (entryOf house (readText t .kept)) out (inText .value) (readOut house (readText t) out)
+  pub read-text-leaves : inText house t out .number ≡ 0
+      → Leaves (entryOf house (readText t .kept)) out (inText house t out .value) (readOut house (readText t) out)
   unfolding readAnswer readOut
   read-text-leaves =
       rw (number-in-c (readAnswer house (readText t) out), value-in-c (readAnswer house (readText t) out))
       (zero-leaves house (readText t .kept) out (readText t .outcome) (text-numbered t) (text-sound t))
 
-  pub read-text-house : (inText .number ≡ 17) ↔ ((readText t .outcome ≡ passed) × (isHouse house ≡ false))
+  pub read-text-house : (inText house t out .number ≡ 17) ↔ ((readText t .outcome ≡ passed) × (isHouse house ≡ false))
   unfolding readAnswer
   read-text-house =
       rw (number-in-c (readAnswer house (readText t) out))
       (seventeen-exactly house (readText t .kept) out (readText t .outcome) (text-numbered t) (text-sound t))
 
 module _ (house : ℕ) (w out : List ℕ) where
-  abbrev inPresentation : AnswerInC
-  inPresentation = inC (readAnswer house (readPresentation w) out)
-
   pub read-presentation-exactly : areOctets w
-      → (inPresentation .number ≡ 0)
+      → (inPresentation house w out .number ≡ 0)
       ↔ Allowed ((p : Contents) × (w ≡ octetsOf p) × Presented p) house (readPresentation w .kept) out
   unfolding readAnswer
   read-presentation-exactly small =
@@ -71,15 +64,15 @@ module _ (house : ℕ) (w out : List ℕ) where
       (zero-allowed house (readPresentation w .kept) out (readPresentation w .outcome) (presentation-numbered w)
       (presentation-sound w) _ (presented-exactly w small))
 
-  pub read-presentation-leaves : inPresentation .number ≡ 0
-      → Leaves (entryOf house (readPresentation w .kept)) out (inPresentation .value) (readOut house (readPresentation w) out)
+  pub read-presentation-leaves : inPresentation house w out .number ≡ 0
+      → Leaves (entryOf house (readPresentation w .kept)) out (inPresentation house w out .value) (readOut house (readPresentation w) out)
   unfolding readAnswer readOut
   read-presentation-leaves =
       rw (number-in-c (readAnswer house (readPresentation w) out), value-in-c (readAnswer house (readPresentation w) out))
       (zero-leaves house (readPresentation w .kept) out (readPresentation w .outcome) (presentation-numbered w)
       (presentation-sound w))
 
-  pub read-presentation-house : (inPresentation .number ≡ 17) ↔ ((readPresentation w .outcome ≡ passed) × (isHouse house ≡ false))
+  pub read-presentation-house : (inPresentation house w out .number ≡ 17) ↔ ((readPresentation w .outcome ≡ passed) × (isHouse house ≡ false))
   unfolding readAnswer
   read-presentation-house =
       rw (number-in-c (readAnswer house (readPresentation w) out))

@@ -26,7 +26,7 @@ use Rattle.lamphudet.specs.Calls.{isOnly, writtenAnswer, writtenOut}
 use Rattle.text_theorems.proofs.RoundTrip.{text-length}
 use Rattle.run_theorems.specs.Runs.{Line, isKept}
 use Rattle.run_theorems.specs.Entered.{Leaves}
-use Rattle.run_theorems.proofs.Expected.{numberTold}
+use Rattle.run_theorems.specs.Expected.{numberTold}
 use Rattle.run_theorems.proofs.ListReadBack.{kept-both}
 use Rattle.run_theorems.proofs.OneAnswer.{goes-on-exactly}
 use Rattle.run_theorems.proofs.WrittenThenRead.{read-where-stands}

@@ -1,12 +1,13 @@
 -- The expected digit where what was read is entered: with 9 stands the digit that reading worked out, and 255 else.
 use Prim.Native.Nat.{ℕ}
 use mathlib.Core.Path.{_≡_, refl, sym}
-use mathlib.Core.Bool.{Bool, true, false, cond, _&&_}
+use mathlib.Core.Bool.{_&&_}
 use mathlib.Core.List.{List}
 use native.Mathlib.Omega.{arith}
 use lib.Dec.{leb}
 use lib.ListN.{length}
-use Rattle.refusal.specs.Numbers.{Why, by, expecting, noDigit, numberOf, expectedOf}
+use Rattle.lent.proofs.Bools.{either-way}
+use Rattle.refusal.specs.Numbers.{Why, by, expecting, numberOf}
 use Rattle.refusal.specs.Outcome.{Outcome, passed, refused}
 use Rattle.refusal.specs.Length as told
 use Rattle.refusal.proofs.Outcomes.{refused-not-passed}
@@ -14,20 +15,7 @@ use Rattle.zone.specs.declared.record.Record.{Record}
 use Rattle.sound.specs.Sound.{isSound}
 use Rattle.entry.specs.Entry.{size, isHouse, entryAnswer}
 use Rattle.entry.specs.Entered.{enteredAnswer}
-use Rattle.run_theorems.specs.Expected.{DigitTold}
-
--- the numbers of what a call that writes says
-abbrev pub numberTold : told.Length → ℕ
-numberTold (told.written n) = 0
-numberTold (told.refused why p) = numberOf why
-
-abbrev pub expectedTold : told.Length → ℕ
-expectedTold (told.written n) = noDigit
-expectedTold (told.refused why p) = expectedOf why
-
-abbrev pub valueTold : told.Length → ℕ
-valueTold (told.written n) = n
-valueTold (told.refused why p) = p
+use Rattle.run_theorems.specs.Expected.{numberTold, expectedTold, valueTold, DigitTold}
 
 -- not 9, and no digit
 abbrev pub NoDigit : told.Length → Type 0
@@ -39,16 +27,12 @@ none-written n = (λ e. omega arith, refl)
 pub none-refused : (n p : ℕ) → (n ≡ 9 → ⊥) → NoDigit (told.refused (by n) p)
 none-refused n p h = (h, refl)
 
-none-either : (b : Bool) (x y : told.Length) → NoDigit x → NoDigit y → NoDigit (cond b x y)
-none-either true x y h k = h
-none-either false x y h k = k
-
 module _ (house : ℕ) (r : Record) (out : List ℕ) where
   none-entry : NoDigit (entryAnswer house r out)
   unfolding entryAnswer
   none-entry =
-      none-either (isHouse house && isSound r) _ _
-      (none-either (leb (size (r .«name_len»)) (length out)) _ _ (none-written (size (r .«name_len»)))
+      either-way NoDigit (isHouse house && isSound r) _ _
+      (either-way NoDigit (leb (size (r .«name_len»)) (length out)) _ _ (none-written (size (r .«name_len»)))
       (none-refused 16 0 (λ e. omega arith)))
       (none-refused 17 0 (λ e. omega arith))
 

@@ -24,23 +24,23 @@ use Rattle.entry.specs.Entered.{enteredAnswer, enteredOut}
 use Rattle.entry.proofs.EntryBits.{length-sound-entry}
 use Rattle.entry.proofs.Entered.{Enters, entered}
 use Rattle.run_theorems.specs.Entered.{Allowed, Leaves}
-use Rattle.run_theorems.proofs.Expected.{numberTold, valueTold}
+use Rattle.run_theorems.specs.Expected.{numberTold, valueTold}
 
 -- 17 comes before 16
-abbrev inTurn : (housed room : Bool) → ℕ
-inTurn housed room = cond housed (cond room 0 16) 17
+abbrev numberInTurn : (housed room : Bool) → ℕ
+numberInTurn housed room = cond housed (cond room 0 16) 17
 
-zero-told : (a b : Bool) → inTurn a b ≡ 0 → (a ≡ true) × (b ≡ true)
+zero-told : (a b : Bool) → numberInTurn a b ≡ 0 → (a ≡ true) × (b ≡ true)
 zero-told true true e = (refl, refl)
 zero-told true false e = absurd (omega (arith, e))
 zero-told false b e = absurd (omega (arith, e))
 
-sixteen-told : (a b : Bool) → inTurn a b ≡ 16 → (a ≡ true) × (b ≡ false)
+sixteen-told : (a b : Bool) → numberInTurn a b ≡ 16 → (a ≡ true) × (b ≡ false)
 sixteen-told true true e = absurd (omega (arith, e))
 sixteen-told true false e = (refl, refl)
 sixteen-told false b e = absurd (omega (arith, e))
 
-seventeen-told : (a b : Bool) → inTurn a b ≡ 17 → a ≡ false
+seventeen-told : (a b : Bool) → numberInTurn a b ≡ 17 → a ≡ false
 seventeen-told true true e = absurd (omega (arith, e))
 seventeen-told true false e = absurd (omega (arith, e))
 seventeen-told false b e = refl
@@ -61,20 +61,20 @@ module _ (house : ℕ) (r : Record) (out : List ℕ) where
   of-passed (refused why p) numbered k other nine e = absurd (not-of-reader why k (numbered why p refl) other nine e)
 
   passed-number : (o : Outcome) → o ≡ passed → isSound r ≡ true
-      → numberTold (answer o) ≡ inTurn (isHouse house) (leb octets (length out))
+      → numberTold (answer o) ≡ numberInTurn (isHouse house) (leb octets (length out))
   unfolding enteredAnswer entryAnswer
   passed-number o e sound = rw (e, sound) (go (isHouse house) (leb octets (length out)))
     where
       go : (a b : Bool)
           → numberTold (cond (a && true) (cond b (told.written octets) (told.refused (by 16) 0)) (told.refused (by 17) 0))
-          ≡ inTurn a b
+          ≡ numberInTurn a b
       go true true = refl
       go true false = refl
       go false b = refl
 
   module _ (o : Outcome) (numbered : Each (λ n p. isOfReader n ≡ true) o) (sound : o ≡ passed → isSound r ≡ true) where
     told-in-turn : (k : ℕ) → isPlain k ≡ false → (k ≡ 9 → ⊥) → numberTold (answer o) ≡ k
-        → (o ≡ passed) × (inTurn (isHouse house) (leb octets (length out)) ≡ k)
+        → (o ≡ passed) × (numberInTurn (isHouse house) (leb octets (length out)) ≡ k)
     told-in-turn k other nine e =
         let read = of-passed o numbered k other nine e in
         (read, sym (passed-number o read (sound read)) ∙ e)
@@ -115,7 +115,8 @@ module _ (house : ℕ) (r : Record) (out : List ℕ) where
       λ h. passed-number o (h .0) (sound (h .0)) ∙ rw (h .1, lt-leb octets (length out) (h .2)),
     )
 
-    zero-enters : numberTold (answer o) ≡ 0 → Enters o house r out
+    -- so it is entered
+    pub zero-enters : numberTold (answer o) ≡ 0 → Enters o house r out
     zero-enters e =
         let h = zero-exactly .0 e in
         record { read = h .0; housed = h .1; sound = sound (h .0); room = h .2 }

@@ -1,7 +1,8 @@
 -- SEPARATION: what two accepted calls leave in their ranges shares its first thirty octets exactly when house, form, state,
 -- whole number, birth and expiry agree (`entries-apart`); so entries of two houses never share a key (`houses-apart`); and of a
--- run that is read, the lines whose first fifteen bits are a house are exactly that house's (`own-lines`). A call may have read
--- anything, a text, a presentation or a seal: `enteredOut` is what it leaves.
+-- run that is read, the lines whose first fifteen bits are a house are exactly that house's, and together the lines are the run's,
+-- or those before the place where it is refused (`own-lines`). A call may have read anything, a text, a presentation or a seal:
+-- `enteredOut` is what it leaves.
 use Prim.Native.Nat.{ℕ}
 use mathlib.Core.Path.{_≡_, refl, ap, sym, _∙_}
 use mathlib.Core.Bool.{true}
@@ -19,7 +20,7 @@ use Rattle.entry.specs.Entered.{enteredOut}
 use Rattle.entry.specs.Run.{houseIn}
 use Rattle.entry.proofs.Entered.{Enters, entered}
 use Rattle.run_theorems.specs.Keys.{keyOf, SameKey}
-use Rattle.run_theorems.specs.Runs.{Line, isKept, allKept, readRun}
+use Rattle.run_theorems.specs.Runs.{Line, isKept, allKept, readRun, Ends}
 use Rattle.run_theorems.specs.Separation.{linesOf, linesUnder}
 use Rattle.run_theorems.proofs.Keys.{key-exactly}
 use Rattle.run_theorems.proofs.EntryLengths.{entry-bounds}
@@ -61,5 +62,7 @@ lines-apart house (l ∷ ls) k =
     rw (house-first l (both .0), lines-apart house ls (both .1))
 
 pub own-lines : (w : List ℕ) → areOctets w → (house : ℕ)
-    → linesUnder house (readRun w .lines) ≡ linesOf house (readRun w .lines)
-own-lines w small house = lines-apart house (readRun w .lines) (read-any w small .0)
+    → (linesUnder house (readRun w .lines) ≡ linesOf house (readRun w .lines)) × Ends w (readRun w .lines) (readRun w .stop)
+own-lines w small house =
+    let any = read-any w small in
+    (lines-apart house (readRun w .lines) (any .0), any .1)

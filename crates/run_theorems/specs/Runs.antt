@@ -7,7 +7,6 @@ use mathlib.Core.List.{List, [], _∷_, _++_}
 use lib.ListN.{length, take, drop}
 use Rattle.refusal.specs.Numbers.{by}
 use Rattle.zone.specs.declared.record.Record.{Record}
-use Rattle.zone.specs.Alphabet.{every}
 use Rattle.sound.specs.Sound.{isSound}
 use Rattle.entry.specs.Entry.{isHouse, entryOf}
 use Rattle.entry.specs.Run.{Onward, next, none, refused, readEntry}

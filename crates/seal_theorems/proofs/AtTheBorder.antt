@@ -2,9 +2,8 @@
 -- calls begin alike exactly when house, form, state, whole number, birth and expiry agree.
 use Prim.Native.Nat.{ℕ}
 use mathlib.Core.Path.{_≡_, refl}
-use mathlib.Core.Logic.{_↔_}
 use mathlib.Core.List.{List, _++_}
-use lib.ListN.{take, drop}
+use lib.ListN.{drop}
 use Rattle.refusal.specs.Numbers.{Why, noDigit, numberOf, expectedOf}
 use Rattle.refusal.specs.Length as told
 use Rattle.refusal.specs.Length.{Length}
@@ -14,8 +13,6 @@ use Rattle.entry.proofs.Entered.{Enters, entered, entered-only, not-entered}
 use Rattle.seal_header.specs.Header.{blankHeader}
 use Rattle.seal.specs.Seal.{readSeal}
 use Rattle.lamphudet_seals.specs.Answer.{fieldsInC, sealInC, readSealInC, readSealOut}
-use Rattle.run_theorems.specs.Keys.{SameKey}
-use Rattle.run_theorems.proofs.Separation.{entries-apart}
 
 module _ (house : ℕ) (s out : List ℕ) where
   -- the seal is accepted, the house is one and the range has room
@@ -48,10 +45,3 @@ module _ (house : ℕ) (s out : List ℕ) where
           kept h (rw (w .0)) (w .1)
       go (told.refused why place) e =
           denied why place (rw e) (not-entered house (readSeal s .kept) out (readSeal s .outcome) why place e)
-
--- SEPARATION: what two accepted calls leave in their ranges shares its first thirty octets exactly when all of these agree
-pub seals-apart : (h k : ℕ) (s u out to : List ℕ) → Kept h s out → Kept k u to
-    → (take 30 (readSealOut h s out) ≡ take 30 (readSealOut k u to)) ↔ SameKey h (readSeal s .kept) k (readSeal u .kept)
-unfolding readSealOut
-seals-apart h k s u out to x y =
-    entries-apart h k (readSeal s .outcome) (readSeal u .outcome) (readSeal s .kept) (readSeal u .kept) out to x y

@@ -1,11 +1,12 @@
 -- What a C host may rely on of the numbers of `lamphudet_read_seal`: 0 exactly when the seal keeps every rule, the house is 1 to
 -- 32,767 and the range has room, and then the entry of that house and record stands in it; 17 exactly when the seal is accepted
--- and the house is none; and 0 is never a refusal.
+-- and the house is none; 0 is never a refusal; and what two calls with 0 leave is kept apart.
 use Prim.Native.Nat.{ℕ}
 use mathlib.Core.Path.{_≡_, refl, sym, _∙_}
 use mathlib.Core.Logic.{_↔_}
 use mathlib.Core.Bool.{false}
 use mathlib.Core.List.{List}
+use lib.ListN.{take}
 use Rattle.refusal.specs.Numbers.{Why}
 use Rattle.refusal.specs.Outcome.{passed}
 use Rattle.refusal.specs.Length.{Length, written, refused}
@@ -13,13 +14,17 @@ use Rattle.zone.specs.Octets.{areOctets}
 use Rattle.tlv.specs.declared.Stretch.{Stretch}
 use Rattle.entry.specs.Entry.{entryOf, isHouse}
 use Rattle.entry.specs.Entered.{enteredAnswer}
+use Rattle.entry.proofs.Entered.{Enters}
 use Rattle.seal_header.specs.declared.header.Header.{Header}
 use Rattle.seal.specs.Seal.{readSeal}
 use Rattle.lamphudet_seals.specs.declared.SealInC.{SealInC}
 use Rattle.lamphudet_seals.specs.Answer.{fieldsInC, sealInC, readSealInC, readSealOut}
 use Rattle.run_theorems.specs.Entered.{Allowed, Leaves}
-use Rattle.run_theorems.proofs.Expected.{numberTold, valueTold}
-use Rattle.run_theorems.proofs.NumbersEntered.{zero-allowed, seventeen-exactly, zero-leaves, zero-no-refusal}
+use Rattle.run_theorems.specs.Expected.{numberTold, valueTold}
+use Rattle.run_theorems.proofs.NumbersEntered.{zero-allowed, seventeen-exactly, zero-enters, zero-leaves}
+use Rattle.run_theorems.proofs.NumbersEntered.{zero-no-refusal}
+use Rattle.run_theorems.proofs.Separation.{entries-apart, houses-apart}
+use Rattle.run_theorems.specs.Keys.{SameKey}
 use Rattle.seal_theorems.specs.Sealed.{Contents, Sealed, octetsOf}
 use Rattle.seal_theorems.proofs.Acceptance.{sealed-exactly}
 use Rattle.seal_theorems.proofs.Expected.{seal-numbered}
@@ -73,3 +78,21 @@ module _ (house : ℕ) (s out : List ℕ) where
   read-seal-not-zero why p denied zero =
       zero-no-refusal house (readSeal s .kept) out (readSeal s .outcome) (seal-numbered s) (seal-sound s) why p denied
       (sym same-number ∙ zero)
+
+  seal-enters : inSeal .number ≡ 0 → Enters (readSeal s .outcome) house (readSeal s .kept) out
+  seal-enters zero = zero-enters house (readSeal s .kept) out (readSeal s .outcome) (seal-numbered s) (seal-sound s)
+      (sym same-number ∙ zero)
+
+-- SEPARATION: what two calls that answer 0 leave in their ranges shares its first thirty octets exactly when all of these agree
+module _ (h k : ℕ) (s u out to : List ℕ) (zero : readSealInC h s out .number ≡ 0) (also : readSealInC k u to .number ≡ 0) where
+  pub seals-apart : (take 30 (readSealOut h s out) ≡ take 30 (readSealOut k u to))
+      ↔ SameKey h (readSeal s .kept) k (readSeal u .kept)
+  unfolding readSealOut
+  seals-apart = entries-apart h k (readSeal s .outcome) (readSeal u .outcome) (readSeal s .kept) (readSeal u .kept) out to
+      (seal-enters h s out zero) (seal-enters k u to also)
+
+  -- so those of two houses never do
+  pub seal-houses-apart : (h ≡ k → ⊥) → take 30 (readSealOut h s out) ≡ take 30 (readSealOut k u to) → ⊥
+  unfolding readSealOut
+  seal-houses-apart = houses-apart h k (readSeal s .outcome) (readSeal u .outcome) (readSeal s .kept) (readSeal u .kept) out to
+      (seal-enters h s out zero) (seal-enters k u to also)

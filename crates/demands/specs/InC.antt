@@ -1,0 +1,22 @@
+-- What C receives of the two calls that read: document 01, "What the server lends and gets".
+use Prim.Native.Nat.{ℕ}
+use mathlib.Core.Path.{_≡_}
+use mathlib.Core.List.{List}
+use Rattle.text.specs.Read.{Answer, readText}
+use Rattle.chip.specs.Presentation.{readPresentation}
+use Rattle.lamphudet.specs.declared.AnswerInC.{AnswerInC}
+use Rattle.lamphudet.specs.Answer.{inC}
+use Rattle.lamphudet.specs.Calls.{readAnswer}
+
+-- `lamphudet_read_text`
+abbrev pub inText : (house : ℕ) (t out : List ℕ) → AnswerInC
+inText house t out = inC (readAnswer house (readText t) out)
+
+-- `lamphudet_read_presentation`
+abbrev pub inPresentation : (house : ℕ) (w out : List ℕ) → AnswerInC
+inPresentation house w out = inC (readAnswer house (readPresentation w) out)
+
+-- what either of them reads
+pub data Read (a : Answer) : Type 0 where
+  of-text : (t : List ℕ) → readText t ≡ a → Read a
+  of-presentation : (w : List ℕ) → readPresentation w ≡ a → Read a
