@@ -1,13 +1,14 @@
 -- The entry: document 01, "The entry, most significant bit first", and what writing one answers and leaves.
 use Prim.Native.Nat.{ℕ, _+_, _/_}
-use mathlib.Core.Bool.{Bool, cond, _&&_}
-use mathlib.Core.List.{List, [], _∷_, _++_}
+use mathlib.Core.Bool.{Bool, _&&_}
+use mathlib.Core.List.{List, [], _∷_}
 use mathlib.Core.Path.{_≡_}
 use lib.Dec.{leb}
-use lib.ListN.{length, take, drop}
+use lib.ListN.{take}
 use Rattle.refusal.specs.declared.Written.{Written}
-use Rattle.refusal.specs.Numbers.{by}
-use Rattle.refusal.specs.Length.{Length, written, refused, lengthOf}
+use Rattle.refusal.specs.Outcome.{unless}
+use Rattle.refusal.specs.Length.{Length, lengthOf}
+use Rattle.refusal.specs.Output.{writeAnswer, writeOut}
 use Rattle.zone.specs.declared.record.Record.{Record}
 use Rattle.sound.specs.Sound.{isSound}
 use Rattle.entry.specs.Parts as part
@@ -48,15 +49,11 @@ isHouse house = leb 1 house && leb house 32767
 
 -- 17 for a house or a record that is not sound, then 16 for an output that is too short; else the entry is written
 unfoldable pub entryAnswer : ℕ → Record → List ℕ → Length
-entryAnswer house r out =
-    cond (isHouse house && isSound r)
-    (cond (leb (size (r .«name_len»)) (length out)) (written (size (r .«name_len»))) (refused (by 16) 0)) (refused (by 17) 0)
+entryAnswer house r out = writeAnswer (unless (isHouse house && isSound r) 17 0) (size (r .«name_len»)) out
 
 -- a refusal changes no octet, a success those of the entry and no others
 unfoldable pub entryOut : ℕ → Record → List ℕ → List ℕ
-entryOut house r out =
-    cond (isHouse house && isSound r)
-    (cond (leb (size (r .«name_len»)) (length out)) (entryOf house r ++ drop (size (r .«name_len»)) out) out) out
+entryOut house r out = writeOut (unless (isHouse house && isSound r) 17 0) (size (r .«name_len»)) (entryOf house r) out
 
 -- the whole promise: the answer, and what the output holds afterwards
 pub record Writes (house : ℕ) (r : Record) (out after : List ℕ) (w : Written) : Type 0 where

@@ -4,5 +4,7 @@ pub mod Outcomes
 pub mod Numbers
 -- what every refusal of checks in their order has (`Each`)
 pub mod Each
+-- what a call that writes answers and leaves (`write-answers`)
+pub mod Output
 -- a number by which what is read is refused is no other's (`not-of-reader`)
 pub mod Readers

@@ -11,3 +11,8 @@ isPlain n = leb 1 n && leb n 8 || (leb 10 n && leb n 15 || leb 24 n && leb n 27)
 abbrev pub isOfReader : Why → Bool
 isOfReader (by n) = isPlain n
 isOfReader (expecting d) = true
+
+-- every number of the papers' tables; 9 with one digit
+abbrev pub isNumber : Why → Bool
+isNumber (by n) = isPlain n || leb 16 n && leb n 18
+isNumber (expecting d) = leb d 9

@@ -4,13 +4,12 @@ use mathlib.Core.Path.{_≡_, refl, sym}
 use mathlib.Core.Bool.{_&&_}
 use mathlib.Core.List.{List}
 use native.Mathlib.Omega.{arith}
-use lib.Dec.{leb}
-use lib.ListN.{length}
-use Rattle.lent.proofs.Bools.{either-way}
 use Rattle.refusal.specs.Numbers.{Why, by, expecting, numberOf}
-use Rattle.refusal.specs.Outcome.{Outcome, passed, refused}
+use Rattle.refusal.specs.Outcome.{Outcome, passed, refused, unless}
 use Rattle.refusal.specs.Length as told
 use Rattle.refusal.proofs.Outcomes.{refused-not-passed}
+use Rattle.refusal.proofs.Each.{each-unless}
+use Rattle.refusal.proofs.Output.{write-each}
 use Rattle.zone.specs.declared.record.Record.{Record}
 use Rattle.sound.specs.Sound.{isSound}
 use Rattle.entry.specs.Entry.{size, isHouse, entryAnswer}
@@ -31,16 +30,15 @@ module _ (house : ℕ) (r : Record) (out : List ℕ) where
   none-entry : NoDigit (entryAnswer house r out)
   unfolding entryAnswer
   none-entry =
-      either-way NoDigit (isHouse house && isSound r) _ _
-      (either-way NoDigit (leb (size (r .«name_len»)) (length out)) _ _ (none-written (size (r .«name_len»)))
-      (none-refused 16 0 (λ e. omega arith)))
-      (none-refused 17 0 (λ e. omega arith))
+      write-each NoDigit none-written (none-refused 16 0 (λ e. omega arith)) (unless (isHouse house && isSound r) 17 0)
+      (each-unless (λ why p. NoDigit (told.refused why p)) (isHouse house && isSound r) 17 0 (none-refused 17 0 (λ e. omega arith)))
+      (size (r .«name_len»)) out
 
   -- of a reader whose refusals 9 carry a digit
   pub entered-told : (o : Outcome) → ((n : Why) (p : ℕ) → o ≡ refused n p → numberOf n ≡ 9 → (d : ℕ) × (n ≡ expecting d))
       → DigitTold o (numberTold (enteredAnswer o house r out)) (expectedTold (enteredAnswer o house r out))
       (valueTold (enteredAnswer o house r out))
-  unfolding enteredAnswer
+  unfolding enteredAnswer entryAnswer
   entered-told passed nine = record {
     carried = λ d p e. absurd (refused-not-passed (sym e));
     of-a-digit = λ e. absurd (none-entry .0 e);

@@ -11,7 +11,8 @@ use lib.Dec.{leb}
 use lib.ListN.{length, drop}
 use Rattle.refusal.specs.Numbers.{Why, by}
 use Rattle.refusal.specs.Readers.{isPlain, isOfReader}
-use Rattle.refusal.specs.Outcome.{Outcome, passed, refused}
+use Rattle.refusal.specs.Outcome.{Outcome, passed, refused, unless}
+use Rattle.refusal.specs.Output.{writeAnswer}
 use Rattle.refusal.specs.Length as told
 use Rattle.refusal.proofs.Outcomes.{refused-not-written}
 use Rattle.refusal.proofs.Readers.{not-of-reader}
@@ -19,7 +20,7 @@ use Rattle.refusal.proofs.Each.{Each}
 use Rattle.zone.specs.declared.record.Record.{Record}
 use Rattle.sound.specs.Sound.{isSound}
 use Rattle.sound.proofs.SoundRecord.{taken-apart}
-use Rattle.entry.specs.Entry.{entryOf, size, isHouse, entryAnswer}
+use Rattle.entry.specs.Entry.{entryOf, size, isHouse}
 use Rattle.entry.specs.Entered.{enteredAnswer, enteredOut}
 use Rattle.entry.proofs.EntryBits.{length-sound-entry}
 use Rattle.entry.proofs.Entered.{Enters, entered}
@@ -62,15 +63,16 @@ module _ (house : ℕ) (r : Record) (out : List ℕ) where
 
   passed-number : (o : Outcome) → o ≡ passed → isSound r ≡ true
       → numberTold (answer o) ≡ numberInTurn (isHouse house) (leb octets (length out))
-  unfolding enteredAnswer entryAnswer
-  passed-number o e sound = rw (e, sound) (go (isHouse house) (leb octets (length out)))
+  unfolding enteredAnswer
+  passed-number o e sound = rw (e, sound) (go (isHouse house))
     where
-      go : (a b : Bool)
-          → numberTold (cond (a && true) (cond b (told.written octets) (told.refused (by 16) 0)) (told.refused (by 17) 0))
-          ≡ numberInTurn a b
-      go true true = refl
-      go true false = refl
-      go false b = refl
+      room : (b : Bool) → numberTold (cond b (told.written octets) (told.refused (by 16) 0)) ≡ numberInTurn true b
+      room true = refl
+      room false = refl
+
+      go : (a : Bool) → numberTold (writeAnswer (unless (a && true) 17 0) octets out) ≡ numberInTurn a (leb octets (length out))
+      go true = room (leb octets (length out))
+      go false = refl
 
   module _ (o : Outcome) (numbered : Each (λ n p. isOfReader n ≡ true) o) (sound : o ≡ passed → isSound r ≡ true) where
     told-in-turn : (k : ℕ) → isPlain k ≡ false → (k ≡ 9 → ⊥) → numberTold (answer o) ≡ k

@@ -15,7 +15,7 @@ use Rattle.zone.specs.declared.form.Form.the-variants.{Td1, Td2, Td3}
 use Rattle.zone.specs.declared.form.Piece.{Piece}
 use Rattle.zone.specs.declared.record.Record.{Record}
 use Rattle.zone.specs.Part.{composite, rank, same}
-use Rattle.zone.specs.Form.{layout, start, startIn, width, total, covers, line, pieceOf, pieces, cut, joinedCuts, covered}
+use Rattle.zone.specs.Form.{layout, start, startIn, total, covers, line, pieceOf, pieces, cut, joinedCuts, covered}
 use Rattle.zone.proofs.Widths.{within, ones}
 use Rattle.writing.specs.Text.{put}
 use Rattle.lent.proofs.Copies.{before-copied, behind-copied}
