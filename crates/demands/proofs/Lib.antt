@@ -26,3 +26,5 @@ pub mod AgainInC
 pub mod Writers
 -- AT THE C BORDER, number 0 is never a refusal (`read-text-not-zero` and the others)
 pub mod NotZero
+-- DEMAND 1, call by call (`text-reads`, `read-text-answers` and the others)
+pub mod EveryCall

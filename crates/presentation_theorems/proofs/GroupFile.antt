@@ -5,7 +5,7 @@ use mathlib.Core.Path.{_≡_, refl, ap, sym, _∙_, subst}
 use mathlib.Core.Logic.{_↔_, inl, inr}
 use mathlib.Core.Bool.{Bool, true, false, cond, not, _&&_, false≢true}
 use mathlib.Core.List.{List, [], _∷_, _++_, append-assoc}
-use native.Mathlib.Nat.{add-zero}
+use native.Mathlib.Nat.{add-zero, le-refl}
 use native.Mathlib.Omega.{arith}
 use borrow.Author.Tests.{leb-true, lt-leb, eq-eqb, ne-eqb}
 use lib.Dec.{eqb, leb}
@@ -28,6 +28,7 @@ use Rattle.tlv.proofs.Standing.{to-behind}
 use Rattle.presentation_theorems.proofs.GroupFiles.{lentAt, lentIn, FileStands, EachGroup, some-file, read-file}
 use Rattle.presentation_theorems.proofs.GroupFiles.{behind-file}
 use Rattle.presentation_theorems.proofs.OuterWalk.{Walked, walked-parts, parts-walked}
+use Rattle.presentation_theorems.proofs.Refusals.{files-in, first-in}
 
 -- ---- one file of a walk
 
@@ -275,3 +276,18 @@ group-refused w g small h = go (walked w) (λ o e. let a = walked-exactly w smal
         ≡ record { from = 0; to = 0 }
     go (value o) k = absurd (k o refl)
     go (refusal n p) k = refl
+
+-- DEMAND 1: whatever was lent, the stretch starts before it ends, and ends no further than what was lent
+pub group-within : (w : List ℕ) (g : ℕ) → (groupStretch w g .from ≤ groupStretch w g .to) × (groupStretch w g .to ≤ length w)
+unfolding groupStretch fileOrNone files
+group-within w g = go (andThen (walked w) (λ o. andThen (files w (o .object .to)) (λ fs. firstFile w g fs))) refl
+  where
+    go : (m : Read File) → andThen (walked w) (λ o. andThen (files w (o .object .to)) (λ fs. firstFile w g fs)) ≡ m
+        → (fileOrNone m .from ≤ fileOrNone m .to) × (fileOrNone m .to ≤ length w)
+    go (refusal n p) e = (omega arith, omega arith)
+    go (value f) e =
+        let a = first-value (walked w) _ f e in
+        let b = first-value (files w (a .0 .object .to)) _ f (a .2) in
+        let inside = files-in (length w) _ w (le-refl (length w)) (a .0 .object .to) (b .0) (b .1) in
+        let k = first-in (length w) w g (b .0) f inside (b .2) in
+        (k .0, k .2)

@@ -39,9 +39,13 @@ unfoldable EntriesIn : (last : ℕ) → List object.GroupHash → Type 0
 EntriesIn last [] = Unit {0}
 EntriesIn last (e ∷ es) = (e .place ≤ last) × EntriesIn last es
 
-unfoldable FilesIn : (last : ℕ) → List File → Type 0
+-- it starts before it ends, and both no further
+abbrev pub FileIn : (last : ℕ) → File → Type 0
+FileIn last f = (f .start ≤ f .held .to) × (f .held .from ≤ last) × (f .held .to ≤ last)
+
+unfoldable pub FilesIn : (last : ℕ) → List File → Type 0
 FilesIn last [] = Unit {0}
-FilesIn last (f ∷ fs) = ((f .start ≤ last) × (f .held .from ≤ last)) × FilesIn last fs
+FilesIn last (f ∷ fs) = FileIn last f × FilesIn last fs
 
 module _ (last : ℕ) where
   entries-in : (k : ℕ) (s : List ℕ) → length s ≤ last → (at : ℕ) (es : List object.GroupHash)
@@ -64,14 +68,14 @@ module _ (last : ℕ) where
           (omega (arith, there .1, there .2 .ahead, most), below (one .0 .end) (more .0) (more .1))
 
   file-in : (w : List ℕ) (at : ℕ) → length w ≤ last → (v : Stretch) → fileAt w at ≡ value v
-      → (at ≤ last) × (v .from ≤ last) × (v .to ≤ last)
+      → FileIn last (record { start = at; held = v })
   unfolding fileAt
   file-in w at most v e =
       let tag = getD w at 0 in
       let k = value-within w at tag v (kept-value (isGroup tag) (element w at tag) (by 10) at v e .1) in
-      (omega (arith, k .0, k .1, k .2), omega (arith, k .1, k .2), omega (arith, k .2))
+      (omega (arith, k .0, k .1), omega (arith, k .1, k .2), omega (arith, k .2))
 
-  files-in : (k : ℕ) (w : List ℕ) → length w ≤ last → (at : ℕ) (fs : List File) → filesFrom k w at ≡ value fs → FilesIn last fs
+  pub files-in : (k : ℕ) (w : List ℕ) → length w ≤ last → (at : ℕ) (fs : List File) → filesFrom k w at ≡ value fs → FilesIn last fs
   unfolding filesFrom FilesIn
   files-in zero w most at fs h = absurd (never-value _ at fs h)
   files-in (suc k) w most at fs h = go (leb (length w) at) h (files-in k w most)
@@ -85,16 +89,16 @@ module _ (last : ℕ) where
           let one = first-value (fileAt w at) _ fs q in
           let more = first-value (filesFrom k w (one .0 .to)) _ fs (one .2) in
           let there = file-in w at most (one .0) (one .1) in
-          subst (FilesIn last) (same-value (more .2)) ((there .0, there .1), below (one .0 .to) (more .0) (more .1))
+          subst (FilesIn last) (same-value (more .2)) (there, below (one .0 .to) (more .0) (more .1))
 
-  first-in : (w : List ℕ) (g : ℕ) (fs : List File) (f : File) → FilesIn last fs → firstFile w g fs ≡ value f → f .held .from ≤ last
+  pub first-in : (w : List ℕ) (g : ℕ) (fs : List File) (f : File) → FilesIn last fs → firstFile w g fs ≡ value f → FileIn last f
   unfolding firstFile FilesIn
   first-in w g [] f h e = absurd (never-value _ (length w) f e)
   first-in w g (x ∷ fs) f h e = go (eqb (groupOf (getD w (x .start) 0)) g) e (first-in w g fs f (h .1))
     where
-      go : (b : Bool) → cond b (value x) (firstFile w g fs) ≡ value f → (firstFile w g fs ≡ value f → f .held .from ≤ last)
-          → f .held .from ≤ last
-      go true q below = let same : x ≡ f = same-value q in rw (← same) (h .0 .1)
+      go : (b : Bool) → cond b (value x) (firstFile w g fs) ≡ value f → (firstFile w g fs ≡ value f → FileIn last f)
+          → FileIn last f
+      go true q below = subst (FileIn last) (same-value q) (h .0)
       go false q below = below q
 
   outer-ends : (w : List ℕ) → length w ≤ last → (o : Outer) → walked w ≡ value o
@@ -253,7 +257,7 @@ module _ (P : Why → ℕ → Type 0) (last : ℕ) (plain : (n q : ℕ) → isPl
   signed-each w tags before es [] h = each-passed P
   signed-each w tags before es (f ∷ fs) h =
       let tag = getD w (f .start) 0 in
-      let there = h .0 .0 in
+      let there : f .start ≤ last = omega (arith, h .0 .0, h .0 .2) in
       each-else P (fileCheck w tags before es f tag) _
       (each-else P (unless (isExpected tags before es tag) 14 (f .start)) _
       (rule (isExpected tags before es tag) 14 (f .start) refl there) (rule (isDigested w es f tag) 15 (f .start) refl there))
@@ -280,7 +284,7 @@ module _ (P : Why → ℕ → Type 0) (last : ℕ) (plain : (n q : ℕ) → isPl
       (each-then P (firstFile w 1 fs) _ (first-each w 1 fs most) (λ x i.
       let s = take (x .held .to) w in
       let less = take-most (x .held .to) last w most in
-      let at = first-in last w 1 fs x inside i in
+      let at = first-in last w 1 fs x inside i .1 in
       each-then P (element s (x .held .from) Tag.text) _ (at-element s (x .held .from) Tag.text at) (λ v j.
       each-checked P _ _
       (each-end P s (v .to) (plain 10 (v .to) refl (ends s (x .held .from) Tag.text less v j .2))) (each-value P v))))))))

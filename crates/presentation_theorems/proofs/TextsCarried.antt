@@ -1,19 +1,17 @@
 -- DEMAND 2 is not empty for presentations: every accepted text is carried by bytes that are accepted, with the text's own record.
 -- So no reader that refuses everything, or always hands out the same record, meets it.
-use Prim.Native.Nat.{ℕ, zero, suc, _+_, _*_, _/_, _≤_}
-use mathlib.Core.Path.{_≡_, refl, ap, sym, _∙_, subst}
+use Prim.Native.Nat.{ℕ, _+_, _≤_}
+use mathlib.Core.Path.{_≡_, refl, sym, subst}
 use mathlib.Core.Logic.{inl, inr}
 use mathlib.Core.List.{List, [], _∷_, _++_}
 use native.Mathlib.Omega.{arith}
-use lib.ListN.{length, take, drop, length-append, replicate}
+use lib.ListN.{length, length-append, replicate}
 use Rattle.refusal.specs.Outcome.{passed}
 use Rattle.zone.specs.declared.form.Form.{Form}
 use Rattle.zone.specs.Alphabet.{isDigit, every}
 use Rattle.text.specs.Read.{readText}
-use Rattle.sha256.specs.Constants.{H0}
-use Rattle.sha256.specs.Padding.{padded}
-use Rattle.sha256.specs.Hash.{added, compressed, hashed, chained, sha256}
-use Rattle.sha256.proofs.OctetLaws.{length-joined}
+use Rattle.sha256.specs.Hash.{sha256}
+use Rattle.sha256.proofs.DigestLength.{digest-length}
 use Rattle.tlv.specs.Element.{tlv}
 use Rattle.tlv.proofs.Encoded.{length-tlv, most-head}
 use Rattle.lent.specs.Octets.{stands}
@@ -27,24 +25,6 @@ use Rattle.presentation_theorems.specs.Presented.{tagsOf, EntryKept, Fil
 use Rattle.text_theorems.proofs.Acceptance.{accepted-exactly}
 use Rattle.presentation_theorems.proofs.Acceptance.{presented-text}
 use Rattle.zone.proofs.Widths.{total-le}
-
--- ---- a digest has 32 octets
-
-eight : (n : ℕ) (H M : List ℕ) → length H ≡ 8 → length (hashed n H M) ≡ 8
-unfolding hashed compressed added
-eight zero H M h = h
-eight (suc n) H M h = eight n (compressed H (take 64 M)) (drop 64 M) refl
-
-eight-words : length H0 ≡ 8
-unfolding H0
-eight-words = refl
-
-pub digest-length : (m : List ℕ) → length (sha256 m) ≡ 32
-unfolding sha256 chained
-digest-length m =
-    let M = padded m in
-    let h : length (hashed (length M / 64) H0 M) ≡ 8 = eight (length M / 64) H0 M eight-words in
-    length-joined (hashed (length M / 64) H0 M) ∙ ap (λ (k : ℕ). 4 * k) h
 
 -- ---- lengths
 

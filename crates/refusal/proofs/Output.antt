@@ -9,7 +9,7 @@ use borrow.Author.Tests.{le-leb, leb-true}
 use lib.Dec.{leb}
 use lib.ListN.{length, drop, length-append, length-drop}
 use lib.Seq.{drop-append-seam}
-use Rattle.refusal.specs.Numbers.{Why, by}
+use Rattle.refusal.specs.Numbers.{Why, by, numberOf}
 use Rattle.refusal.specs.Readers.{isNumber}
 use Rattle.refusal.specs.Outcome.{Outcome, passed, refused}
 use Rattle.refusal.specs.Length as told
@@ -63,17 +63,17 @@ module _ (n : ℕ) (octets out : List ℕ) where
 
   module _ (end : ℕ) where
     -- what the tests before tell, and 16
-    told-each : (o : Outcome) → Each (λ why p. (isNumber why ≡ true) × (p ≤ end)) o → (why : Why) (p : ℕ)
-        → writeAnswer o n out ≡ told.refused why p → (isNumber why ≡ true) × (p ≤ end)
+    told-each : (o : Outcome) → Each (λ why p. (isNumber (numberOf why) ≡ true) × (p ≤ end)) o → (why : Why) (p : ℕ)
+        → writeAnswer o n out ≡ told.refused why p → (isNumber (numberOf why) ≡ true) × (p ≤ end)
     told-each (refused m q) each why p e = each why p (let a : m ≡ why = cc in let b : q ≡ p = cc in rw (a, b))
     told-each passed each why p e = go (leb n (length out)) e
       where
         go : (b : Bool) → cond b (told.written n) (told.refused (by 16) 0) ≡ told.refused why p
-            → (isNumber why ≡ true) × (p ≤ end)
+            → (isNumber (numberOf why) ≡ true) × (p ≤ end)
         go true h = absurd (refused-not-written (sym h))
         go false h = let a : by 16 ≡ why = cc in let b : 0 ≡ p = cc in rw (← a, ← b) (refl, omega arith)
 
-    pub write-answers : (o : Outcome) → Each (λ why p. (isNumber why ≡ true) × (p ≤ end)) o → (o ≡ passed → length octets ≡ n)
+    pub write-answers : (o : Outcome) → Each (λ why p. (isNumber (numberOf why) ≡ true) × (p ≤ end)) o → (o ≡ passed → length octets ≡ n)
         → Answers end out (writeAnswer o n out) (writeOut o n octets out)
     write-answers o each long = record {
       when-refused = λ why p e. let t = told-each o each why p e in (t .0, t .1, refused-leaves o why p e);

@@ -7,7 +7,7 @@ use mathlib.Core.Bool.{true, cond}
 use mathlib.Core.List.{List, _++_}
 use lib.Dec.{leb}
 use lib.ListN.{length, drop}
-use Rattle.refusal.specs.Numbers.{Why, by}
+use Rattle.refusal.specs.Numbers.{Why, by, numberOf}
 use Rattle.refusal.specs.Readers.{isNumber}
 use Rattle.refusal.specs.Outcome.{Outcome, passed, refused}
 use Rattle.refusal.specs.Length as told
@@ -25,5 +25,5 @@ writeOut (refused why p) n octets out = out
 -- DEMAND 1 of such a call, where what was lent for reading ends at `end`: a refusal has a number of the papers' tables and a place
 -- no further than that end, and leaves every octet; a success changes the octets that it reports and no others
 pub record Answers (end : ℕ) (out : List ℕ) (l : told.Length) (after : List ℕ) : Type 0 where
-  pub when-refused : (why : Why) (p : ℕ) → l ≡ told.refused why p → (isNumber why ≡ true) × (p ≤ end) × (after ≡ out)
+  pub when-refused : (why : Why) (p : ℕ) → l ≡ told.refused why p → (isNumber (numberOf why) ≡ true) × (p ≤ end) × (after ≡ out)
   pub when-written : (n : ℕ) → l ≡ told.written n → (n ≤ length out) × (length after ≡ length out) × (drop n after ≡ drop n out)

@@ -2,7 +2,7 @@
 -- others are of what is written (16, 17) and of a run (18). Of these 9 is told with its digit.
 use Prim.Native.Nat.{ℕ}
 use mathlib.Core.Bool.{Bool, true, _&&_, _||_}
-use lib.Dec.{leb}
+use lib.Dec.{eqb, leb}
 use Rattle.refusal.specs.Numbers.{Why, by, expecting}
 
 abbrev pub isPlain : ℕ → Bool
@@ -12,7 +12,6 @@ abbrev pub isOfReader : Why → Bool
 isOfReader (by n) = isPlain n
 isOfReader (expecting d) = true
 
--- every number of the papers' tables; 9 with one digit
-abbrev pub isNumber : Why → Bool
-isNumber (by n) = isPlain n || leb 16 n && leb n 18
-isNumber (expecting d) = leb d 9
+-- every number of the papers' tables
+abbrev pub isNumber : ℕ → Bool
+isNumber n = isPlain n || (eqb n 9 || leb 16 n && leb n 18)

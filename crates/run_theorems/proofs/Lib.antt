@@ -18,3 +18,5 @@ pub mod Expected
 pub mod Separation
 -- the number that is told where what was read is entered (`zero-allowed`, `seventeen-exactly`, `sixteen-exactly`)
 pub mod NumbersEntered
+-- DEMAND 1 of a run, of the calls that write and of what C receives (`run-steps`, `entered-answers`, `answers-in-c`)
+pub mod EveryCall

@@ -25,10 +25,10 @@ use Rattle.run_theorems.proofs.ReadThenWritten.{passed-over, passed-the
 pub none-not-refused : (k : Why) (p : ℕ) → none ≡ refused k p → ⊥
 none-not-refused k p e = let z : _≡_ {A = ℕ} 0 1 = cc in omega arith
 
-next-not-refused : (n : ℕ) (k : Why) (p : ℕ) → next n ≡ refused k p → ⊥
+pub next-not-refused : (n : ℕ) (k : Why) (p : ℕ) → next n ≡ refused k p → ⊥
 next-not-refused n k p e = let z : _≡_ {A = ℕ} 0 1 = cc in omega arith
 
-next-not-none : (n : ℕ) → next n ≡ none → ⊥
+pub next-not-none : (n : ℕ) → next n ≡ none → ⊥
 next-not-none n e = let z : _≡_ {A = ℕ} 0 1 = cc in omega arith
 
 -- an entry is passed over, or the answer is 18 here

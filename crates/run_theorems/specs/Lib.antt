@@ -6,5 +6,7 @@ pub mod Keys
 pub mod Expected
 -- the lines of a house
 pub mod Separation
+-- DEMAND 1, in what each call answers
+pub mod EveryCall
 -- when 0 is told where what was read is entered, and what is left
 pub mod Entered

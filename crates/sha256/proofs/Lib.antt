@@ -16,3 +16,5 @@ pub mod RoundLaws
 pub mod PaddingLaws
 -- the blocks of a padded message
 pub mod ChainLaws
+-- a digest has 32 octets
+pub mod DigestLength
