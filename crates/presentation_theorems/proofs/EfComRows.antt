@@ -12,11 +12,11 @@ use Rattle.tlv.specs.Tags.{isGroup}
 use Rattle.tlv.specs.Tags as Tag
 use Rattle.efcom.specs.EfCom.{knownFrom, onceFrom, tagsCheck, fromTagList, isUnicode, fromUnicode, isVersion, fromVersion}
 use Rattle.text_theorems.proofs.FirstFailing.{firstOf}
-use Rattle.presentation_theorems.specs.Standing.{stretchAt, coded}
+use Rattle.row_theorems.specs.Standing.{stretchAt, coded}
 use Rattle.presentation_theorems.specs.EfComChecks.{versionChecks, unicodePlace, unicodeChecks, listPlace, knownChecks}
 use Rattle.presentation_theorems.specs.EfComChecks.{onceChecks, tagListChecks, efComChecks, tagList}
-use Rattle.presentation_theorems.proofs.Rows.{under, keep, first-then, checked-else, goes-on, stops}
-use Rattle.presentation_theorems.proofs.Rows.{element-then, element-of-two}
+use Rattle.row_theorems.proofs.Rows.{under, keep, first-then, checked-else, goes-on, stops}
+use Rattle.row_theorems.proofs.Rows.{element-then, element-of-two}
 
 -- ---- the tags of the list, a row for each
 

@@ -18,12 +18,12 @@ use Rattle.object.specs.Object.{GroupHash, digestFor}
 use Rattle.chip.specs.Outer.{fileAt, filesFrom, files}
 use Rattle.chip.specs.Files.{isExpected, isDigested, fileCheck, filesCheck}
 use Rattle.text_theorems.proofs.FirstFailing.{firstOf}
-use Rattle.presentation_theorems.specs.Standing.{each}
+use Rattle.row_theorems.specs.Standing.{each}
 use Rattle.presentation_theorems.specs.PresentationChecks.{lentFile, filePlaces, groupChecks, fileChecks, filesChecks}
 use Rattle.presentation_theorems.specs.ObjectChecks.{groupHash}
 use Rattle.presentation_theorems.proofs.Elements.{same-test}
-use Rattle.presentation_theorems.proofs.Rows.{under, element-row, coded-within, lastOf, last-passed}
-use Rattle.presentation_theorems.proofs.Places.{places-rows}
+use Rattle.row_theorems.proofs.Rows.{under, element-row, coded-within, lastOf, last-passed}
+use Rattle.row_theorems.proofs.Places.{places-rows}
 use Rattle.presentation_theorems.proofs.ObjectRows.{some-digest}
 
 -- ---- stage 2

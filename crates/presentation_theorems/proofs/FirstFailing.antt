@@ -24,14 +24,14 @@ use Rattle.chip.specs.Files.{filesCheck}
 use Rattle.chip.specs.Presentation.{groupOne, decided, readStages, readPresentation}
 use Rattle.text_theorems.specs.Ordered.{FirstFailing}
 use Rattle.text_theorems.proofs.FirstFailing.{firstOf, first-failing, failing-first}
-use Rattle.presentation_theorems.specs.Standing.{coded, each}
+use Rattle.row_theorems.specs.Standing.{coded, each}
 use Rattle.presentation_theorems.specs.EfComChecks.{tagList, efComChecks}
 use Rattle.presentation_theorems.specs.ObjectChecks.{sequenceBytes, placesIn, entriesPlace, entriesIn, objectChecks}
 use Rattle.presentation_theorems.specs.PresentationChecks.{efCom, object, lentFile, filePlaces, groupChecks, outerChecks}
 use Rattle.presentation_theorems.specs.PresentationChecks.{filesChecks, groupOneChecks, presentationChecks}
 use Rattle.presentation_theorems.proofs.Expected.{answer-outcome}
-use Rattle.presentation_theorems.proofs.Rows.{under, under-outcome, under-passed, under-same, keep, rows-then, first-then}
-use Rattle.presentation_theorems.proofs.Rows.{step-known, step-then, element-then}
+use Rattle.row_theorems.proofs.Rows.{under, under-outcome, under-passed, under-same, keep, rows-then, first-then}
+use Rattle.row_theorems.proofs.Rows.{step-known, step-then, element-then}
 use Rattle.presentation_theorems.proofs.EfComRows.{efcom-rows}
 use Rattle.presentation_theorems.proofs.ObjectRows.{object-rows}
 use Rattle.presentation_theorems.proofs.FilesRows.{files-rows, has-entry, signed-rows}

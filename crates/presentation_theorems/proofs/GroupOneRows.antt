@@ -17,11 +17,11 @@ use Rattle.tlv.specs.Tags as Tag
 use Rattle.chip.specs.Presentation.{firstFile, movedTo, moved, textAt, groupOne}
 use Rattle.text_theorems.specs.Ordered.{checksOf}
 use Rattle.text_theorems.proofs.FirstFailing.{firstOf, read-first}
-use Rattle.presentation_theorems.specs.Standing.{stretchAt, coded}
+use Rattle.row_theorems.specs.Standing.{stretchAt, coded}
 use Rattle.presentation_theorems.specs.PresentationChecks.{lentFile, textChecks, groupOnePlace, groupOneChecks}
 use Rattle.presentation_theorems.proofs.Elements.{same-test}
 use Rattle.presentation_theorems.proofs.GroupOne.{one-tag, tag-one}
-use Rattle.presentation_theorems.proofs.Rows.{under, under-first, keep, step-known, element-then}
+use Rattle.row_theorems.proofs.Rows.{under, under-first, keep, step-known, element-then}
 
 -- ---- the text
 

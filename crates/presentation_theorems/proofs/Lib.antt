@@ -37,10 +37,6 @@ pub mod Refusals
 pub mod Expected
 -- REQUEST 2026-02: what it lets in and what stays (`newly-presented`, `left-out-presented` and others)
 pub mod LeftOut
--- the checks as rows: what rows of checks before a value decide, and how they are joined
-pub mod Rows
--- a walk from place to place is the rows of each
-pub mod Places
 -- stage 3 as rows
 pub mod EfComRows
 -- stage 4 as rows

@@ -17,15 +17,15 @@ use Rattle.tlv.specs.Tags as Tag
 use Rattle.object.specs.Object.{GroupHash, isGroupNumber, digestAt, numberAt, entryAt, entriesFrom, entries, numbersOnce, count}
 use Rattle.object.specs.Object.{entriesCheck, fromEntryList, isSha256, fromAlgorithm, isZero, fromVersion}
 use Rattle.text_theorems.proofs.FirstFailing.{firstOf}
-use Rattle.presentation_theorems.specs.Standing.{stretchAt, coded, each}
+use Rattle.row_theorems.specs.Standing.{stretchAt, coded, each}
 use Rattle.presentation_theorems.specs.ObjectChecks.{zeroChecks, algorithmPlace, algorithmChecks, entriesPlace}
 use Rattle.presentation_theorems.specs.ObjectChecks.{sequenceBytes, numberPlace, numberStretch, digestStretch, groupHash}
 use Rattle.presentation_theorems.specs.ObjectChecks.{entryChecks, entryPlaces, repeatedChecks, placesIn, entriesIn}
 use Rattle.presentation_theorems.specs.ObjectChecks.{entryListChecks, objectChecks}
 use Rattle.presentation_theorems.proofs.Elements.{end-there}
-use Rattle.presentation_theorems.proofs.Rows.{under, keep, first-then, checked-else, stops, step-then, element-then}
-use Rattle.presentation_theorems.proofs.Rows.{element-of-two, some-place, coded-within, lastOf, last-passed}
-use Rattle.presentation_theorems.proofs.Places.{places-rows}
+use Rattle.row_theorems.proofs.Rows.{under, keep, first-then, checked-else, stops, step-then, element-then}
+use Rattle.row_theorems.proofs.Rows.{element-of-two, some-place, coded-within, lastOf, last-passed}
+use Rattle.row_theorems.proofs.Places.{places-rows}
 
 -- ---- one entry
 

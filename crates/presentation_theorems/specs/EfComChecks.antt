@@ -11,7 +11,7 @@ use Rattle.tlv.specs.declared.Stretch.{Stretch}
 use Rattle.tlv.specs.Cut.{cut, hasOctets, endCheck}
 use Rattle.tlv.specs.Tags.{isGroup}
 use Rattle.tlv.specs.Tags as Tag
-use Rattle.presentation_theorems.specs.Standing.{stretchAt, coded}
+use Rattle.row_theorems.specs.Standing.{stretchAt, coded}
 
 -- "5F01 of length 4, `0107`"
 unfoldable pub versionChecks : List ℕ → ℕ → List Outcome

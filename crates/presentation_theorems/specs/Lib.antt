@@ -4,9 +4,7 @@ pub mod Presented
 pub mod Expected
 -- reading before request 2026-02
 pub mod Before
--- the first failing check: elements said of the octets alone
-pub mod Standing
--- the checks of EF.COM, a row for each sentence that can refuse
+-- the first failing check: the checks of EF.COM, a row for each sentence that can refuse
 pub mod EfComChecks
 -- those of the security object
 pub mod ObjectChecks

@@ -13,7 +13,7 @@ use Rattle.tlv.specs.declared.Stretch.{Stretch}
 use Rattle.tlv.specs.Cut.{cut, hasOctets, endCheck}
 use Rattle.tlv.specs.Tags as Tag
 use Rattle.object.specs.Object.{GroupHash, isSha256}
-use Rattle.presentation_theorems.specs.Standing.{stretchAt, coded, places, each}
+use Rattle.row_theorems.specs.Standing.{stretchAt, coded, places, each}
 
 -- "version integer 0": one octet, "or a version of another value"
 unfoldable pub zeroChecks : List ℕ → ℕ → List Outcome

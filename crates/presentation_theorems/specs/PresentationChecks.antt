@@ -17,7 +17,7 @@ use Rattle.chip.specs.Outer.{File}
 use Rattle.chip.specs.Files.{isDigested}
 use Rattle.chip.specs.Presentation.{movedTo}
 use Rattle.text_theorems.specs.Ordered.{checksOf}
-use Rattle.presentation_theorems.specs.Standing.{stretchAt, coded, places, each}
+use Rattle.row_theorems.specs.Standing.{stretchAt, coded, places, each}
 use Rattle.presentation_theorems.specs.EfComChecks.{tagList, efComChecks}
 use Rattle.presentation_theorems.specs.ObjectChecks.{entriesPlace, entriesIn, objectChecks}
 

@@ -9,8 +9,8 @@ use lib.Dec.{leb}
 use Rattle.refusal.specs.Outcome.{Outcome, passed}
 use Rattle.tlv.specs.Read.{Read, value, andThen}
 use Rattle.text_theorems.proofs.FirstFailing.{firstOf}
-use Rattle.presentation_theorems.specs.Standing.{placesFrom, places, each}
-use Rattle.presentation_theorems.proofs.Rows.{under, under-same, rows-then, step-known}
+use Rattle.row_theorems.specs.Standing.{placesFrom, places, each}
+use Rattle.row_theorems.proofs.Rows.{under, under-same, rows-then, step-known}
 
 -- end: where what is walked ends; what stands at a place, by which rows, and where it ends; what the walk makes of it
 module _ {A B : Type 0} (end : ℕ) (step : ℕ → Read A) (rows : ℕ → List Outcome) (found : ℕ → A) (endOf : A → ℕ)

@@ -17,7 +17,7 @@ use Rattle.tlv.specs.Element.{element, sized, endsWithin, sizeAt, tagAt, tagWid
 use Rattle.tlv.proofs.Joined.{checked-outcome}
 use Rattle.tlv.proofs.Past.{value-within}
 use Rattle.text_theorems.proofs.FirstFailing.{firstOf}
-use Rattle.presentation_theorems.specs.Standing.{isLength, stretchBy, stretchAt, isCoded, coded}
+use Rattle.row_theorems.specs.Standing.{isLength, stretchBy, stretchAt, isCoded, coded}
 
 -- a test that goes on where it holds, and one that goes on where it does not
 pub goes-on : (b : Bool) (n p : ℕ) (rest : Outcome) → cond b rest (refused (by n) p) ≡ orElse (unless b n p) rest

@@ -1,0 +1,4 @@
+-- what rows of checks before a value decide, and how they are joined
+pub mod Rows
+-- a walk from place to place is the rows of each
+pub mod Places

@@ -1,0 +1,2 @@
+-- elements said of the octets alone
+pub mod Standing
