@@ -21,7 +21,7 @@ static const char usage[] =
     "printed symbol holds, as a reader of Data Matrix gives them. Prints the fields of its\n"
     "header, its record, its entry in hex and its signature, or the refusal with a caret under\n"
     "its octet. The house is 1 unless one is given. --out names a file for the entries that were\n"
-    "accepted, which desk run reads.\n"
+    "accepted, which desk run reads; where a FILE cannot be read, it is left as it is.\n"
     "\n"
     "A file is read as it is. With --hex it has hex digits, parted as you like, and a line that\n"
     "begins with # is a remark. On standard input one line end behind the seal is left out:\n"

@@ -10,7 +10,7 @@ int store_add(struct store *store, const uint8_t *entry, size_t len)
 
 enum status store_write(const struct store *store, const char *file, enum status status)
 {
-    if (file == NULL) {
+    if (file == NULL || status == NOT_DONE) {
         return status;
     }
     if (!octets_write(file, store->run.at, store->run.len)) {

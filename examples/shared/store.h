@@ -16,7 +16,8 @@ int store_add(struct store *store, const uint8_t *entry, size_t len);
 
 /*
  * Makes a file of the run, where one is named, and tells how many entries it has: also none, which is
- * the empty run. Gives the status, or NOT_DONE where the file cannot be written, which is told.
+ * the empty run. What is NOT_DONE has no run to be kept: what the file had before stays. Gives the
+ * status, or NOT_DONE where the file cannot be written, which is told.
  */
 enum status store_write(const struct store *store, const char *file, enum status status);
 

@@ -30,3 +30,9 @@ entries_of() {
     sed -n 's/^  entry        //p' "$@" | tr -d '\n'
 }
 try 'they are those that are shown' cmp "$folder/kept" <(octets "$(entries_of "$expected/seal" "$expected/version-03")")
+cp "$folder/kept" "$folder/kept-before"
+says 'a file that cannot be read' 2 "$folder/none: No such file or directory" --out "$folder/kept" "$folder/none"
+try 'leaves what is kept' cmp "$folder/kept-before" "$folder/kept"
+answers 'a file that cannot be read, behind one that can' 2 "$expected/seal" \
+    <(echo "scanner: $folder/none: No such file or directory") --out "$folder/kept" --hex "$samples/seal.hex" "$folder/none"
+try 'leaves what is kept too' cmp "$folder/kept-before" "$folder/kept"
