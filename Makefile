@@ -25,6 +25,9 @@ all: libraries desk scanner
 help:
 	@sed -n 's/^## //p' Makefile
 
+# A value as one word of the shell's, whatever stands in it.
+quoted = '$(subst ','\'',$(1))'
+
 # Says of a command that is missing what it is for.
 found = @command -v $(1) > /dev/null || { echo '$(1) is not on the PATH: $(2)'; exit 1; }
 rt-found = $(call found,rt,the command of the Rattle toolchain builds and proves this repository)
@@ -70,23 +73,26 @@ $(SEALS_ARCHIVE): $(call sources,lamphudet_seals) | $(ARCHIVE)
 endif
 
 ARCHIVES := $(ARCHIVE) $(SEALS_ARCHIVE)
-ifneq ($(words $(ARCHIVES)),2)
-$(error a blank stands in the name of an archive: $(ARCHIVES))
-endif
+
+# What is built has one name each, and make takes names apart at their blanks.
+one-name = $(if $(filter-out 1,$(words $($(1)))),$(error $(1) is empty or has a blank in its name: '$($(1))'))
+$(foreach built,ARCHIVE SEALS_ARCHIVE DESK SCANNER,$(call one-name,$(built)))
 
 # What the C compiler makes is made again where it, its flags or the archives are not those of the last time.
+with = $(call quoted,$(C99) $(LDFLAGS) $(ARCHIVES))
 %.with: always
 	@mkdir -p '$(@D)'
-	@echo '$(C99) $(ARCHIVES)' | cmp -s - '$@' || echo '$(C99) $(ARCHIVES)' > '$@'
+	@printf '%s\n' $(with) | cmp -s - '$@' || printf '%s\n' $(with) > '$@'
 .PHONY: always
 always:
 .SECONDARY:
 
-# Beside each archive a shared library, which is the archive's code and hands out the calls alone.
+# Beside each archive a shared library, which is the archive's code and hands out the calls alone. Its name has a number of
+# the version, which stands in the header.
 SHARED := target/sharedlib/liblamphudet.so target/sharedlib/liblamphudet_seals.so
 target/sharedlib/liblamphudet.so: $(ARCHIVE)
 target/sharedlib/liblamphudet_seals.so: $(SEALS_ARCHIVE)
-$(SHARED): target/sharedlib/lib%.so: packaging/%.map target/sharedlib/lib%.so.with
+$(SHARED): target/sharedlib/lib%.so: packaging/%.map include/lamphudet.h target/sharedlib/lib%.so.with
 	$(cc-found)
 	@$(CC) -shared -o $@ -Wl,-soname,lib$*.so.$(firstword $(subst ., ,$(VERSION))) -Wl,--version-script,packaging/$*.map \
 	    -Wl,-z,defs -Wl,--whole-archive $(filter %.a,$^) -Wl,--no-whole-archive $(LDFLAGS)
@@ -109,8 +115,8 @@ $(DESK): $(call host-sources,desk) $(ARCHIVE) $(DESK).with
 desk: $(DESK)
 	@echo 'the desk is $(DESK); $(DESK) --help says what it does'
 
-# Of two archives the one that needs the other's calls stands first.
-$(SCANNER): $(call host-sources,scanner) $(SEALS_ARCHIVE) $(ARCHIVE) $(SCANNER).with
+# The scanner makes calls of both archives, neither of which needs the other.
+$(SCANNER): $(call host-sources,scanner) $(ARCHIVES) $(SCANNER).with
 	$(build-host)
 scanner: $(SCANNER)
 	@echo 'the scanner is $(SCANNER); $(SCANNER) --help says what it does'
@@ -122,12 +128,14 @@ demo: $(DESK) $(SCANNER)
 
 ##   make install    libraries, headers, pkg-config files, manual pages, desk and scanner below PREFIX
 ##   make uninstall  takes them away again
-export PREFIX LIBDIR INCLUDEDIR BINDIR MANDIR DESTDIR VERSION ARCHIVE SEALS_ARCHIVE DESK SCANNER
+# Handed to that script alone: a make that another recipe runs, such as a test's, is to make its own of them.
+handed = $(foreach name,PREFIX LIBDIR INCLUDEDIR BINDIR MANDIR DESTDIR VERSION ARCHIVE SEALS_ARCHIVE DESK SCANNER, \
+    $(name)=$(call quoted,$($(name))))
 install: libraries $(DESK) $(SCANNER)
-	@tools/install files
+	@$(handed) tools/install files
 
 uninstall:
-	@tools/install remove
+	@$(handed) tools/install remove
 
 ##   make test       the gate: all proved from nothing, wrong programs refused, every call compared
 test:
@@ -173,5 +181,5 @@ clean:
 ##   PREFIX=/usr/local, LIBDIR=PREFIX/lib, INCLUDEDIR=PREFIX/include, BINDIR=PREFIX/bin,
 ##   MANDIR=PREFIX/share/man, and DESTDIR, none, which stands before each when a package is made
 ##   CC=cc, CFLAGS=-O2, LDFLAGS, for shared libraries, desk and scanner
-##   LAMPHUDET_ARCHIVE, LAMPHUDET_SEALS_ARCHIVE: archives that were built elsewhere, taken as they are; then
-##   nothing is proved, and no rt is needed
+##   LAMPHUDET_ARCHIVE, LAMPHUDET_SEALS_ARCHIVE: archives that were built elsewhere, taken as they are by all
+##   but test and format; then nothing is proved, and no rt is needed

@@ -85,6 +85,23 @@ for variable in PREFIX LIBDIR INCLUDEDIR BINDIR MANDIR DESTDIR; do
     try "a blank in $variable is refused" refused $variable
 done
 
+# Nor where a place is none.
+refused_empty() {
+    refuses "$1 is empty" make --silent install DESTDIR="$folder/empty" "$1=" && [[ ! -e $folder/empty ]] \
+        && refuses "$1 is empty" make --silent uninstall DESTDIR="$folder/empty" "$1="
+}
+for variable in PREFIX LIBDIR INCLUDEDIR BINDIR MANDIR; do
+    try "an empty $variable is refused" refused_empty $variable
+done
+
+# Make hands places to what installs, and to nothing else that it runs: each make that a test runs works out its own.
+hands_none_on() {
+    printf 'include Makefile\nshow:\n\t@env\n' > "$folder/shows"
+    make --silent -f "$folder/shows" show > "$folder/handed" || return 1
+    ! grep -E '^(LIBDIR|INCLUDEDIR|BINDIR|MANDIR|SCANNER)=' "$folder/handed"
+}
+try 'make hands no place to its other recipes' hands_none_on
+
 # What a program can take from an installed archive or shared library: these calls, and nothing else.
 has_calls() {
     local library=$1
@@ -92,8 +109,12 @@ has_calls() {
     [[ $(nm -g --defined-only "$folder/usr/lib/lib$library.a" | awk 'NF == 3 { print $3 }' | tr '\n' ' ') = "$* " ]] \
         && [[ $(nm -D --defined-only "$folder/usr/lib/lib$library.so" | awk '{ print $3 }' | tr '\n' ' ') = "$* " ]]
 }
+# The name by which programs ask for a shared library.
+soname() {
+    objdump -p "$1" | awk '$1 == "SONAME" { print $2 }'
+}
 has_name() {
-    [[ $(objdump -p "$folder/usr/lib/lib$1.so" | awk '$1 == "SONAME" { print $2 }') = "lib$1.so.${version%%.*}" ]]
+    [[ $(soname "$folder/usr/lib/lib$1.so") = "lib$1.so.${version%%.*}" ]]
 }
 
 # The calls that a header declares are those that its libraries have.

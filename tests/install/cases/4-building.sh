@@ -75,6 +75,23 @@ END
 try 'make install without rt and a compiler' makes_bare install PREFIX="$folder/from-copy"
 try 'all of it is installed' stands "$folder/from-copy" "$folder/from-copy"
 
+# Other flags of the linker, a quote among them: what is linked is linked again, and archives are not built.
+links_again() {
+    touch "$folder/before" && made LDFLAGS="$1" \
+        && diff <(printf 'built target/sharedlib/lib%s.so\n' lamphudet lamphudet_seals) <(grep '^built \|^lib' "$folder/made") \
+        && [[ $copy/target/desk -nt $folder/before && $copy/target/scanner -nt $folder/before ]]
+}
+try 'other flags of the linker' links_again "-Wl,-rpath,'\$\$ORIGIN/lib'"
+try 'and none again' links_again ''
+
+# The shared libraries' name has a number of the version, which stands in the header.
+sed -i 's/^#define LAMPHUDET_VERSION ".*"$/#define LAMPHUDET_VERSION "77.0.0"/' "$copy/include/lamphudet.h"
+try 'another version' made
+for library in lamphudet lamphudet_seals; do
+    try "lib$library.so has its number" grep -qx "lib$library.so.77" <(soname "$copy/target/sharedlib/lib$library.so")
+done
+cp include/lamphudet.h "$copy/include/lamphudet.h"
+
 # A source that changes, comes or goes: what is built on it is built again.
 touch "$copy/crates/c40/src/lib.rt"
 try 'c40 has changed, which is of the seals alone' built_again 'liblamphudet_seals.a '
@@ -95,7 +112,11 @@ try 'is tried again' built_again 'liblamphudet.a liblamphudet_seals.a '
 
 # Archives that were built elsewhere.
 try 'no such archive' refuses 'which LAMPHUDET_ARCHIVE names' make desk LAMPHUDET_ARCHIVE=no-such-archive.a
-try 'a blank in the name of an archive' refuses 'a blank' make desk LAMPHUDET_ARCHIVE='two words.a'
+try 'a blank in the name of an archive' refuses 'ARCHIVE is empty or has a blank' make desk LAMPHUDET_ARCHIVE='two words.a'
+for host in DESK SCANNER; do
+    try "a blank in $host" refuses "$host is empty or has a blank" make help "$host=$folder/two words"
+    try "an empty $host" refuses "$host is empty or has a blank" make help "$host="
+done
 elsewhere_taken() {
     env -u LAMPHUDET_ARCHIVE -u LAMPHUDET_SEALS_ARCHIVE make -C "$copy" desk DESK="$folder/desk-elsewhere" \
         LAMPHUDET_ARCHIVE="$archive" > /dev/null && [[ -x $folder/desk-elsewhere ]]
