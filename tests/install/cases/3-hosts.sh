@@ -42,6 +42,16 @@ for pair in lamphudet:{digest,record,presentation,field,order,flips}.c lamphudet
     done
 done
 
+# Seals stand alone: a host that makes their call and no other needs no other library.
+printf '#include <lamphudet_seals.h>\nint main(void)\n{\n    return lamphudet_read_seal(1, 0, 0, 0, 0).number != %s;\n}\n' \
+    LAMPHUDET_REFUSED_SEAL_HEADER > "$folder/alone.c"
+alone() {
+    cc -std=c99 -Wall -Wextra -Wpedantic -Werror -I"$folder/usr/include" -o "$folder/host" "$folder/alone.c" \
+        -L"$folder/usr/lib" "$@" && LD_LIBRARY_PATH="$folder/usr/lib" "$folder/host"
+}
+try 'a host over the archive of seals alone' alone -Wl,-Bstatic -llamphudet_seals -Wl,-Bdynamic
+try 'a host over the shared library of seals alone' alone -llamphudet_seals
+
 # The desk and the scanner that are installed need nothing beside them.
 try 'the installed desk' "$folder/usr/bin/desk" text --file examples/desk/samples/t3.text > "$folder/desk"
 try 'the installed scanner' "$folder/usr/bin/scanner" --hex examples/scanner/samples/seal.hex > "$folder/scanner"
