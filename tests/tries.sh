@@ -7,6 +7,18 @@ failed=0
 folder=$(mktemp -d) || exit 2
 trap 'rm -rf "$folder"' EXIT
 
+# The version, which stands in the header.
+# shellcheck disable=SC2034
+version=$(sed -n 's/^#define LAMPHUDET_VERSION "\(.*\)"$/\1/p' include/lamphudet.h)
+
+# The calls of a header's library as it declares them, each in one line; those that the header defines itself end in {. What
+# lamphudet_field is made of is left out.
+declared() {
+    tr '\n' ' ' < "include/$1.h" | sed 's/  */ /g' \
+        | grep -oE '(lamphudet_[a-z]+ |const char \*)lamphudet_[a-z_]+\([a-z][^()]*\)( \{|;)' \
+        | grep -v 'lamphudet_part_at\|lamphudet_long_number' | LC_ALL=C sort
+}
+
 # A test that is a command. What it prints is shown.
 try() {
     local name=$1

@@ -5,9 +5,9 @@
  */
 #include "command.h"
 #include "number.h"
-#include "octets.h"
 #include "options.h"
 #include "program.h"
+#include "store.h"
 #include "usage.h"
 
 #include <stdio.h>
@@ -58,8 +58,7 @@ static enum asked take_group(struct order *order, struct options *taken, struct 
         misused("group is given '%s', which is no number", words->at[0]);
         return FOR_NOTHING;
     }
-    words->at++;
-    words->count--;
+    skip(words, 1);
     return options_take(taken, words);
 }
 
@@ -74,11 +73,7 @@ static int is_whole(const struct order *order, const struct command *command)
         misused("'%s' is given beside a file, and one input is read", order->operands[0]);
         return 0;
     }
-    if (order->out != NULL && is_standard(order->out) && !command->has_group) {
-        misused("--out is given no file, and standard output is for what is shown");
-        return 0;
-    }
-    return 1;
+    return command->has_group || is_place_of_store(order->out);
 }
 
 static enum asked understand(struct order *order, const struct command *command, struct words *words)
@@ -125,8 +120,7 @@ static enum asked understand_command(struct order *order, const struct command *
         misused("there is no command '%s'", words->at[0]);
         return FOR_NOTHING;
     }
-    words->at++;
-    words->count--;
+    skip(words, 1);
     return understand(order, *command, words);
 }
 

@@ -49,11 +49,7 @@ static enum asked understand(struct words *files)
         misused("no file is given");
         return FOR_NOTHING;
     }
-    if (asked == TO_WORK && options[OUT].given != NULL && is_standard(options[OUT].given)) {
-        misused("--out is given no file, and standard output is for what is shown");
-        return FOR_NOTHING;
-    }
-    return asked;
+    return asked == TO_WORK && !is_place_of_store(options[OUT].given) ? FOR_NOTHING : asked;
 }
 
 static enum status read_file(const char *file, struct store *kept)

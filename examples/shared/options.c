@@ -59,7 +59,7 @@ static int give(struct option *option, const char *value)
     return 1;
 }
 
-static void skip(struct words *words, int count)
+void skip(struct words *words, int count)
 {
     words->at += count;
     words->count -= count;

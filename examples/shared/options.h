@@ -26,6 +26,9 @@ struct words {
     int count;
 };
 
+/* Leaves the first ones behind, which were read. */
+void skip(struct words *words, int count);
+
 enum asked { TO_WORK, FOR_HELP, FOR_VERSION, FOR_NOTHING };
 
 /*

@@ -1,6 +1,17 @@
 #include "store.h"
 
+#include "options.h"
+
 #include <stdio.h>
+
+int is_place_of_store(const char *out)
+{
+    if (out != NULL && is_standard(out)) {
+        misused("--out is given no file, and standard output is for what is shown");
+        return 0;
+    }
+    return 1;
+}
 
 int store_add(struct store *store, const uint8_t *entry, size_t len)
 {

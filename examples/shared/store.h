@@ -11,6 +11,9 @@ struct store {
     unsigned long entries;
 };
 
+/* Whether what --out names will do: a file, or none at all. 0 where it is standard output, which is told. */
+int is_place_of_store(const char *out);
+
 /* Puts an entry behind those that are there. 0 where memory ran out, which is told. */
 int store_add(struct store *store, const uint8_t *entry, size_t len);
 

@@ -9,7 +9,6 @@ for words in '-h' 'help' 'help text' 'text --help' 'text -h' 'presentation --hou
     # shellcheck disable=SC2086
     holds "help by $words" 0 "$folder/usage" $words
 done
-version=$(sed -n 's/^#define LAMPHUDET_VERSION "\(.*\)"$/\1/p' include/lamphudet.h)
 holds 'the version' 0 <(echo "desk $version") --version
 holds 'the version behind a command' 0 <(echo "desk $version") text --version
 

@@ -1,8 +1,6 @@
 # shellcheck shell=bash disable=SC2154
 # What make install puts where. The cases behind this one use what it installs below usr.
 
-version=$(sed -n 's/^#define LAMPHUDET_VERSION "\(.*\)"$/\1/p' include/lamphudet.h)
-
 # Every file of an installation below a folder, by its path in it.
 all_files() {
     cat << END
@@ -118,12 +116,12 @@ has_name() {
 }
 
 # The calls that a header declares are those that its libraries have.
-declared() {
-    grep -ohE '^lamphudet_[a-z]+ lamphudet_[a-z_]+\(' "include/$1.h" | sed 's/^[^ ]* //; s/(//' | LC_ALL=C sort
+names_declared() {
+    declared "$1" | sed -n 's/^[^ ]* \([^(]*\)(.*;$/\1/p' | LC_ALL=C sort
 }
 for library in lamphudet lamphudet_seals; do
-    mapfile -t calls < <(declared $library)
+    mapfile -t calls < <(names_declared $library)
     try "$library has the calls of its header, and no others" has_calls $library "${calls[@]}"
     try "the shared library of $library has its name" has_name $library
 done
-try 'seals have one call' diff <(declared lamphudet_seals) <(echo lamphudet_read_seal)
+try 'seals have one call' diff <(names_declared lamphudet_seals) <(echo lamphudet_read_seal)

@@ -1,11 +1,9 @@
 # shellcheck shell=bash disable=SC2154
 # The pages of section 3 have the calls, the names and the words that the headers have.
 
-# The calls as a header declares them, without what lamphudet_field is made of, and as a page's synopsis does.
-declared() {
-    tr '\n' ' ' < "include/$1.h" | sed 's/  */ /g' \
-        | grep -oE '(lamphudet_[a-z]+ |const char \*)lamphudet_[a-z_]+\([a-z][^()]*\)( \{|;)' \
-        | sed 's/ *[{;]$//' | grep -v 'lamphudet_part_at\|lamphudet_long_number' | LC_ALL=C sort
+# The calls as a header has them, and as a page's synopsis does.
+in_header() {
+    declared "$1" | sed 's/ *[{;]$//' | LC_ALL=C sort
 }
 in_synopsis() {
     awk '
@@ -36,7 +34,7 @@ has_names() {
 
 for library in lamphudet lamphudet_seals; do
     try "man/$library.3 has some calls" [ "$(in_synopsis $library | wc -l)" -gt 0 ]
-    try "man/$library.3 has the calls of its header" diff <(declared $library) <(in_synopsis $library)
+    try "man/$library.3 has the calls of its header" diff <(in_header $library) <(in_synopsis $library)
     try "the header $library.h has some fields" [ "$(fields_of $library | wc -l)" -gt 0 ]
     try "man/$library.3 has the fields of its header" has_fields $library
     try "man/$library.3 makes no name up" has_names man/$library.3 include/*.h

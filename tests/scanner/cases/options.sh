@@ -8,7 +8,6 @@ for words in '-h' '--hex --help' '--house 1 -h'; do
     # shellcheck disable=SC2086
     holds "help by $words" 0 "$folder/usage" $words
 done
-version=$(sed -n 's/^#define LAMPHUDET_VERSION "\(.*\)"$/\1/p' include/lamphudet.h)
 holds 'the version' 0 <(echo "scanner $version") --version
 
 octets_of "$samples/seal.hex" > "$folder/octets"
