@@ -3,12 +3,13 @@
 use crate::border;
 use crate::cases::trees::Tree;
 use crate::cases::trials::{Call, Trials};
-use crate::cases::{chance, damage, outside, presentations};
+use crate::cases::{chance, damage, outside, presentations, printed};
 use crate::guard::{Lent, Side};
 use crate::report::{hex_shown, Tally};
 use paper::answer::{Outcome, Stretch};
 use paper::presentation::{group_file, write};
 use shared::files::files;
+use shared::worst::Worst;
 
 /// Numbers that are no group's: tags of groups, and those that are a group's only in their lowest octets.
 const OTHERS: [u32; 9] = [0x61, 0x75, 255, 256, 257, 65_537, 0x8000_0001, 0xffff_ff01, u32::MAX];
@@ -23,6 +24,7 @@ pub fn compare(seed: u64) -> Tally {
     trials.length_edges();
     trials.cut();
     trials.limit();
+    trials.worst();
     trials.fenced();
     trials.drawn();
     trials.tally
@@ -67,7 +69,7 @@ impl Call for GroupFile {
 
 impl Trials<GroupFile> {
     fn outside(&mut self) {
-        outside::all().iter().for_each(|vector| self.all_groups(&vector.octets));
+        outside::all().iter().chain(&printed::all()).for_each(|vector| self.all_groups(&vector.octets));
     }
 
     fn sound(&mut self) {
@@ -149,6 +151,11 @@ impl Trials<GroupFile> {
             self.all_groups(&made);
         }
         self.all_groups(&vec![0x60; 65_536]);
+    }
+
+    /// Those that give the most to do: the walk goes over every file, and so does the search for one that is not lent.
+    fn worst(&mut self) {
+        Worst::ALL.iter().for_each(|worst| self.all_groups(&worst.octets()));
     }
 
     /// Nothing is read past either end, wherever a presentation is cut, nor the pointer of an empty range.

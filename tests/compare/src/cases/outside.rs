@@ -5,28 +5,11 @@
 //! EF.COM has 23 octets and lists groups 1, 2 and 16, so the object begins at 23. The offsets in the object are those that
 //! `openssl asn1parse` prints (`remake.sh list`).
 
-use paper::answer::Outcome;
+use crate::cases::vector::{octets, refused, Vector};
 use paper::refusal::Refusal;
-use paper::{entry, specimens, text};
 
 /// Where the object begins.
 const OBJECT: usize = 23;
-
-pub struct Vector {
-    pub name: &'static str,
-    pub octets: Vec<u8>,
-    refusal: Option<Refusal>,
-}
-
-impl Vector {
-    /// What is answered with house 1: the refusal, or the entry of T3.
-    pub fn expected(&self, room: usize) -> Outcome {
-        match self.refusal {
-            Some(refusal) => Outcome::refused(refusal),
-            None => Outcome::written(entry::write(1, &text::read(specimens::T3.as_bytes()).unwrap()), room),
-        }
-    }
-}
 
 macro_rules! vector {
     ($name:literal, $refusal:expr) => {
@@ -40,10 +23,6 @@ macro_rules! vector {
 
 pub fn all() -> Vec<Vector> {
     accepted().into_iter().chain(refused_in_the_object()).chain(refused_behind_the_object()).collect()
-}
-
-fn refused(number: u32, place: usize) -> Option<Refusal> {
-    Some(Refusal::at(number, place))
 }
 
 fn accepted() -> Vec<Vector> {
@@ -99,12 +78,6 @@ fn refused_behind_the_object() -> Vec<Vector> {
         // "then the text's refusals": the text begins behind 61 5B 5F 1F 58, and its last digit, T3's 0, stands 87 further on.
         vector!("wrong-digit", Some(Refusal::digit(0, 123 + 5 + 87))),
     ]
-}
-
-fn octets(hex: &str) -> Vec<u8> {
-    let digits: Vec<u8> = hex.bytes().filter(u8::is_ascii_hexdigit).collect();
-    let octet = |pair: &[u8]| u8::from_str_radix(&String::from_utf8_lossy(pair), 16).unwrap();
-    digits.chunks(2).map(octet).collect()
 }
 
 #[cfg(test)]

@@ -3,7 +3,7 @@
 use crate::border;
 use crate::cases::houses::{house, HOUSES};
 use crate::cases::trials::{self, Call, Trials};
-use crate::cases::{chance, damage, digits, octets, outside, personal, presentations};
+use crate::cases::{chance, damage, digits, octets, outside, personal, presentations, printed};
 use crate::guard::{Lent, Side};
 use crate::report::{hex_shown, Tally};
 use paper::answer::{Answer, Outcome};
@@ -14,6 +14,7 @@ use paper::{calls, group, specimens};
 use shared::files::{files, group_1};
 use shared::records;
 use shared::seeds::Seeds;
+use shared::worst::Worst;
 use std::ops::Range;
 
 /// As long as the longest entry.
@@ -25,6 +26,7 @@ pub fn compare(seed: u64) -> Tally {
     trials.sound();
     trials.rooms_and_houses();
     trials.limit();
+    trials.worst();
     trials.length_edges();
     trials.damage();
     trials.pairs();
@@ -76,9 +78,9 @@ impl Call for ReadPresentation {
 }
 
 impl Trials<ReadPresentation> {
-    /// Presentations whose object another encoder made, with the answers that are argued for there.
+    /// Presentations of which another encoder or the paper itself made a part, with the answers that are argued for there.
     fn outside(&mut self) {
-        for vector in outside::all() {
+        for vector in outside::all().into_iter().chain(printed::all()) {
             let (lent, entry) = (self.lent(&vector.octets), self.room(ROOM));
             self.count(trials::held_to(&vector.expected(ROOM), ReadPresentation { house: 1, lent, entry }));
         }
@@ -135,6 +137,15 @@ impl Trials<ReadPresentation> {
             made.truncate(last);
             made.extend([0x6a, 0x82, length[0], length[1]]);
             self.case(&made);
+        }
+    }
+
+    /// Those that give the most to do beside digests.
+    fn worst(&mut self) {
+        for octets in Worst::ALL.map(Worst::octets) {
+            self.plain(&octets);
+            self.case(&octets);
+            Side::BOTH.iter().for_each(|side| self.fence(&octets, ROOM, *side));
         }
     }
 
