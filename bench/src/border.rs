@@ -1,6 +1,6 @@
 //! The calls of the archives over bare ranges, with nothing around them that would be measured too.
 
-use paper::answer::Answer;
+use paper::answer::{Answer, Stretch};
 use paper::opened::Opened;
 use paper::seal::answer::SealAnswer;
 use shared::header;
@@ -33,6 +33,11 @@ pub fn next_entry(run: &[u8], offset: u64) -> Answer {
 pub fn read_presentation(house: u32, lent: &[u8], entry: &mut [u8]) -> Answer {
     // As for the digest.
     unsafe { header::lamphudet_read_presentation(house, lent.as_ptr(), lent.len(), entry.as_mut_ptr(), entry.len()) }
+}
+
+pub fn group_file(lent: &[u8], group: u32) -> Stretch {
+    // The range is valid for its length.
+    unsafe { header::lamphudet_group_file(lent.as_ptr(), lent.len(), group) }
 }
 
 pub fn read_seal(house: u32, seal: &[u8], entry: &mut [u8]) -> SealAnswer {

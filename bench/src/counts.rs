@@ -7,8 +7,8 @@ use std::process::Command;
 
 /// None where valgrind is not installed.
 pub fn count(contender: Contender, job: Job) -> Option<u64> {
-    // The difference of two runs, so that starting up is not counted. All the records are taken once.
-    let more = if job.size() > 0 { 16 } else { 256 };
+    // The difference of two runs, so that starting up is not counted. All that is taken in turn is taken once.
+    let more = job.turns() as u64;
     Some((collected(contender, job, 2 + more)? - collected(contender, job, 2)?) / more)
 }
 
@@ -18,7 +18,7 @@ fn collected(contender: Contender, job: Job, times: u64) -> Option<u64> {
     command.args(["--tool=callgrind", "--callgrind-out-file=/dev/null"]);
     worker::with_instructions(&mut command, contender);
     command.arg(worker::this_program());
-    command.args(["once", contender.title(), job.kind(), &job.size().to_string(), &times.to_string()]);
+    command.args(["once", contender.title(), &job.kind(), &job.size().to_string(), &times.to_string()]);
     let said = command.output().ok()?.stderr;
     let said = String::from_utf8_lossy(&said).into_owned();
     let (_, count) = said.lines().find_map(|line| line.split_once("Collected :"))?;

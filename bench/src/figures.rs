@@ -37,6 +37,21 @@ pub struct Kind<'a> {
     pub unit: Unit,
     pub contenders: &'a [Contender],
     pub jobs: &'a [Job],
+    pub given: Option<Given>,
+}
+
+/// Instructions that were given, and are not measured here: whose, and of which jobs.
+#[derive(Clone, Copy)]
+pub struct Given {
+    pub title: &'static str,
+    pub figures: &'static [(Job, u64)],
+}
+
+impl Given {
+    fn of(self, job: Job) -> String {
+        let found = self.figures.iter().find(|(of, _)| *of == job);
+        found.map_or(NONE.into(), |(_, figure)| grouped(*figure))
+    }
 }
 
 impl Kind<'_> {
@@ -57,7 +72,7 @@ impl Kind<'_> {
         Table { titles: self.titles(self.unit.title(), others), rows }
     }
 
-    /// The library's instructions, and those of each other over them.
+    /// The library's instructions, and those of each other over them; behind these the ones that were given, as they are.
     pub fn instructions(&self) -> Table {
         let others: Vec<Contender> = self.contenders[1..].iter().copied().filter(|one| one.countable()).collect();
         let row = |job: &Job| {
@@ -67,9 +82,12 @@ impl Kind<'_> {
                 _ => NONE.into(),
             };
             let first = vec![job.title(), own.map_or(NONE.into(), grouped)];
-            [first, others.iter().map(ratio).collect()].concat()
+            let last = self.given.map(|given| given.of(*job));
+            [first, others.iter().map(ratio).collect(), last.into_iter().collect()].concat()
         };
-        Table { titles: self.titles("instructions", &others), rows: self.jobs.iter().map(row).collect() }
+        let mut titles = self.titles("instructions", &others);
+        titles.extend(self.given.map(|given| given.title.into()));
+        Table { titles, rows: self.jobs.iter().map(row).collect() }
     }
 
     fn is_present(&self, contender: Contender) -> bool {

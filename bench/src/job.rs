@@ -1,6 +1,9 @@
 //! What is measured, and work on it.
 
+use crate::records::{MIXED, RECORDS};
+use paper::refusal::LONGEST;
 use shared::grouped::grouped;
+use shared::worst::Worst;
 
 /// The work of a contender on a job, ready to be done again and again.
 pub type Work = Box<dyn FnMut()>;
@@ -11,6 +14,8 @@ pub enum Job {
     Digest(usize),
     /// One text read, and its entry written.
     ReadText,
+    /// One text read that may be damaged, and its entry written or it refused.
+    ReadMixed,
     /// One entry of a run read.
     NextEntry,
     /// One entry read, and every field of its record handed out.
@@ -21,6 +26,10 @@ pub enum Job {
     ReadPresentation(usize),
     /// The digests of that presentation's group files, and nothing else.
     DigestFiles(usize),
+    /// One presentation read that gives the most to do beside digests. It is refused when all of it was looked at.
+    ReadWorst(Worst),
+    /// The file of a group looked for in it that is not there.
+    FindInWorst(Worst),
     /// One seal read, and its entry written.
     ReadSeal,
     /// The text of that seal read alone, and the same entry written.
@@ -30,24 +39,37 @@ pub enum Job {
 impl Job {
     /// One block, two sizes between, and the longest input.
     pub const DIGESTS: [Job; 4] = [Job::Digest(64), Job::Digest(1_024), Job::Digest(16_384), Job::Digest(65_535)];
-    pub const RECORDS: [Job; 4] = [Job::ReadText, Job::NextEntry, Job::OpenEntry, Job::WriteText];
+    pub const RECORDS: [Job; 5] = [Job::ReadText, Job::ReadMixed, Job::NextEntry, Job::OpenEntry, Job::WriteText];
     /// 2, 16 and 60 KB.
     pub const PRESENTATIONS: [Job; 3] =
         [Job::ReadPresentation(2_048), Job::ReadPresentation(16_384), Job::ReadPresentation(61_440)];
+    /// Each with the call that it gives the most to do.
+    pub const WORST: [Job; 6] = [
+        Job::ReadWorst(Worst::TinyFiles),
+        Job::FindInWorst(Worst::TinyFiles),
+        Job::ReadWorst(Worst::RandomTags),
+        Job::FindInWorst(Worst::RandomTags),
+        Job::ReadWorst(Worst::OneGroup),
+        Job::ReadWorst(Worst::LongestList),
+    ];
     pub const SEALS: [Job; 2] = [Job::ReadSeal, Job::ReadSealText];
 
-    pub fn kind(self) -> &'static str {
-        match self {
+    pub fn kind(self) -> String {
+        let kind = match self {
             Job::Digest(_) => "digest",
             Job::ReadText => "read_text",
+            Job::ReadMixed => "read_mixed",
             Job::NextEntry => "next_entry",
             Job::OpenEntry => "open_entry",
             Job::WriteText => "write_text",
             Job::ReadPresentation(_) => "read_presentation",
             Job::DigestFiles(_) => "digest_files",
+            Job::ReadWorst(worst) => return format!("read_{worst:?}"),
+            Job::FindInWorst(worst) => return format!("find_in_{worst:?}"),
             Job::ReadSeal => "read_seal",
             Job::ReadSealText => "read_seal_text",
-        }
+        };
+        kind.into()
     }
 
     /// What its row in a table begins with.
@@ -55,9 +77,12 @@ impl Job {
         match self {
             Job::Digest(size) | Job::ReadPresentation(size) | Job::DigestFiles(size) => grouped(size as u64),
             Job::ReadText => "texts read, entries written".into(),
+            Job::ReadMixed => "texts read, half of them refused".into(),
             Job::NextEntry => "entries read".into(),
             Job::OpenEntry => "entries opened".into(),
             Job::WriteText => "texts written from entries".into(),
+            Job::ReadWorst(worst) => format!("{}, read", told(worst)),
+            Job::FindInWorst(worst) => format!("{}, a file looked for", told(worst)),
             Job::ReadSeal => "seal of 134 octets read, entry written".into(),
             Job::ReadSealText => "its text of 72 characters read, entry written".into(),
         }
@@ -67,16 +92,35 @@ impl Job {
     pub fn size(self) -> usize {
         match self {
             Job::Digest(size) | Job::ReadPresentation(size) | Job::DigestFiles(size) => size,
+            Job::ReadWorst(_) | Job::FindInWorst(_) => LONGEST,
             _ => 0,
+        }
+    }
+
+    /// How often it is done for each of its inputs to be taken once, and at least so often that it can be counted.
+    pub fn turns(self) -> usize {
+        match self {
+            Job::ReadMixed => MIXED,
+            _ if self.size() > 0 => 16,
+            _ => RECORDS,
         }
     }
 
     pub fn named(kind: &str, size: &str) -> Job {
         let size = size.parse().expect("a size");
         let digested = Job::PRESENTATIONS.map(|job| Job::DigestFiles(job.size()));
-        let mut jobs =
-            Job::DIGESTS.into_iter().chain(Job::RECORDS).chain(Job::PRESENTATIONS).chain(digested).chain(Job::SEALS);
+        let octets = Job::DIGESTS.into_iter().chain(Job::PRESENTATIONS).chain(digested).chain(Job::WORST);
+        let mut jobs = octets.chain(Job::RECORDS).chain(Job::SEALS);
         let found = jobs.find(|job| job.kind() == kind && job.size() == size);
         found.expect("the name of a job")
+    }
+}
+
+fn told(worst: Worst) -> &'static str {
+    match worst {
+        Worst::TinyFiles => "tiny files",
+        Worst::RandomTags => "tiny files, random tags",
+        Worst::OneGroup => "entries for one group",
+        Worst::LongestList => "the longest tag list",
     }
 }

@@ -25,6 +25,7 @@ mod stack;
 mod table;
 mod work;
 mod worker;
+mod worst;
 
 use contender::Contender;
 use job::Job;

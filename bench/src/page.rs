@@ -1,21 +1,27 @@
 //! The page of figures: its words are kept in `page.md`, with a name in braces where each table goes.
 
 use crate::contender::Contender;
-use crate::figures::{Kind, Unit};
+use crate::figures::{Given, Kind, Unit};
 use crate::job::Job;
 use crate::ratio;
 use crate::share;
 use crate::stack;
 use crate::table::Table;
+use crate::worst;
 
 const WORDS: &str = include_str!("page.md");
 const BOTH: [Contender; 2] = [Contender::Library, Contender::Rust];
-const KINDS: [(&str, Kind); 4] = [
-    ("digest", Kind { title: "octets", unit: Unit::Nanoseconds, contenders: &Contender::ALL, jobs: &Job::DIGESTS }),
-    ("record", Kind { title: "call", unit: Unit::ASecond, contenders: &BOTH, jobs: &Job::RECORDS }),
-    ("presentation", Kind { title: "octets", unit: Unit::ASecond, contenders: &BOTH, jobs: &Job::PRESENTATIONS }),
-    ("seal", Kind { title: "call", unit: Unit::ASecond, contenders: &BOTH, jobs: &Job::SEALS }),
-];
+const KINDS: [(&str, Kind); 4] =
+    [("digest", DIGESTS), ("record", RECORDS), ("presentation", PRESENTATIONS), ("seal", SEALS)];
+const DIGESTS: Kind =
+    Kind { title: "octets", unit: Unit::Nanoseconds, contenders: &Contender::ALL, jobs: &Job::DIGESTS, given: None };
+const RECORDS: Kind =
+    Kind { title: "call", unit: Unit::ASecond, contenders: &BOTH, jobs: &Job::RECORDS, given: Some(PORTABLE_C) };
+const PRESENTATIONS: Kind =
+    Kind { title: "octets", unit: Unit::ASecond, contenders: &BOTH, jobs: &Job::PRESENTATIONS, given: None };
+const SEALS: Kind = Kind { title: "call", unit: Unit::ASecond, contenders: &BOTH, jobs: &Job::SEALS, given: None };
+const PORTABLE_C: Given =
+    Given { title: "portable C", figures: &[(Job::ReadText, 809), (Job::NextEntry, 613), (Job::WriteText, 966)] };
 
 /// Measures everything, which takes a while, so each table is told of when it is begun.
 pub fn page() -> String {
@@ -25,6 +31,7 @@ pub fn page() -> String {
         page = with(page, &format!("{name} instructions"), || kind.instructions());
     }
     page = with(page, "presentation share", share::table);
+    page = with(page, "worst presentations", worst::table);
     page = with(page, "seal ratio", ratio::table);
     with(page, "stack", stack::table)
 }
@@ -47,9 +54,10 @@ mod tests {
             page = with(page, &format!("{name} instructions"), table);
         }
         page = with(page, "presentation share", table);
+        page = with(page, "worst presentations", table);
         page = with(page, "seal ratio", table);
         page = with(page, "stack", table);
         assert!(!page.contains('{'));
-        assert_eq!(page.matches("| call |").count(), 11);
+        assert_eq!(page.matches("| call |").count(), 12);
     }
 }

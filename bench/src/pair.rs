@@ -4,6 +4,7 @@ use crate::contender::Contender;
 use crate::counts;
 use crate::job::Job;
 use crate::rounds::{enough, median, ROUNDS};
+use crate::table::NONE;
 use crate::worker::Worker;
 
 /// The figure from what each of the two takes.
@@ -21,4 +22,14 @@ pub fn timed(worker: &mut Worker, jobs: [Job; 2], figure: Figure) -> f64 {
 pub fn counted(jobs: [Job; 2], figure: Figure) -> Option<f64> {
     let count = |job| Some(counts::count(Contender::Library, job)? as f64);
     Some(figure(count(jobs[0])?, count(jobs[1])?))
+}
+
+/// The time of the one over that of the other, and its instructions likewise.
+pub fn ratios(worker: &mut Worker, jobs: [Job; 2]) -> Vec<String> {
+    let shown = |ratio: f64| format!("{ratio:.2}");
+    vec![shown(timed(worker, jobs, over)), counted(jobs, over).map_or(NONE.into(), shown)]
+}
+
+fn over(one: f64, other: f64) -> f64 {
+    one / other
 }

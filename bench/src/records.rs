@@ -1,4 +1,5 @@
-//! The work on texts and entries: sound records of all forms, taken in turn, as a server meets them.
+//! The work on texts and entries: sound records of all forms, taken in turn, as a server meets them, and texts of which half
+//! are refused.
 
 use crate::border;
 use crate::contender::Contender;
@@ -6,23 +7,23 @@ use crate::job::{Job, Work};
 use paper::answer::Answer;
 use paper::opened::Opened;
 use paper::{calls, entry, text};
-use shared::records;
+use shared::records::{self, until, ALPHABET};
 use shared::seeds::Seeds;
 use std::hint::black_box;
 
-const RECORDS: usize = 256;
+/// How many there are of each, and of the mixed texts.
+pub const RECORDS: usize = 256;
+pub const MIXED: usize = 4_000;
 
 pub fn of(contender: Contender, job: Job) -> Option<Work> {
     match (contender, job) {
         (Contender::Library, Job::ReadText) => Some(over(texts(), |text, room| border::read_text(1, text, room))),
+        (Contender::Library, Job::ReadMixed) => Some(mixed(|text, room| border::read_text(1, text, room))),
         (Contender::Library, Job::WriteText) => Some(over(entries(), border::write_text)),
         (Contender::Library, Job::OpenEntry) => Some(opening(border::open_entry)),
         (Contender::Library, Job::NextEntry) => Some(along(border::next_entry)),
-        (Contender::Rust, Job::ReadText) => Some(over(texts(), |text, room| {
-            let outcome = calls::read_text(1, text, room.len());
-            room[..outcome.written.len()].copy_from_slice(&outcome.written);
-            outcome.answer
-        })),
+        (Contender::Rust, Job::ReadText) => Some(over(texts(), read_text)),
+        (Contender::Rust, Job::ReadMixed) => Some(mixed(read_text)),
         (Contender::Rust, Job::WriteText) => Some(over(entries(), |entry, room| {
             let outcome = calls::write_text(entry, room.len());
             room[..outcome.written.len()].copy_from_slice(&outcome.written);
@@ -32,6 +33,13 @@ pub fn of(contender: Contender, job: Job) -> Option<Work> {
         (Contender::Rust, Job::NextEntry) => Some(along(calls::next_entry)),
         _ => None,
     }
+}
+
+/// The independent implementation's.
+pub fn read_text(text: &[u8], room: &mut [u8]) -> Answer {
+    let outcome = calls::read_text(1, text, room.len());
+    room[..outcome.written.len()].copy_from_slice(&outcome.written);
+    outcome.answer
 }
 
 fn entries() -> Vec<Vec<u8>> {
@@ -44,12 +52,47 @@ fn texts() -> Vec<Vec<u8>> {
     (0..RECORDS).map(|_| text::write(&records::sound(&mut seeds))).collect()
 }
 
+/// Sound texts, and in the place of every other one a text that is refused.
+fn mixed_texts() -> Vec<Vec<u8>> {
+    let mut seeds = Seeds::new(9303);
+    let text = |turn: usize| match turn % 2 {
+        0 => text::write(&records::sound(&mut seeds)),
+        _ => until(&mut seeds, damaged, |text| number_of(text) != 0),
+    };
+    (0..MIXED).map(text).collect()
+}
+
+/// What a text is to be answered with: its refusal's number, or 0.
+fn number_of(text: &[u8]) -> u32 {
+    text::read(text).map_or_else(|refusal| refusal.number, |_| 0)
+}
+
+/// A text of which one character is another: one of the alphabet, or now and then any octet.
+fn damaged(seeds: &mut Seeds) -> Vec<u8> {
+    let mut text = text::write(&records::sound(seeds));
+    let place = seeds.below(text.len());
+    let any = seeds.number() as u8;
+    text[place] = if seeds.below(8) == 0 { any } else { seeds.pick(ALPHABET) };
+    text
+}
+
 /// One of what is lent at each turn. A refusal would be quicker than the work, so none may come.
 fn over(lent: Vec<Vec<u8>>, call: impl Fn(&[u8], &mut [u8]) -> Answer + 'static) -> Work {
     let (mut at, mut room) = (0, [0; 90]);
     Box::new(move || {
         assert_eq!(call(&lent[at], &mut room).number, 0);
         at = (at + 1) % RECORDS;
+    })
+}
+
+/// One of the mixed texts at each turn.
+fn mixed(call: impl Fn(&[u8], &mut [u8]) -> Answer + 'static) -> Work {
+    let texts = mixed_texts();
+    let numbers: Vec<u32> = texts.iter().map(|text| number_of(text)).collect();
+    let (mut at, mut room) = (0, [0; 90]);
+    Box::new(move || {
+        assert_eq!(call(&texts[at], &mut room).number, numbers[at]);
+        at = (at + 1) % MIXED;
     })
 }
 
@@ -66,4 +109,18 @@ fn along(call: impl Fn(&[u8], u64) -> Answer + 'static) -> Work {
         assert_eq!(answer.number, 0);
         offset = answer.value % run.len() as u64;
     })
+}
+
+#[cfg(test)]
+mod tests {
+    use super::*;
+    use std::collections::BTreeSet;
+
+    /// Half are accepted, and the others are refused by every rule of a text but its length.
+    #[test]
+    fn mixed_texts_are_of_every_kind() {
+        let numbers: Vec<u32> = mixed_texts().iter().map(|text| number_of(text)).collect();
+        assert_eq!(numbers.iter().filter(|number| **number == 0).count(), 2_000);
+        assert_eq!(numbers.into_iter().collect::<BTreeSet<_>>(), BTreeSet::from([0, 2, 3, 4, 5, 6, 7, 8, 9]));
+    }
 }

@@ -3,6 +3,7 @@
 use crate::border;
 use crate::contender::Contender;
 use crate::job::{Job, Work};
+use crate::records;
 use paper::answer::Answer;
 use paper::calls;
 use paper::seal::answer::SealAnswer;
@@ -19,11 +20,7 @@ pub fn of(contender: Contender, job: Job) -> Option<Work> {
             room[..outcome.written.len()].copy_from_slice(&outcome.written);
             outcome.answer
         })),
-        (Contender::Rust, Job::ReadSealText) => Some(text(|text, room| {
-            let outcome = calls::read_text(1, text, room.len());
-            room[..outcome.written.len()].copy_from_slice(&outcome.written);
-            outcome.answer
-        })),
+        (Contender::Rust, Job::ReadSealText) => Some(text(records::read_text)),
         _ => None,
     }
 }

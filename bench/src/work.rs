@@ -2,14 +2,17 @@
 
 use crate::contender::Contender;
 use crate::job::{Job, Work};
-use crate::{digests, presentations, records, seals};
+use crate::{digests, presentations, records, seals, worst};
 
 /// None where the contender is not installed, or does not do such work.
 pub fn of(contender: Contender, job: Job) -> Option<Work> {
     match job {
         Job::Digest(size) => digests::of(contender, size),
-        Job::ReadText | Job::NextEntry | Job::OpenEntry | Job::WriteText => records::of(contender, job),
+        Job::ReadText | Job::ReadMixed | Job::NextEntry | Job::OpenEntry | Job::WriteText => {
+            records::of(contender, job)
+        }
         Job::ReadPresentation(_) | Job::DigestFiles(_) => presentations::of(contender, job),
+        Job::ReadWorst(_) | Job::FindInWorst(_) => worst::of(contender, job),
         Job::ReadSeal | Job::ReadSealText => seals::of(contender, job),
     }
 }
