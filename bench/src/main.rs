@@ -23,6 +23,7 @@ mod seals;
 mod share;
 mod stack;
 mod table;
+mod whole;
 mod work;
 mod worker;
 mod worst;

@@ -65,14 +65,14 @@ impl Call {
 #[cfg(test)]
 mod tests {
     use super::*;
-    use std::hint::black_box;
+    use crate::whole::whole;
 
     extern "C" fn nothing() -> u64 {
         0
     }
 
     extern "C" fn filled(octet: usize) -> u64 {
-        black_box([octet as u8; 4_096]);
+        whole([octet as u8; 4_096]);
         0
     }
 

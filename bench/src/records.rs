@@ -4,12 +4,12 @@
 use crate::border;
 use crate::contender::Contender;
 use crate::job::{Job, Work};
+use crate::whole::whole;
 use paper::answer::Answer;
 use paper::opened::Opened;
 use paper::{calls, entry, text};
 use shared::records::{self, until, ALPHABET};
 use shared::seeds::Seeds;
-use std::hint::black_box;
 
 /// How many there are of each, and of the mixed texts.
 pub const RECORDS: usize = 256;
@@ -98,7 +98,7 @@ fn mixed(call: impl Fn(&[u8], &mut [u8]) -> Answer + 'static) -> Work {
 
 /// One entry at each turn, and every field of it, which the compiler must not leave out.
 fn opening(call: impl Fn(&[u8]) -> Opened + 'static) -> Work {
-    over(entries(), move |entry, _| Answer { number: black_box(call(entry)).number, ..Answer::not_refused(0) })
+    over(entries(), move |entry, _| Answer { number: whole(call(entry)).number, ..Answer::not_refused(0) })
 }
 
 /// The next entry of a run at each turn, and the first one after the last.

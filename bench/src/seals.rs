@@ -4,12 +4,12 @@ use crate::border;
 use crate::contender::Contender;
 use crate::job::{Job, Work};
 use crate::records;
+use crate::whole::whole;
 use paper::answer::Answer;
 use paper::calls;
 use paper::seal::answer::SealAnswer;
 use paper::seal::printed;
 use paper::specimens::ERIKSSON_TD2;
-use std::hint::black_box;
 
 pub fn of(contender: Contender, job: Job) -> Option<Work> {
     match (contender, job) {
@@ -29,11 +29,11 @@ pub fn of(contender: Contender, job: Job) -> Option<Work> {
 /// may come.
 fn sealed(call: impl Fn(&[u8], &mut [u8]) -> SealAnswer + 'static) -> Work {
     let (lent, mut room) = (printed::signed(), [0; 64]);
-    Box::new(move || assert_eq!(black_box(call(&lent, &mut room)).number, 0))
+    Box::new(move || assert_eq!(whole(call(&lent, &mut room)).number, 0))
 }
 
 /// As for the seal.
 fn text(call: impl Fn(&[u8], &mut [u8]) -> Answer + 'static) -> Work {
     let mut room = [0; 64];
-    Box::new(move || assert_eq!(black_box(call(ERIKSSON_TD2.as_bytes(), &mut room)).number, 0))
+    Box::new(move || assert_eq!(whole(call(ERIKSSON_TD2.as_bytes(), &mut room)).number, 0))
 }

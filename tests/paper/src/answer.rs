@@ -83,12 +83,16 @@ impl Outcome {
 #[cfg(test)]
 mod tests {
     use super::*;
-    use std::mem::{offset_of, size_of};
+    use std::mem::size_of;
+    use std::ptr::addr_of;
 
     /// Where each field begins in C: the digit stands where there was padding.
     #[test]
     fn laid_out_as_in_c() {
-        let begins = [offset_of!(Answer, number), offset_of!(Answer, expected), offset_of!(Answer, value)];
+        let answer = Answer::not_refused(0);
+        let fields =
+            [addr_of!(answer.number) as usize, addr_of!(answer.expected) as usize, addr_of!(answer.value) as usize];
+        let begins = fields.map(|field| field - addr_of!(answer) as usize);
         assert_eq!((begins, size_of::<Answer>()), ([0, 4, 8], 16));
     }
 

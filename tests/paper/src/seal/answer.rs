@@ -101,7 +101,7 @@ mod tests {
     use super::*;
     use crate::seal::printed;
     use crate::{calls, entry, specimens, text};
-    use std::mem::offset_of;
+    use std::ptr::addr_of;
 
     fn sample_entry() -> Vec<u8> {
         entry::write(1, &text::read(specimens::ERIKSSON_TD2.as_bytes()).unwrap())
@@ -112,7 +112,9 @@ mod tests {
     fn as_large_as_in_c() {
         assert_eq!(std::mem::size_of::<SealAnswer>(), 312);
         assert_eq!((std::mem::size_of::<Day>(), std::mem::align_of::<SealAnswer>()), (4, 8));
-        assert_eq!((offset_of!(SealAnswer, expected), offset_of!(SealAnswer, value)), (4, 8));
+        let answer = SealAnswer::blank(Answer::not_refused(0));
+        let fields = [addr_of!(answer.expected) as usize, addr_of!(answer.value) as usize];
+        assert_eq!(fields.map(|field| field - addr_of!(answer) as usize), [4, 8]);
     }
 
     #[test]
