@@ -72,7 +72,7 @@ mod tests {
     }
 
     extern "C" fn filled(octet: usize) -> u64 {
-        whole([octet as u8; 4_096]);
+        whole(&[octet as u8; 4_096]);
         0
     }
 

@@ -98,7 +98,11 @@ fn mixed(call: impl Fn(&[u8], &mut [u8]) -> Answer + 'static) -> Work {
 
 /// One entry at each turn, and every field of it, which the compiler must not leave out.
 fn opening(call: impl Fn(&[u8]) -> Opened + 'static) -> Work {
-    over(entries(), move |entry, _| Answer { number: whole(call(entry)).number, ..Answer::not_refused(0) })
+    over(entries(), move |entry, _| {
+        let opened = call(entry);
+        whole(&opened);
+        Answer { number: opened.number, ..Answer::not_refused(0) }
+    })
 }
 
 /// The next entry of a run at each turn, and the first one after the last.

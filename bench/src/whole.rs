@@ -1,10 +1,10 @@
-//! What std::hint::black_box does, which the oldest Rust that this is built with does not have.
+//! For a value that is made and not used: what std::hint::black_box is for, which the oldest Rust that builds this does not
+//! have.
 
 use std::arch::asm;
 
-/// The value. The compiler must leave no part of it out.
-pub fn whole<T>(value: T) -> T {
-    // Nothing is done with the address, but the compiler has to take it that all that stands there is read.
-    unsafe { asm!("/* {} */", in(reg) &value as *const T, options(nostack, preserves_flags, readonly)) };
-    value
+/// Has the compiler take it that all of the value is read, so that it leaves no part of it out.
+pub fn whole<T>(value: &T) {
+    // Nothing is done with the address.
+    unsafe { asm!("/* {} */", in(reg) value as *const T, options(nostack, preserves_flags, readonly)) };
 }
