@@ -3,7 +3,7 @@
 use crate::border;
 use crate::cases::trees::Tree;
 use crate::cases::trials::{Call, Trials};
-use crate::cases::{chance, damage, outside, presentations, printed};
+use crate::cases::{chance, damage, presentations, vector};
 use crate::guard::{Lent, Side};
 use crate::report::{hex_shown, Tally};
 use paper::answer::{Outcome, Stretch};
@@ -69,7 +69,7 @@ impl Call for GroupFile {
 
 impl Trials<GroupFile> {
     fn outside(&mut self) {
-        outside::all().iter().chain(&printed::all()).for_each(|vector| self.all_groups(&vector.octets));
+        vector::all().iter().for_each(|vector| self.all_groups(&vector.octets));
     }
 
     fn sound(&mut self) {

@@ -88,13 +88,6 @@ mod tests {
     use paper::tlv::Walk;
     use paper::{calls, object};
 
-    #[test]
-    fn the_reader_answers_as_argued() {
-        for vector in all() {
-            assert_eq!(calls::read_presentation(1, &vector.octets, 64), vector.expected(64), "{}", vector.name);
-        }
-    }
-
     /// The two encoders agree on every object that either would call sound.
     #[test]
     fn the_objects_as_written_here() {

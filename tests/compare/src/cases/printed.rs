@@ -89,14 +89,7 @@ fn around(com: &[u8], files: &[Vec<u8>]) -> Vec<u8> {
 #[cfg(test)]
 mod tests {
     use super::*;
-    use paper::{calls, com};
-
-    #[test]
-    fn the_reader_answers_as_argued() {
-        for vector in all() {
-            assert_eq!(calls::read_presentation(1, &vector.octets, 64), vector.expected(64), "{}", vector.name);
-        }
-    }
+    use paper::com;
 
     #[test]
     fn the_encoder_writes_what_is_printed() {

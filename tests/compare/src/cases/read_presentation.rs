@@ -3,7 +3,7 @@
 use crate::border;
 use crate::cases::houses::{house, HOUSES};
 use crate::cases::trials::{self, Call, Trials};
-use crate::cases::{chance, damage, digits, octets, outside, personal, presentations, printed};
+use crate::cases::{chance, damage, digits, octets, personal, presentations, vector};
 use crate::guard::{Lent, Side};
 use crate::report::{hex_shown, Tally};
 use paper::answer::{Answer, Outcome};
@@ -80,7 +80,7 @@ impl Call for ReadPresentation {
 impl Trials<ReadPresentation> {
     /// Presentations of which another encoder or the paper itself made a part, with the answers that are argued for there.
     fn outside(&mut self) {
-        for vector in outside::all().into_iter().chain(printed::all()) {
+        for vector in vector::all() {
             let (lent, entry) = (self.lent(&vector.octets), self.room(ROOM));
             self.count(trials::held_to(&vector.expected(ROOM), ReadPresentation { house: 1, lent, entry }));
         }

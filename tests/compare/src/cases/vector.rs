@@ -1,5 +1,6 @@
-//! A presentation that others made, with the answer that document 01 gives it.
+//! Presentations of which others made a part, each with the answer that document 01 gives it.
 
+use crate::cases::{outside, printed};
 use paper::answer::Outcome;
 use paper::refusal::Refusal;
 use paper::{entry, specimens, text};
@@ -20,6 +21,11 @@ impl Vector {
     }
 }
 
+/// Those that another encoder made, and those that the paper prints.
+pub fn all() -> Vec<Vector> {
+    outside::all().into_iter().chain(printed::all()).collect()
+}
+
 pub fn refused(number: u32, place: usize) -> Option<Refusal> {
     Some(Refusal::at(number, place))
 }
@@ -35,6 +41,14 @@ pub fn octets(hex: &str) -> Vec<u8> {
 #[cfg(test)]
 mod tests {
     use super::*;
+    use paper::calls;
+
+    #[test]
+    fn the_reader_answers_as_argued() {
+        for vector in all() {
+            assert_eq!(calls::read_presentation(1, &vector.octets, 64), vector.expected(64), "{}", vector.name);
+        }
+    }
 
     #[test]
     fn octets_behind_a_remark() {
