@@ -17,6 +17,7 @@ pub mod printed;
 pub mod read_presentation;
 pub mod read_seal;
 pub mod read_text;
+pub mod reading;
 pub mod seals;
 pub mod trees;
 pub mod trials;

@@ -1,11 +1,12 @@
 //! The cases of reading a presentation to an entry.
 
 use crate::border;
-use crate::cases::houses::{house, HOUSES};
-use crate::cases::trials::{self, Call, Trials};
+use crate::cases::houses::HOUSES;
+use crate::cases::reading::{self, Reader, Reading, ROOM};
+use crate::cases::trials::{self, Trials};
 use crate::cases::{chance, damage, digits, octets, personal, presentations, vector};
 use crate::guard::{Lent, Side};
-use crate::report::{hex_shown, Tally};
+use crate::report::Tally;
 use paper::answer::{Answer, Outcome};
 use paper::presentation::{write, write_file, write_text_element};
 use paper::refusal::LONGEST;
@@ -13,12 +14,8 @@ use paper::sha256::sha256;
 use paper::{calls, group, specimens};
 use shared::files::{files, group_1};
 use shared::records;
-use shared::seeds::Seeds;
 use shared::worst::Worst;
 use std::ops::Range;
-
-/// As long as the longest entry.
-const ROOM: usize = 64;
 
 pub fn compare(seed: u64) -> Tally {
     let mut trials = Trials::<ReadPresentation>::new(seed);
@@ -44,36 +41,19 @@ pub fn compare(seed: u64) -> Tally {
     trials.tally
 }
 
-struct ReadPresentation {
-    house: u32,
-    lent: Lent,
-    entry: Lent,
-}
+struct Presentations;
+type ReadPresentation = Reading<Presentations>;
 
-impl Call for ReadPresentation {
+impl Reader for Presentations {
     const NAME: &'static str = "read_presentation";
     type Answer = Answer;
 
-    fn expected(&self) -> Outcome {
-        calls::read_presentation(self.house, self.lent.content(), self.entry.length())
+    fn expected(house: u32, lent: &[u8], room: usize) -> Outcome {
+        calls::read_presentation(house, lent, room)
     }
 
-    fn made(&mut self) -> Answer {
-        border::read_presentation(self.house, &mut self.lent, &mut self.entry)
-    }
-
-    fn input(&self) -> &Lent {
-        &self.lent
-    }
-
-    fn output(&self) -> Option<&Lent> {
-        Some(&self.entry)
-    }
-
-    fn about(&self) -> Vec<String> {
-        let (lent, room) = (self.lent.content_before(), self.entry.length());
-        let first = format!("read_presentation, house {}, of {} octets into {room}", self.house, lent.len());
-        vec![first, format!("lent:     {}", hex_shown(lent))]
+    fn made(house: u32, lent: &mut Lent, entry: &mut Lent) -> Answer {
+        border::read_presentation(house, lent, entry)
     }
 }
 
@@ -82,7 +62,7 @@ impl Trials<ReadPresentation> {
     fn outside(&mut self) {
         for vector in vector::all() {
             let (lent, entry) = (self.lent(&vector.octets), self.room(ROOM));
-            self.count(trials::held_to(&vector.expected(ROOM), ReadPresentation { house: 1, lent, entry }));
+            self.count(trials::held_to(&vector.expected(ROOM), ReadPresentation::new(1, lent, entry)));
         }
     }
 
@@ -338,11 +318,7 @@ impl Trials<ReadPresentation> {
             (0..=44).for_each(|room| self.fence(&sample, room, side));
             self.fence(&longest, ROOM, side);
         }
-        let entry = self.room(ROOM);
-        self.watch(ReadPresentation { house: 1, lent: Lent::absent(), entry });
-        let lent = self.lent(&sample);
-        self.watch(ReadPresentation { house: 1, lent, entry: Lent::absent() });
-        self.watch(ReadPresentation { house: 0, lent: Lent::absent(), entry: Lent::absent() });
+        self.absent(&sample);
     }
 
     /// None to four damages of any kind, some of them before the digests are worked out.
@@ -372,28 +348,6 @@ impl Trials<ReadPresentation> {
             self.case(&[&[0x60, inner.len() as u8], &inner[..], &[0x30, inner.len() as u8], &inner, &made].concat());
         }
     }
-
-    /// A house and a room of the seed's choice.
-    fn case(&mut self, lent: &[u8]) {
-        let house = house(&mut self.seeds);
-        let room = self.seeds.pick(&[ROOM, ROOM, ROOM, 200, 43, 36, 35, 0]);
-        self.with_room(house, lent, room);
-    }
-
-    /// House 1, and room for any entry.
-    fn plain(&mut self, lent: &[u8]) {
-        self.with_room(1, lent, ROOM);
-    }
-
-    fn with_room(&mut self, house: u32, lent: &[u8], room: usize) {
-        let (lent, entry) = (self.lent(lent), self.room(room));
-        self.hold(ReadPresentation { house, lent, entry });
-    }
-
-    fn fence(&mut self, lent: &[u8], room: usize, side: Side) {
-        let entry = Lent::fenced(&self.seeds.octets(room), side);
-        self.watch(ReadPresentation { house: 1, lent: Lent::fenced(lent, side), entry });
-    }
 }
 
 /// The presentation with another last file, and the digest of that file as it now is: nothing else is wrong.
@@ -406,12 +360,5 @@ fn with_file(made: &[u8], last: &[u8], file: &[u8]) -> Vec<u8> {
 
 /// What one thread tries.
 fn alone(seed: u64) -> Vec<Vec<String>> {
-    let mut seeds = Seeds::new(seed);
-    let case = |turn: usize| {
-        let files = files(&mut seeds, 1 + turn % 15);
-        let lent = Lent::new(&write(&files), seeds.below(64));
-        let entry = Lent::new(&seeds.octets(ROOM), seeds.below(64));
-        trials::held(ReadPresentation { house: 1, lent, entry })
-    };
-    (0..150).map(case).collect()
+    reading::alone::<Presentations>(seed, |seeds, turn| write(&files(seeds, 1 + turn % 15)))
 }

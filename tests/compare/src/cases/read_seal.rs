@@ -2,13 +2,14 @@
 
 use crate::border;
 use crate::cases::digits;
-use crate::cases::houses::{house, HOUSES};
+use crate::cases::houses::HOUSES;
 use crate::cases::octets;
+use crate::cases::reading::{self, Reader, Reading, ROOM};
 use crate::cases::seals::damage::{self, filled};
 use crate::cases::seals::Pieces;
-use crate::cases::trials::{self, Call, Trials};
+use crate::cases::trials::Trials;
 use crate::guard::{Lent, Side};
-use crate::report::{hex_shown, Tally};
+use crate::report::Tally;
 use paper::answer::Outcome;
 use paper::day::Day;
 use paper::refusal::LONGEST;
@@ -17,10 +18,6 @@ use paper::seal::{printed, Feature, MARKER, TEXT};
 use paper::tlv::tlv;
 use paper::{calls, day, specimens};
 use shared::seals::{other, sound, sound_of_kind, VERSIONS};
-use shared::seeds::Seeds;
-
-/// As long as the longest entry.
-const ROOM: usize = 64;
 
 pub fn compare(seed: u64) -> Tally {
     let mut trials = Trials::<ReadSeal>::new(seed);
@@ -46,36 +43,19 @@ pub fn compare(seed: u64) -> Tally {
     trials.tally
 }
 
-struct ReadSeal {
-    house: u32,
-    lent: Lent,
-    entry: Lent,
-}
+struct Seals;
+type ReadSeal = Reading<Seals>;
 
-impl Call for ReadSeal {
+impl Reader for Seals {
     const NAME: &'static str = "read_seal";
     type Answer = SealAnswer;
 
-    fn expected(&self) -> Outcome<SealAnswer> {
-        calls::read_seal(self.house, self.lent.content(), self.entry.length())
+    fn expected(house: u32, lent: &[u8], room: usize) -> Outcome<SealAnswer> {
+        calls::read_seal(house, lent, room)
     }
 
-    fn made(&mut self) -> SealAnswer {
-        border::read_seal(self.house, &mut self.lent, &mut self.entry)
-    }
-
-    fn input(&self) -> &Lent {
-        &self.lent
-    }
-
-    fn output(&self) -> Option<&Lent> {
-        Some(&self.entry)
-    }
-
-    fn about(&self) -> Vec<String> {
-        let (lent, room) = (self.lent.content_before(), self.entry.length());
-        let first = format!("read_seal, house {}, of {} octets into {room}", self.house, lent.len());
-        vec![first, format!("lent:     {}", hex_shown(lent))]
+    fn made(house: u32, lent: &mut Lent, entry: &mut Lent) -> SealAnswer {
+        border::read_seal(house, lent, entry)
     }
 }
 
@@ -270,11 +250,7 @@ impl Trials<ReadSeal> {
             }
             longest.iter().for_each(|lent| self.fence(lent, ROOM, side));
         }
-        let entry = self.room(ROOM);
-        self.watch(ReadSeal { house: 1, lent: Lent::absent(), entry });
-        let lent = self.lent(&printed::signed());
-        self.watch(ReadSeal { house: 1, lent, entry: Lent::absent() });
-        self.watch(ReadSeal { house: 0, lent: Lent::absent(), entry: Lent::absent() });
+        self.absent(&printed::signed());
     }
 
     /// One to four octets changed, taken away or put in, anywhere.
@@ -303,37 +279,9 @@ impl Trials<ReadSeal> {
             self.case(&[&printed::signed()[..68], &octets].concat());
         }
     }
-
-    /// A house and a room of the seed's choice.
-    fn case(&mut self, lent: &[u8]) {
-        let house = house(&mut self.seeds);
-        let room = self.seeds.pick(&[ROOM, ROOM, ROOM, 200, 43, 36, 35, 0]);
-        self.with_room(house, lent, room);
-    }
-
-    /// House 1, and room for any entry.
-    fn plain(&mut self, lent: &[u8]) {
-        self.with_room(1, lent, ROOM);
-    }
-
-    fn with_room(&mut self, house: u32, lent: &[u8], room: usize) {
-        let (lent, entry) = (self.lent(lent), self.room(room));
-        self.hold(ReadSeal { house, lent, entry });
-    }
-
-    fn fence(&mut self, lent: &[u8], room: usize, side: Side) {
-        let entry = Lent::fenced(&self.seeds.octets(room), side);
-        self.watch(ReadSeal { house: 1, lent: Lent::fenced(lent, side), entry });
-    }
 }
 
 /// What one thread tries.
 fn alone(seed: u64) -> Vec<Vec<String>> {
-    let mut seeds = Seeds::new(seed);
-    let case = |_| {
-        let lent = Lent::new(&sound(&mut seeds).octets(), seeds.below(64));
-        let entry = Lent::new(&seeds.octets(ROOM), seeds.below(64));
-        trials::held(ReadSeal { house: 1, lent, entry })
-    };
-    (0..150).map(case).collect()
+    reading::alone::<Seals>(seed, |seeds, _| sound(seeds).octets())
 }
