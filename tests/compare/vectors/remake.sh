@@ -7,6 +7,7 @@
 #
 # A presentation is com.hex (made by hand: 5F01 is not DER, so no DER encoder writes it), the security object of its
 # .conf, and the group files that the line `# lends:` names, each made from its own .conf.
+# source-000 has what that document prints, and is not made.
 set -eu
 cd "$(dirname "$0")"
 made=$(mktemp -d)
