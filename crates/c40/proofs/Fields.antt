@@ -1,18 +1,21 @@
 -- A field of so many characters is read at a place exactly where the image of a text of that length stands.
-use Prim.Native.Nat.{ℕ}
+use Prim.Native.Nat.{ℕ, suc, _+_, _*_, _/_, _≤_, _<_}
 use mathlib.Core.Path.{_≡_, refl, ap, _∙_}
 use mathlib.Core.Bool.{true, false≢true}
 use mathlib.Core.List.{List}
+use native.Mathlib.Nat.{add-div-right}
+use native.Mathlib.Omega.{arith}
 use borrow.Author.Tests.{eqb-true, eq-eqb}
-use lib.ListN.{length, take, drop}
+use lib.ListN.{length, take, drop, length-take, length-drop}
 use Rattle.zone.specs.Alphabet.{every}
 use Rattle.zone.specs.Octets.{isOctet, areOctets}
 use Rattle.zone.proofs.Every.{every-take, every-drop}
 use Rattle.c40.specs.Values.{isC40}
 use Rattle.c40.specs.Image.{imageOf}
-use Rattle.c40.specs.Reader.{Reading, characters, noImage, readC40}
+use Rattle.c40.specs.Reader.{Reading, characters, noImage, three, two, one, readC40}
 use Rattle.c40.specs.Field.{octetsFor, isOf, exactly, imageAt, isField, fieldAt}
 use Rattle.c40.proofs.Images.{reads-exactly, image-read}
+use Rattle.c40.proofs.Pairs.{Pairs, none, ofOne, ofTwo, ofThree, read-pairs}
 
 -- the text's image stands there
 pub record FieldStands (s : List ℕ) (at m : ℕ) (t : List ℕ) : Type 0 where
@@ -20,7 +23,33 @@ pub record FieldStands (s : List ℕ) (at m : ℕ) (t : List ℕ) : Type 0 where
   pub field-c40 : every isC40 t ≡ true
   pub field-image : take (octetsFor m) (drop at s) ≡ imageOf t
 
+-- what is read has two octets for each three characters that are begun
+pairs-length : {s t : List ℕ} → Pairs s t → length s ≡ 2 * ((length t + 2) / 3)
+unfolding one two three
+pairs-length none = refl
+pairs-length (ofOne x y p q r) = refl
+pairs-length (ofTwo x y p q) = refl
+pairs-length (ofThree x y {s} {t} p rest) =
+    let n : suc (suc (suc (length t))) + 2 ≡ length t + 2 + 3 = omega arith in
+    let more = add-div-right (length t + 2) {k = 3} (omega arith) in
+    rw (n, more) (omega (arith, pairs-length rest))
+
 module _ (s : List ℕ) (at m : ℕ) where
+  -- a field ends within what holds it
+  pub field-within : isField s at m ≡ true → 0 < m → at + octetsFor m ≤ length s
+  unfolding isField isOf imageAt octetsFor
+  field-within e some = go (imageAt s at m) refl e
+    where
+      go : (r : Reading) → imageAt s at m ≡ r → isOf m r ≡ true → at + octetsFor m ≤ length s
+      go (characters t) p q =
+          let same : length t ≡ m = eqb-true (length t) m q in
+          let long = pairs-length (read-pairs (take (octetsFor m) (drop at s)) t p) in
+          let two : length (take (octetsFor m) (drop at s)) ≡ octetsFor m = long ∙ ap octetsFor same in
+          let taken = length-take (octetsFor m) (drop at s) in
+          let left = length-drop at s in
+          omega (arith, two, taken, left, some)
+      go noImage p q = absurd (false≢true q)
+
   pub field-read : areOctets s → isField s at m ≡ true → FieldStands s at m (fieldAt s at m)
   unfolding isField fieldAt isOf exactly imageAt
   field-read small e = go (imageAt s at m) refl e

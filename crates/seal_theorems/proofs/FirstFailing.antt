@@ -1,24 +1,23 @@
 -- THE ANSWER is the first failing check: reading a seal answers `refused n p` exactly where n at p is the first failing check in
 -- the paper's order (`seal-refused-exactly`).
-use Prim.Native.Nat.{ℕ, zero, suc, _+_}
+use Prim.Native.Nat.{ℕ, zero, suc, _+_, _≤_, _<_}
 use mathlib.Core.Path.{_≡_, refl, ap, sym, _∙_}
 use mathlib.Core.Logic.{_↔_}
 use mathlib.Core.Bool.{Bool, true, false, cond, not, _&&_, _||_}
-use mathlib.Core.List.{List, [], _∷_, map}
+use mathlib.Core.List.{List, [], _∷_, _++_, map}
+use native.Mathlib.Omega.{arith}
 use lib.Dec.{eqb, leb}
 use lib.ListN.{length, getD}
 use Rattle.refusal.specs.Numbers.{Why, by}
 use Rattle.refusal.specs.Outcome.{Outcome, passed, refused, orElse, unless}
-use Rattle.refusal.proofs.Outcomes.{orElse-assoc, orElse-passed}
+use Rattle.refusal.proofs.Outcomes.{orElse-assoc, orElse-passed, both-passed, unless-kept, kept-unless}
 use Rattle.field.specs.Letters.{stateRule}
 use Rattle.text.specs.Read.{readText}
-use Rattle.tlv.specs.declared.Stretch.{Stretch}
 use Rattle.tlv.specs.Read.{Read, value, refusal, andThen, checked, outcomeIn}
 use Rattle.tlv.specs.Element.{element}
 use Rattle.tlv.specs.Cut.{hasOctets}
-use Rattle.tlv.proofs.Joined.{checked-outcome, then-outcome, then-then}
-use Rattle.tlv.proofs.Past.{refused-there}
-use Rattle.c40.specs.Field.{isField}
+use Rattle.c40.specs.Reader.{Reading, characters, noImage}
+use Rattle.c40.specs.Field.{isOf, imageAt, isField}
 use Rattle.seal_fields.specs.Day.{dayAt}
 use Rattle.seal_fields.specs.Spaces.{filled}
 use Rattle.seal_header.specs.declared.header.Header.{Header}
@@ -29,31 +28,31 @@ use Rattle.seal.specs.Features.{numbered, textTag, signatureTag, featureRule, f
 use Rattle.seal.specs.Signature.{signatureAt}
 use Rattle.seal.specs.Seal.{Said, featureOctets, textIn, placed, withText, withImage, withFeatures, withHeader, saidIn}
 use Rattle.seal.specs.Seal.{answerBy, readSeal}
+use Rattle.seal.proofs.FeaturesPassed.{not-end}
 use Rattle.text_theorems.specs.Ordered.{checksOf, FirstFailing}
-use Rattle.text_theorems.proofs.FirstFailing.{firstOf, first-append, read-first, first-failing, failing-first}
-use Rattle.seal_theorems.specs.SealChecks.{headerChecks, signatureChecks, checksBehind, featureChecks, checksFrom}
-use Rattle.seal_theorems.specs.SealChecks.{sealChecks}
-
--- ---- what joined steps decide
+use Rattle.text_theorems.proofs.FirstFailing.{firstOf, read-first, first-failing, failing-first}
+use Rattle.row_theorems.specs.Standing.{stretchAt, isCoded, coded}
+use Rattle.row_theorems.proofs.Rows.{under, under-outcome, under-first, under-same, keep, rows-then, first-then, step-known}
+use Rattle.row_theorems.proofs.Rows.{step-then, element-row, coded-within}
+use Rattle.seal_theorems.specs.SealChecks.{headerChecks, featureValue, placesFrom, endFrom, textAmong, featureChecks}
+use Rattle.seal_theorems.specs.SealChecks.{featuresChecks, signatureChecks, isImage, checksBehind, featuresFound, sealChecks}
 
 pub answer-outcome : (m : Read Said) → answerBy m .outcome ≡ outcomeIn m
 unfolding answerBy outcomeIn
 answer-outcome (value c) = refl
 answer-outcome (refusal n p) = refl
 
--- the text's checks, each at the feature's first octet
-first-placed : (at : ℕ) (os : List Outcome) → placed at (firstOf os) ≡ firstOf (map (placed at) os)
-unfolding firstOf placed
-first-placed at [] = refl
-first-placed at (passed ∷ os) = first-placed at os
-first-placed at (refused n p ∷ os) = refl
-
-text-first : (h : Header) (at : ℕ) (t : List ℕ) (v : Stretch)
-    → outcomeIn (withText h at (readText t) v) ≡ firstOf (map (placed at) (checksOf t))
-unfolding withText outcomeIn
-text-first h at t v =
-    checked-outcome (placed at (readText t .outcome)) (value (record { header = h; kept = readText t .kept; signature = v }))
-    ∙ orElse-passed (placed at (readText t .outcome)) ∙ ap (placed at) (read-first t) ∙ first-placed at (checksOf t)
+-- an element whose refusals have a number of their own is one row
+numbered-row : (n : ℕ) (s : List ℕ) (at tag : ℕ)
+    → numbered (by n) (element s at tag) ≡ checked (unless (isCoded s at tag) n at) (value (stretchAt s at tag))
+unfolding coded numbered checked
+numbered-row n s at tag = ap (numbered (by n)) (element-row s at tag) ∙ go (isCoded s at tag)
+  where
+    go : (b : Bool)
+        → numbered (by n) (checked (unless b 10 at) (value (stretchAt s at tag)))
+        ≡ checked (unless b n at) (value (stretchAt s at tag))
+    go true = refl
+    go false = refl
 
 -- ---- the header
 
@@ -71,109 +70,150 @@ header-first s =
     ∙ ap (orElse a) (orElse-assoc b (orElse c d) r ∙ ap (orElse b) (orElse-assoc c d r))
     ∙ rw (orElse-passed l)
 
--- ---- the signature, and the text behind it
-
-module _ (s : List ℕ) (h : Header) (f : Features) where
-  signature-first : outcomeIn (withImage s h f (textIn s f))
-      ≡ firstOf (signatureChecks s (f .end) (element s (f .end) signatureTag)
-      (map (placed (f .text)) (checksOf (filled (textIn s f)))))
-  unfolding withImage signatureAt signatureChecks firstOf numbered andThen outcomeIn
-  signature-first = go (element s (f .end) signatureTag) (λ n p e. refused-there s (f .end) signatureTag n p e)
-    where
-      text : Stretch → Read Said
-      text v = withText h (f .text) (readText (filled (textIn s f))) v
-
-      zone : Stretch → Read Stretch
-      zone v = checked (unless (eqb (v .to) (length s)) 27 (f .end)) (value v)
-
-      rows : List Outcome
-      rows = map (placed (f .text)) (checksOf (filled (textIn s f)))
-
-      go : (m : Read Stretch) → ((n : Why) (p : ℕ) → m ≡ refusal n p → p ≡ f .end)
-          → outcomeIn (andThen (andThen (numbered (by 27) m) zone) text) ≡ firstOf (signatureChecks s (f .end) m rows)
-      go (value v) place =
-          let o = unless (eqb (v .to) (length s)) 27 (f .end) in
-          then-outcome o v text ∙ ap (orElse o) (text-first h (f .text) (filled (textIn s f)) v)
-      go (refusal n p) place = ap (refused (by 27)) (place n p refl)
-
-  behind-first : outcomeIn (withFeatures s h f) ≡ firstOf (checksBehind s f)
-  unfolding withFeatures checksBehind firstOf
-  behind-first =
-      let some = unless (not (eqb (f .text) 0)) 25 (f .end) in
-      let image = unless (isField (featureOctets s f) 2 72) 26 (f .text) in
-      checked-outcome some (checked image (withImage s h f (textIn s f)))
-      ∙ ap (orElse some) (checked-outcome image (withImage s h f (textIn s f)) ∙ ap (orElse image) signature-first)
-
 -- ---- the features
 
 -- the two sentences on a feature 02 are one rule
-rule-rows : (b h z : Bool) (n p : ℕ) (rest : Outcome)
-    → orElse (unless (cond b (h && z) true) n p) rest ≡ orElse (unless (not b || h) n p) (orElse (unless (not b || z) n p) rest)
-rule-rows true true true n p rest = refl
-rule-rows true true false n p rest = refl
-rule-rows true false z n p rest = refl
-rule-rows false h z n p rest = refl
+rule-rows : {A : Type 0} (b h z : Bool) (n p : ℕ) (m : Read A)
+    → checked (unless (cond b (h && z) true) n p) m ≡ checked (unless (not b || h) n p) (checked (unless (not b || z) n p) m)
+unfolding checked
+rule-rows true true true n p m = refl
+rule-rows true true false n p m = refl
+rule-rows true false z n p m = refl
+rule-rows false h z n p m = refl
 
-module _ (s : List ℕ) (h : Header) where
-  -- one feature, where what follows it is known
-  feature-first : (at text : ℕ) (next : Stretch → Read Features) (rows : Stretch → List Outcome)
-      → ((v : Stretch) → outcomeIn (andThen (next v) (λ f. withFeatures s h f)) ≡ firstOf (rows v))
-      → outcomeIn (andThen (andThen (featureAt s at text) next) (λ f. withFeatures s h f))
-      ≡ firstOf (featureChecks s at text (element s at (getD s at 0)) rows)
-  unfolding featureAt featureRule featureChecks firstOf numbered andThen outcomeIn
-  feature-first at text next rows known =
-      go (element s at (getD s at 0)) (λ n p e. refused-there s at (getD s at 0) n p e)
+module _ (s : List ℕ) where
+  feature-rows : (text at : ℕ) → featureAt s at text ≡ under (featureChecks s text at) (value (featureValue s at))
+  unfolding featureAt featureRule featureChecks featureValue under
+  feature-rows text at =
+      let tag = getD s at 0 in
+      let v = stretchAt s at tag in
+      step-known (unless (isCoded s at tag) 25 at ∷ []) (numbered (by 25) (element s at tag)) v _ (numbered-row 25 s at tag)
+      ∙ keep (unless (isCoded s at tag) 25 at) (rule-rows (eqb tag textTag) (hasOctets 48 v) (eqb text 0) 25 at (value v))
+
+  -- where its rows pass it ends behind its place and within the seal
+  feature-ends : (text at : ℕ) → firstOf (featureChecks s text at) ≡ passed
+      → (at < featureValue s at .to) × (featureValue s at .to ≤ length s)
+  unfolding featureChecks featureValue firstOf coded
+  feature-ends text at e =
+      let tag = getD s at 0 in
+      let right = unless-kept (isCoded s at tag) 25 at (both-passed (unless (isCoded s at tag) 25 at) _ e .0) in
+      let k = coded-within s at tag (kept-unless (isCoded s at tag) 10 at right) in
+      (omega (arith, k .0, k .1), k .2)
+
+  abbrev found : ℕ → (text at : ℕ) → Features
+  found more text at = record { text = textAmong s text (placesFrom more s at); end = endFrom more s at }
+
+  abbrev rows : ℕ → (text at : ℕ) → List Outcome
+  rows more text at = featuresChecks s text (placesFrom more s at)
+
+  -- one feature, where the rows of what follows it are known
+  one-feature : (more text at : ℕ)
+      → ((n : ℕ) → n ≤ length s → at < n
+      → featuresFrom more s n (textPlace s at text)
+      ≡ under (rows more (textPlace s at text) n) (value (found more (textPlace s at text) n)))
+      → andThen (featureAt s at text) (λ v. featuresFrom more s (v .to) (textPlace s at text))
+      ≡ under (featureChecks s text at ++ rows more (textPlace s at text) (featureValue s at .to))
+      (value (found more (textPlace s at text) (featureValue s at .to)))
+  one-feature more text at known =
+      let to = featureValue s at .to in
+      let next = textPlace s at text in
+      step-known (featureChecks s text at) (featureAt s at text) (featureValue s at) _ (feature-rows text at)
+      ∙ under-same (featureChecks s text at) (featuresFrom more s to next) (under (rows more next to) (value (found more next to)))
+      (λ e. let k = feature-ends text at e in known to (k .1) (k .0))
+      ∙ rows-then (featureChecks s text at) (rows more next to) _ (value (found more next to)) refl
+
+  walk-rows : (more text at : ℕ) → at ≤ length s → length s < at + more
+      → featuresFrom more s at text ≡ under (rows more text at) (value (found more text at))
+  unfolding featuresFrom placesFrom endFrom featuresChecks textAmong under
+  walk-rows zero text at h e = absurd (omega arith)
+  walk-rows (suc more) text at h e =
+      go (isEnd s at) (one-feature more text at (λ n a b. walk-rows more (textPlace s at text) n a (omega arith)))
     where
-      rule : Stretch → Read Stretch
-      rule v = checked (unless (featureRule s at text v) 25 at) (value v)
+      to : ℕ
+      to = featureValue s at .to
 
-      rest : Features → Read Said
-      rest f = withFeatures s h f
+      next : ℕ
+      next = textPlace s at text
 
-      go : (m : Read Stretch) → ((n : Why) (p : ℕ) → m ≡ refusal n p → p ≡ at)
-          → outcomeIn (andThen (andThen (andThen (numbered (by 25) m) rule) next) rest) ≡ firstOf (featureChecks s at text m rows)
-      go (value v) place =
-          let o = unless (featureRule s at text v) 25 at in
-          ap (λ (m : Read Said). outcomeIn m) (then-then (rule v) next rest)
-          ∙ then-outcome o v (λ (u : Stretch). andThen (next u) rest) ∙ ap (orElse o) (known v)
-          ∙ rule-rows (eqb (getD s at 0) textTag) (hasOctets 48 v) (eqb text 0) 25 at (firstOf (rows v))
-      go (refusal n p) place = ap (refused (by 25)) (place n p refl)
-
-  walk-first : (more at text : ℕ)
-      → outcomeIn (andThen (featuresFrom more s at text) (λ f. withFeatures s h f)) ≡ firstOf (checksFrom more s at text)
-  unfolding featuresFrom checksFrom firstOf andThen outcomeIn
-  walk-first zero at text = refl
-  walk-first (suc more) at text =
-      go (isEnd s at)
-      (feature-first at text (λ (v : Stretch). featuresFrom more s (v .to) (textPlace s at text))
-      (λ (v : Stretch). checksFrom more s (v .to) (textPlace s at text))
-      (λ v. walk-first more (v .to) (textPlace s at text)))
-    where
       go : (b : Bool)
-          → outcomeIn (andThen (andThen (featureAt s at text) (λ v. featuresFrom more s (v .to) (textPlace s at text)))
-          (λ f. withFeatures s h f))
-          ≡ firstOf (featureChecks s at text (element s at (getD s at 0)) (λ v. checksFrom more s (v .to) (textPlace s at text)))
-          → outcomeIn (andThen (cond b (value (record { text = text; end = at }))
-          (andThen (featureAt s at text) (λ v. featuresFrom more s (v .to) (textPlace s at text)))) (λ f. withFeatures s h f))
-          ≡ firstOf (cond b (checksBehind s (record { text = text; end = at }))
-          (featureChecks s at text (element s at (getD s at 0)) (λ v. checksFrom more s (v .to) (textPlace s at text))))
-      go true e = behind-first s h (record { text = text; end = at })
-      go false e = e
+          → andThen (featureAt s at text) (λ v. featuresFrom more s (v .to) next)
+          ≡ under (featureChecks s text at ++ rows more next to) (value (found more next to))
+          → cond b (value (record { text = text; end = at })) (andThen (featureAt s at text) (λ v. featuresFrom more s (v .to) next))
+          ≡ under (featuresChecks s text (cond b [] (at ∷ placesFrom more s to)))
+          (value (record { text = textAmong s text (cond b [] (at ∷ placesFrom more s to)); end = cond b at (endFrom more s to) }))
+      go true f = refl
+      go false f = f
 
--- ---- all of them
+  -- one step more than there are octets is enough from any place
+  features-rows : (at : ℕ)
+      → features s at ≡ under (featuresChecks s 0 (placesFrom (suc (length s)) s at)) (value (featuresFound s at))
+  unfolding features featuresFrom featuresFound placesFrom endFrom featuresChecks textAmong under
+  features-rows at = go (isEnd s at) refl
+    where
+      go : (b : Bool) → isEnd s at ≡ b
+          → featuresFrom (suc (length s)) s at 0
+          ≡ under (rows (suc (length s)) 0 at) (value (found (suc (length s)) 0 at))
+      go true e = rw e
+      go false e = let h = not-end s at e in walk-rows (suc (length s)) 0 at (omega arith) (omega arith)
 
-pub seal-first : (s : List ℕ) → readSeal s .outcome ≡ firstOf (sealChecks s)
-unfolding readSeal saidIn withHeader features sealChecks firstOf
-seal-first s =
-    let size = unless (leb (length s) 65535) 1 0 in
-    let rest = withHeader s (headerOf s) (headerEnd s) in
-    let rows = checksFrom (suc (length s)) s (headerEnd s) 0 in
-    answer-outcome (saidIn s)
-    ∙ checked-outcome size (checked (headerCheck s) rest)
-    ∙ ap (orElse size) (checked-outcome (headerCheck s) rest
-    ∙ ap (λ (o : Outcome). orElse o (outcomeIn rest)) (header-first s)
-    ∙ ap (orElse (firstOf (headerChecks s))) (walk-first s (headerOf s) (suc (length s)) (headerEnd s) 0)
-    ∙ sym (first-append (headerChecks s) rows))
+  -- ---- the signature, and the text behind it
+
+  signature-rows : (at : ℕ) → signatureAt s at ≡ under (signatureChecks s at) (value (stretchAt s at signatureTag))
+  unfolding signatureAt signatureChecks under
+  signature-rows at =
+      step-known (unless (isCoded s at signatureTag) 27 at ∷ []) (numbered (by 27) (element s at signatureTag))
+      (stretchAt s at signatureTag) _ (numbered-row 27 s at signatureTag)
+
+  -- the text's checks, each at the feature's first octet
+  first-placed : (at : ℕ) (os : List Outcome) → placed at (firstOf os) ≡ firstOf (map (placed at) os)
+  unfolding firstOf placed
+  first-placed at [] = refl
+  first-placed at (passed ∷ os) = first-placed at os
+  first-placed at (refused n p ∷ os) = refl
+
+  abbrev said : Header → Features → Read Said
+  said h f = value (record {
+    header = h;
+    kept = readText (filled (textIn s f)) .kept;
+    signature = stretchAt s (f .end) signatureTag;
+  })
+
+  -- a text of 72 characters has an image
+  image-rows : {A : Type 0} (r : Reading) (k n p : ℕ) (m : Read A)
+      → checked (unless (isOf k r) n p) m ≡ checked (unless (isImage r) n p) (checked (unless (isOf k r) n p) m)
+  unfolding checked isImage isOf
+  image-rows (characters t) k n p m = refl
+  image-rows noImage k n p m = refl
+
+  behind-rows : (h : Header) (f : Features) → withFeatures s h f ≡ under (checksBehind s f) (said h f)
+  unfolding withFeatures withImage withText checksBehind under isField
+  behind-rows h f =
+      let t = filled (textIn s f) in
+      let text : placed (f .text) (readText t .outcome) ≡ firstOf (map (placed (f .text)) (checksOf t)) =
+      ap (placed (f .text)) (read-first t) ∙ first-placed (f .text) (checksOf t) in
+      let image = imageAt (featureOctets s f) 2 72 in
+      keep (unless (not (eqb (f .text) 0)) 25 (f .end)) (image-rows image 72 26 (f .text) _
+      ∙ keep (unless (isImage image) 26 (f .text)) (keep (unless (isField (featureOctets s f) 2 72) 26 (f .text))
+      (step-then (signatureChecks s (f .end)) (map (placed (f .text)) (checksOf t)) (signatureAt s (f .end))
+      (stretchAt s (f .end) signatureTag) _ (said h f) (signature-rows (f .end))
+      (ap (λ (o : Outcome). checked o (said h f)) text ∙ under-first (map (placed (f .text)) (checksOf t)) (said h f)))))
+
+  -- ---- all of them
+
+  seal-rows : saidIn s ≡ under (sealChecks s) (said (headerOf s) (featuresFound s (headerEnd s)))
+  unfolding saidIn withHeader sealChecks under
+  seal-rows =
+      let at = headerEnd s in
+      let f = featuresFound s at in
+      let last = said (headerOf s) f in
+      let walk = featuresChecks s 0 (placesFrom (suc (length s)) s at) in
+      keep (unless (leb (length s) 65535) 1 0)
+      (first-then (headerCheck s) (headerChecks s) (walk ++ checksBehind s f) (withHeader s (headerOf s) at) last (header-first s)
+      (step-then walk (checksBehind s f) (features s at) f _ last (features-rows at) (behind-rows (headerOf s) f)))
+
+  pub seal-first : readSeal s .outcome ≡ firstOf (sealChecks s)
+  unfolding readSeal
+  seal-first = answer-outcome (saidIn s) ∙ ap (λ (m : Read Said). outcomeIn m) seal-rows ∙ under-outcome (sealChecks s) _
 
 pub seal-refused-exactly : (s : List ℕ) (n : Why) (p : ℕ) → (readSeal s .outcome ≡ refused n p) ↔ FirstFailing (sealChecks s) n p
 seal-refused-exactly s n p = (

@@ -26,7 +26,7 @@ pub record Passed (s : List ℕ) (v : ℕ) : Type 0 where
   pub defined : getD s (10 + v) 0 ≡ 0x5E
   pub categorised : getD s (11 + v) 0 ≡ 0x03
 
-version-told : (v : ℕ) → isVersion v ≡ true → (v ≡ 0x02) ⊎ (v ≡ 0x03)
+pub version-told : (v : ℕ) → isVersion v ≡ true → (v ≡ 0x02) ⊎ (v ≡ 0x03)
 unfolding isVersion
 version-told v e = go (or-either (eqb v 0x02) (eqb v 0x03) e)
   where

@@ -41,6 +41,15 @@ no-state : stateRule (padded 3 (filled [])) ≡ true → ⊥
 unfolding stateRule lettersThenFillers isLetter filled padded
 no-state e = false≢true e
 
+-- no characters are no country
+pub country-field : (s : List ℕ) → stateRule (country s) ≡ true → isField s 2 3 ≡ true
+unfolding country
+country-field s kept = go (isField s 2 3) refl
+  where
+    go : (b : Bool) → isField s 2 3 ≡ b → b ≡ true
+    go true q = refl
+    go false q = absurd (no-state (ap (λ (l : List ℕ). stateRule (padded 3 (filled l))) (sym (no-field s 2 3 q)) ∙ kept))
+
 -- a day that is read stands there
 day-there : (s : List ℕ) (at : ℕ) → areOctets s → isDay (dayAt s at) ≡ true
     → drop at s ≡ dayOctets (dayAt s at) ++ drop (at + 3) s
@@ -61,13 +70,7 @@ module _ (s : List ℕ) (small : areOctets s) where
 
   module _ (p : Passed s (width s)) where
     country-stands : FieldStands s 2 3 (fieldAt s 2 3)
-    unfolding country
-    country-stands = go (isField s 2 3) refl
-      where
-        go : (b : Bool) → isField s 2 3 ≡ b → FieldStands s 2 3 (fieldAt s 2 3)
-        go true q = field-read s 2 3 small q
-        go false q =
-            absurd (no-state (ap (λ (l : List ℕ). stateRule (padded 3 (filled l))) (sym (no-field s 2 3 q)) ∙ p .stated))
+    country-stands = field-read s 2 3 small (country-field s (p .stated))
 
     reference-referred : Referred headAt s
     unfolding headAt

@@ -32,11 +32,14 @@ pub mod OneAnswer
 pub mod LeadingV
 -- the answer is the first failing check (`seal-refused-exactly`)
 pub mod FirstFailing
--- what a C host may rely on: every call is told in one of two ways (`seal-told`), and two entries are apart (`seals-apart`)
+-- what a C host may rely on: every call is told in one of two ways (`seal-told`)
 pub mod AtTheBorder
 -- the examples of the papers hold (`printed-hold`)
 pub mod Printed
--- the digit that a refusal 9 carries is the text's (`seal-expected`, `seal-nine`)
+-- what every refusal before the text has
+pub mod Refusals
+-- the digit that a refusal 9 carries is the text's (`seal-expected`, `seal-nine`); DEMAND 1: its number and its place
+-- (`seal-numbered`, `seal-within`)
 pub mod Expected
--- the numbers that C receives of a seal (`read-seal-exactly`, `read-seal-house`, `read-seal-not-zero`)
+-- the numbers that C receives of a seal (`read-seal-exactly` and the others), and two calls' entries apart (`seals-apart`)
 pub mod NumbersInC

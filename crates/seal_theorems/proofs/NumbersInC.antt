@@ -6,9 +6,10 @@ use mathlib.Core.Path.{_≡_, refl, sym, _∙_}
 use mathlib.Core.Logic.{_↔_}
 use mathlib.Core.Bool.{false}
 use mathlib.Core.List.{List}
-use lib.ListN.{take}
+use lib.ListN.{length, take}
 use Rattle.refusal.specs.Numbers.{Why}
 use Rattle.refusal.specs.Outcome.{passed}
+use Rattle.refusal.proofs.Readers.{of-tables}
 use Rattle.refusal.specs.Length.{Length, written, refused}
 use Rattle.zone.specs.Octets.{areOctets}
 use Rattle.tlv.specs.declared.Stretch.{Stretch}
@@ -19,6 +20,8 @@ use Rattle.seal_header.specs.declared.header.Header.{Header}
 use Rattle.seal.specs.Seal.{readSeal}
 use Rattle.lamphudet_seals.specs.declared.SealInC.{SealInC}
 use Rattle.lamphudet_seals.specs.Answer.{fieldsInC, sealInC, readSealInC, readSealOut}
+use Rattle.run_theorems.specs.EveryCall.{AnswersInC}
+use Rattle.run_theorems.proofs.EveryCall.{entered-answers, answers-in-c}
 use Rattle.run_theorems.specs.Entered.{Allowed, Leaves}
 use Rattle.run_theorems.specs.Expected.{numberTold, valueTold}
 use Rattle.run_theorems.proofs.NumbersEntered.{zero-allowed, seventeen-exactly, zero-enters, zero-leaves}
@@ -27,7 +30,7 @@ use Rattle.run_theorems.proofs.Separation.{entries-apart, houses-apart}
 use Rattle.run_theorems.specs.Keys.{SameKey}
 use Rattle.seal_theorems.specs.Sealed.{Contents, Sealed, octetsOf}
 use Rattle.seal_theorems.proofs.Acceptance.{sealed-exactly}
-use Rattle.seal_theorems.proofs.Expected.{seal-numbered}
+use Rattle.seal_theorems.proofs.Expected.{seal-numbered, seal-within}
 use Rattle.seal_theorems.proofs.SealRecord.{seal-sound}
 
 number-in-c : (l : Length) (h : Header) (v : Stretch) → sealInC l h v .number ≡ numberTold l
@@ -78,6 +81,16 @@ module _ (house : ℕ) (s out : List ℕ) where
   read-seal-not-zero why p denied zero =
       zero-no-refusal house (readSeal s .kept) out (readSeal s .outcome) (seal-numbered s) (seal-sound s) why p denied
       (sym same-number ∙ zero)
+
+  -- DEMAND 1: a refusal has a number of the papers' tables and a place no further than the end, and leaves every octet; a success
+  -- changes the octets that it reports and no others
+  pub read-seal-answers : AnswersInC (length s) out (inSeal .number) (inSeal .value) (readSealOut house s out)
+  unfolding readSealOut
+  read-seal-answers =
+      rw (same-number, same-value)
+      (answers-in-c (length s) out answer _
+      (entered-answers (length s) house (readSeal s .kept) out (readSeal s .outcome)
+      (λ why p e. (of-tables why (seal-numbered s why p e), seal-within s why p e))))
 
   seal-enters : inSeal .number ≡ 0 → Enters (readSeal s .outcome) house (readSeal s .kept) out
   seal-enters zero = zero-enters house (readSeal s .kept) out (readSeal s .outcome) (seal-numbered s) (seal-sound s)

@@ -71,28 +71,31 @@ pub record Referred (h : Head) (s : List ℕ) : Type 0 where
   pub five-so : h .version ≡ 0x02 → length (h .certificate) ≡ 5
   pub most-so : h .version ≡ 0x03 → length (h .certificate) ≤ 255
 
+-- there are six characters at least
+pub least : (s : List ℕ) → 6 ≤ referenceLength s
+unfolding referenceLength
+least s = go (eqb (version s) 0x02)
+  where
+    go : (b : Bool) → 6 ≤ cond b 9 (6 + moreBy (fieldAt s 4 6))
+    go true = omega arith
+    go false = omega arith
+
+-- no characters are no reference
+pub reference-field : (s : List ℕ) → isReference (reference s) ≡ true → isField s 4 (referenceLength s) ≡ true
+unfolding reference isReference isLetter
+reference-field s kept = go (isField s 4 (referenceLength s)) refl
+  where
+    go : (b : Bool) → isField s 4 (referenceLength s) ≡ b → b ≡ true
+    go true p = refl
+    go false p = absurd (false≢true (rw (no-field s 4 (referenceLength s) p) at kept))
+
 module _ (s : List ℕ) (small : areOctets s) (kept : isReference (reference s) ≡ true) where
   pub reference-stands : FieldStands s 4 (referenceLength s) (reference s)
-  unfolding reference isReference isLetter
-  reference-stands = go (isField s 4 (referenceLength s)) refl
-    where
-      n : ℕ
-      n = referenceLength s
-
-      go : (b : Bool) → isField s 4 n ≡ b → FieldStands s 4 n (fieldAt s 4 n)
-      go true p = field-read s 4 n small p
-      go false p = absurd (false≢true (rw (no-field s 4 n p) at kept))
-
-  least : 6 ≤ referenceLength s
-  unfolding referenceLength
-  least = go (eqb (version s) 0x02)
-    where
-      go : (b : Bool) → 6 ≤ cond b 9 (6 + moreBy (fieldAt s 4 6))
-      go true = omega arith
-      go false = omega arith
+  unfolding reference
+  reference-stands = field-read s 4 (referenceLength s) small (reference-field s kept)
 
   long : 6 ≤ length (reference s)
-  long = omega (arith, least, reference-stands .field-length)
+  long = omega (arith, least s, reference-stands .field-length)
 
   pub signer-four : length (signerAt s) ≡ 4
   unfolding signerAt

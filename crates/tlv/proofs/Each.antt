@@ -33,10 +33,14 @@ module _ (P : Why → ℕ → Type 0) where
   each-then (value a) go h k = k a refl
   each-then (refusal n p) go h k = h
 
-  pub each-checked : {A : Type 0} (o : Outcome) (m : Read A) → Each P o → EachRead P m → EachRead P (checked o m)
+  -- what goes on is looked at where the check passed
+  pub each-behind : {A : Type 0} (o : Outcome) (m : Read A) → Each P o → (o ≡ passed → EachRead P m) → EachRead P (checked o m)
   unfolding outcomeIn checked
-  each-checked passed m h k = k
-  each-checked (refused n p) m h k = h
+  each-behind passed m h k = k refl
+  each-behind (refused n p) m h k = h
+
+  pub each-checked : {A : Type 0} (o : Outcome) (m : Read A) → Each P o → EachRead P m → EachRead P (checked o m)
+  each-checked o m h k = each-behind o m h (λ e. k)
 
   sized-each : (s : List ℕ) (at place : ℕ) (z : Size) → P (by 10) at → EachRead P (sized s at place z)
   unfolding sized endsWithin
