@@ -6,11 +6,11 @@ ghost use Rattle.tlv.specs.Read.{outcomeIn};
 ghost use Rattle.tlv.specs.Cut as C;
 ghost use Rattle.chip.specs.Outer as O;
 ghost use Rattle.chip.specs.Inner.ByTable.{lentFrom};
-ghost use Rattle.chip.specs.Presentation.{firstFile, groupStretch, fileOrNone};
-ghost use Rattle.chip.specs.Inner.Found.{foundOf};
+ghost use Rattle.chip.specs.Presentation.{firstFile, groupStretch};
+ghost use Rattle.chip.specs.Inner.Found.{foundOf, orFound};
 use crate::outer::Walked;
 use crate::outer::file_at;
-use crate::outer::walk;
+use crate::outer::front;
 use tlv::Stretch;
 use tlv::Taken;
 use tlv::cut::cut;
@@ -51,20 +51,32 @@ pub(crate) fn first_file(w: &[u8], start: usize, group: u32) -> Found
     Found::Missing
 }
 
-// The whole file, tag and length included; empty where there is none.
-fn stretch_of(n: usize, found: Found) -> Stretch
-    ensures { λ r. ⌜ r ≡ fileOrNone (foundOf n found) ⌝ }
+// The whole first file with that group's tag, tag and length included, of the files from a place on: empty where there is none or
+// one of them is refused. What was found is kept while the others are walked, so that they are walked once.
+fn group_from(w: &[u8], start: usize, group: u32) -> Stretch
+    ensures { λ r. ⌜ r ≡ orFound (now (w .entry)) group (record { from = 0; to = 0 }) (O.files (now (w .entry)) start) ⌝ }
 {
-    match found {
-        Found::Lent(place) => {
-            let held = place.held;
-            Stretch {
-                from: place.start,
-                to: held.to,
+    let mut found = Stretch { from: 0, to: 0 };
+    let mut at = start;
+    while at < w.len() {
+        match file_at(w, at) {
+            Taken::Value(held) => {
+                let tag = lent::octet(w, at);
+                let own = group_of(tag) as u32;
+                if (found.to == 0) & (own == group) {
+                    found = Stretch {
+                        from: at,
+                        to: held.to,
+                    };
+                }
+                at = held.to;
+            }
+            Taken::Refused(_) => {
+                return Stretch { from: 0, to: 0 };
             }
         }
-        Found::Missing => Stretch { from: 0, to: 0 },
     }
+    found
 }
 
 // Where the file of a group stands in a presentation: empty where stage 1 or 2 fails, no such file is lent, or the number is
@@ -72,11 +84,10 @@ fn stretch_of(n: usize, found: Found) -> Stretch
 pub fn group_stretch(w: &[u8], group: u32) -> Stretch
     ensures { λ r. ⌜ r ≡ groupStretch (now (w .entry)) group ⌝ }
 {
-    match walk(w) {
+    match front(w) {
         Walked::Parts(parts) => {
             let object = parts.object;
-            let found = first_file(w, object.to, group);
-            stretch_of(w.len(), found)
+            group_from(w, object.to, group)
         }
         Walked::Refused(_) => Stretch { from: 0, to: 0 },
     }

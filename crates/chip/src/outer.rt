@@ -4,7 +4,7 @@ ghost use Rattle.refusal.specs.Outcome.{outcomeOf};
 ghost use Rattle.tlv.specs.Read.{outcomeIn};
 ghost use Rattle.tlv.specs.Element.{takenOf};
 ghost use Rattle.chip.specs.Outer as O;
-ghost use Rattle.chip.specs.Inner.Onward.{behindObject, behindEfCom};
+ghost use Rattle.chip.specs.Inner.Onward.{behindEfCom, front, behindObject};
 use refusal::Cause;
 use refusal::Refusal;
 use refusal::Verdict;
@@ -55,27 +55,19 @@ fn files(w: &[u8], start: usize) -> Verdict
     Verdict::Passed
 }
 
-fn with_object(w: &[u8], efcom: Stretch, object: Stretch) -> Walked
-    ensures { λ r. ⌜ O.walkedOf r ≡ behindObject (now (w .entry)) efcom object ⌝ }
-{
-    match files(w, object.to) {
-        Verdict::Passed => Walked::Parts(Outer { efcom, object }),
-        Verdict::Refused(refusal) => Walked::Refused(refusal),
-    }
-}
-
+// The security object stands where EF.COM ends.
 fn with_efcom(w: &[u8], efcom: Stretch) -> Walked
     ensures { λ r. ⌜ O.walkedOf r ≡ behindEfCom (now (w .entry)) efcom ⌝ }
 {
     match tlv::element(w, efcom.to, tags::SEQUENCE) {
-        Taken::Value(object) => with_object(w, efcom, object),
+        Taken::Value(object) => Walked::Parts(Outer { efcom, object }),
         Taken::Refused(refusal) => Walked::Refused(refusal),
     }
 }
 
-// Size, then EF.COM, the security object and the files, each from where the one before it ends.
-pub fn walk(w: &[u8]) -> Walked
-    ensures { λ r. ⌜ O.walkedOf r ≡ O.walked (now (w .entry)) ⌝ }
+// Size, then EF.COM and the security object: all that stands before the files.
+pub(crate) fn front(w: &[u8]) -> Walked
+    ensures { λ r. ⌜ O.walkedOf r ≡ front (now (w .entry)) ⌝ }
 {
     if 65535 < w.len() {
         return Walked::Refused(Refusal::at(Cause::Length, 0));
@@ -83,5 +75,25 @@ pub fn walk(w: &[u8]) -> Walked
     match tlv::element(w, 0, tags::EF_COM) {
         Taken::Value(efcom) => with_efcom(w, efcom),
         Taken::Refused(refusal) => Walked::Refused(refusal),
+    }
+}
+
+fn with_files(w: &[u8], parts: Outer) -> Walked
+    ensures { λ r. ⌜ O.walkedOf r ≡ behindObject (now (w .entry)) parts ⌝ }
+{
+    let object = parts.object;
+    match files(w, object.to) {
+        Verdict::Passed => Walked::Parts(parts),
+        Verdict::Refused(refusal) => Walked::Refused(refusal),
+    }
+}
+
+// Both stages.
+pub fn walk(w: &[u8]) -> Walked
+    ensures { λ r. ⌜ O.walkedOf r ≡ O.walked (now (w .entry)) ⌝ }
+{
+    match front(w) {
+        Walked::Parts(parts) => with_files(w, parts),
+        Walked::Refused(refusal) => Walked::Refused(refusal),
     }
 }

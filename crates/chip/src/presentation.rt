@@ -56,7 +56,7 @@ fn decide(w: &[u8], parts: Outer) -> Reading
     }
 }
 
-// Any octets at all are read as a presentation, or refused by number and place.
+// Any octets at all are read as a presentation, or refused with cause and place.
 pub fn read(w: &[u8]) -> Reading
     ensures { λ r. ⌜ answerOf r ≡ readPresentation (now (w .entry)) ⌝ }
 {

@@ -101,7 +101,7 @@ fn with_header(s: &[u8], header: Header, end: usize) -> Seal
     }
 }
 
-// Any octets at all are read as a seal, or refused by number and place.
+// Any octets at all are read as a seal, or refused with cause and place.
 pub fn read(s: &[u8]) -> Seal
     ensures { λ r. ⌜ S.answerOf r ≡ S.readSeal (now (s .entry)) ⌝ }
 {

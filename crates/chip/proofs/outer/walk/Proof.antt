@@ -1,31 +1,28 @@
--- Size first, then EF.COM at the start.
+-- What stands before the files, and then these.
 use borrow.Author.Needs.{needs}
-use borrow.Author.Tests.{le-leb, lt-leb}
+use denote.Ref.{now}
 use Rattle.tlv.specs.Read.{andThen}
-use Rattle.chip.specs.Outer.{sizeCheck, outer, walked}
-use Rattle.tlv.specs.Read.{checked}
+use Rattle.chip.proofs.Front.{front-walked}
 use Rattle.chip.proofs.outer.walk.Statement.{statement}
 use Rattle.chip.proofs.outer.walk.Tie as tie
 
 pub walk-spec : {M : Type 1} → statement M
-unfolding walked sizeCheck outer checked andThen
+unfolding andThen
 walk-spec =
     tie.close
     (tie.spec
     (λ c κs. search needs)
-    (λ c. rw (lt-leb _ _ (c .before .if1 .taken), c .at .ensures))
-    (λ c κs. search needs)
     (λ c. search needs)
     (λ c κs. search needs)
     (λ c. search needs)
     (λ c. rw (
-      le-leb _ _ (c .before .before .before .before .before .if1 .left),
-      ← c .before .before .before .before .element .ensures,
-      c .before .before .efcom .given .1,
+      front-walked (now (c .before .before .before .before .before .before .args .w)),
+      ← c .before .before .before .before .front .ensures,
+      c .before .before .parts .given .1,
     )
-    (c .with-efcom .ensures))
+    (c .with-files .ensures))
     (λ c. rw (
-      le-leb _ _ (c .before .before .before .before .if1 .left),
-      ← c .before .before .before .element .ensures,
+      front-walked (now (c .before .before .before .before .before .args .w)),
+      ← c .before .before .before .front .ensures,
       c .before .refusal .given .1,
     )))

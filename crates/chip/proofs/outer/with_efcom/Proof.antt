@@ -4,11 +4,6 @@ use Rattle.tlv.specs.Read.{andThen}
 use Rattle.chip.proofs.outer.with_efcom.Statement.{statement}
 use Rattle.chip.proofs.outer.with_efcom.Tie as tie
 
-returns : tie.Need-returns
-unfolding andThen
-returns c = rw (← c .before .before .before .before .element .ensures, c .before .before .object .given .1)
-    (c .with-object .ensures)
-
 pub with-efcom-spec : {M : Type 1} → statement M
 unfolding andThen
 with-efcom-spec =
@@ -16,7 +11,6 @@ with-efcom-spec =
     (tie.spec
     (λ c κs. search needs)
     (λ c. search needs)
-    (λ c κs. search needs)
     (λ c. search needs)
-    returns
+    (λ c. rw (← c .before .before .before .element .ensures, c .before .object .given .1))
     (λ c. rw (← c .before .before .before .element .ensures, c .before .refusal .given .1)))

@@ -1,17 +1,17 @@
 -- The files have been walked to the end, or the first that fails is told.
 use borrow.Author.Needs.{needs}
-use mathlib.Core.Path.{sym, ap, _∙_}
+use mathlib.Core.Path.{ap, sym, _∙_}
 use Rattle.refusal.specs.Outcome.{outcomeOf}
 use Rattle.tlv.proofs.Joined.{passed-then, refused-then}
-use Rattle.chip.proofs.outer.with_object.Statement.{statement}
-use Rattle.chip.proofs.outer.with_object.Tie as tie
+use Rattle.chip.proofs.outer.with_files.Statement.{statement}
+use Rattle.chip.proofs.outer.with_files.Tie as tie
 
 returns-2 : tie.Need-returns-2
 returns-2 c = sym (refused-then _ _ _ _
     (sym (c .before .before .before .files .ensures) ∙ ap outcomeOf (c .before .refusal .given .1)))
 
-pub with-object-spec : {M : Type 1} → statement M
-with-object-spec =
+pub with-files-spec : {M : Type 1} → statement M
+with-files-spec =
     tie.close (tie.spec
     (λ c κs. search needs)
     (λ c. search needs)
