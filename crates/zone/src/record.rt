@@ -39,17 +39,17 @@ impl Record {
     }
 }
 
-// The length without trailing fillers.
+// The length without trailing fillers, looked for from the end.
 pub fn trimmed_length(s: &[u8]) -> usize
     ensures { λ r. ⌜ r ≡ trimmedLength (now (s .entry)) ⌝ }
 {
-    let mut n = 0;
-    let mut i = 0;
-    while i < s.len() {
-        if s[i] != FILLER {
-            n = i + 1;
+    let mut n = s.len();
+    while 0 < n {
+        let last = n - 1;
+        if s[last] != FILLER {
+            return n;
         }
-        i += 1;
+        n = last;
     }
-    n
+    0
 }

@@ -1,7 +1,6 @@
--- What was passed has length n without its trailing fillers.
-use Prim.Native.Nat.{_≤_, _<_, _-_}
+-- The first n characters have the same length without trailing fillers as the whole.
+use Prim.Native.Nat.{_≤_, _<_, _-_, _+_}
 use mathlib.Core.Path.{_≡_, ap, sym, _∙_}
-use mathlib.Core.Logic.{⊎-elim}
 use native.Mathlib.Omega.{arith}
 use borrow.Author.Needs.{needs}
 use borrow.Author.Tests.{eq-eqb, ne-eqb}
@@ -15,10 +14,10 @@ use Rattle.zone.proofs.record.trimmed_length.Statement.{statement}
 use Rattle.zone.proofs.record.trimmed_length.Tie as tie
 
 abbrev Inv-loop : tie.InvT-loop
-Inv-loop s n₀ i₀ n i = (i ≤ length s) × (n ≡ trimmedLength (take i s))
+Inv-loop s n₀ n = (n ≤ length s) × (trimmedLength (take n s) ≡ trimmedLength s)
 
 abbrev μ-loop : tie.MeasureT-loop
-μ-loop s n₀ i₀ n i = length s - i
+μ-loop s n₀ n = n
 
 pub trimmed-length-spec : {M : Type 1} → statement M
 unfolding trimmedLength isFiller
@@ -27,21 +26,25 @@ trimmed-length-spec =
     (tie.spec
     Inv-loop
     μ-loop
+    (λ c. (search needs, ap trimmedLength (take-all (length (now (c .args .s))) (now (c .args .s)) (search needs))))
     (λ c. search needs)
     (λ c. search needs)
-    (λ c. search needs)
-    (λ c. search needs)
-    (λ c. search needs)
-    -- a character that counts, or a filler
+    -- a character that counts
     (λ c.
     let s = now (c .before .before .before .before .args .s) in
     let l = c .before .before .before .loop in
-    let h : l .i < length s = omega arith in (
-      search needs,
-      ⊎-elim (λ w. w .1 ∙ sym (trimmed-other s (l .i) h (ne-eqb _ _ (w .0 .taken))))
-          (λ w. w .1 ∙ (l .inv .1 ∙ sym (trimmed-filler s (l .i) h (eq-eqb _ _ (w .0 .left))))) (c .if1 .came),
-    ))
-    -- all are passed
+    let h : l .n - 1 < length s = omega arith in
+    let k : l .n - 1 + 1 ≡ l .n = omega arith in
+    sym (rw k at (trimmed-other s (l .n - 1) h (ne-eqb _ _ (c .if1 .taken)))) ∙ l .inv .1)
+    (λ c. search needs)
+    -- a filler
     (λ c.
-    let s = now (c .before .before .args .s) in
-    c .before .loop .inv .1 ∙ ap trimmedLength (take-all (c .before .loop .i) s (search needs))))
+    let s = now (c .before .before .before .before .args .s) in
+    let l = c .before .before .before .loop in
+    let h : l .n - 1 < length s = omega arith in
+    let k : l .n - 1 + 1 ≡ l .n = omega arith in
+    (search needs, sym (rw k at (trimmed-filler s (l .n - 1) h (eq-eqb _ _ (c .if1 .left)))) ∙ l .inv .1))
+    -- nothing but fillers
+    (λ c.
+    let none : c .before .loop .n ≡ 0 = omega arith in
+    rw none at (c .before .loop .inv .1)))
