@@ -1,5 +1,6 @@
 // Dates: pairs of digits, or of fillers where a birth is not known whole.
 ghost use mathlib.Core.Path.{_≡_};
+ghost use mathlib.Core.Bool.{_&&_};
 ghost use Prim.Native.Nat.{_+_, _<_};
 ghost use lib.ListN.{getD};
 ghost use Rattle.field.specs.Date.{pairOf, isLeap, daysIn, monthRule, dayRule, yearRule, isKnown, birthRule, expiryRule};
@@ -15,15 +16,18 @@ pub enum Pair {
 fn pair_of(a: u8, b: u8) -> Pair
     ensures { λ r. ⌜ r ≡ pairOf a b ⌝ }
 {
-    if (a == FILLER) & (b == FILLER) {
-        return Pair::Unknown;
-    }
     match a {
         b'0'..=b'9' => match b {
             b'0'..=b'9' => Pair::Known((a - b'0') * 10 + (b - b'0')),
             _ => Pair::Neither,
         },
-        _ => Pair::Neither,
+        _ => {
+            if (a == FILLER) & (b == FILLER) {
+                Pair::Unknown
+            } else {
+                Pair::Neither
+            }
+        }
     }
 }
 
@@ -103,17 +107,24 @@ fn is_known(pair: Pair) -> bool
     }
 }
 
+// A day of a month of a year.
+fn is_date(year: Pair, month: Pair, day: Pair) -> bool
+    ensures { λ r. ⌜ r ≡ yearRule year && (monthRule month && dayRule (daysIn year month) day) ⌝ }
+{
+    is_year(year) & (is_month(month) & is_day(days_in(year, month), day))
+}
+
 pub fn is_birth(s: &[u8]) -> bool
     ensures { λ r. ⌜ r ≡ birthRule (now (s .entry)) ⌝ }
 {
-    let year = pair_at(s, 0);
-    let month = pair_at(s, 2);
-    let day = pair_at(s, 4);
-    is_year(year) & (is_month(month) & is_day(days_in(year, month), day))
+    is_date(pair_at(s, 0), pair_at(s, 2), pair_at(s, 4))
 }
 
 pub fn is_expiry(s: &[u8]) -> bool
     ensures { λ r. ⌜ r ≡ expiryRule (now (s .entry)) ⌝ }
 {
-    is_known(pair_at(s, 0)) & (is_known(pair_at(s, 2)) & is_known(pair_at(s, 4))) & is_birth(s)
+    let year = pair_at(s, 0);
+    let month = pair_at(s, 2);
+    let day = pair_at(s, 4);
+    (is_known(year) & (is_known(month) & is_known(day))) & is_date(year, month, day)
 }

@@ -13,15 +13,9 @@ is-birth-spec =
     (λ c κs. search needs)
     (λ c κs. search needs)
     (λ c κs. search needs)
-    (λ c κs. search needs)
-    (λ c κs. search needs)
-    (λ c κs. search needs)
     (λ c. rw (
-      c .is-day .ensures,
-      c .before .days-in .ensures,
-      c .before .before .is-month .ensures,
-      c .before .before .before .is-year .ensures,
-      c .before .before .before .before .pair-at3 .ensures,
-      c .before .before .before .before .before .pair-at2 .ensures,
-      c .before .before .before .before .before .before .pair-at .ensures,
+      c .is-date .ensures,
+      c .before .pair-at3 .ensures,
+      c .before .before .pair-at2 .ensures,
+      c .before .before .before .pair-at .ensures,
     )))
