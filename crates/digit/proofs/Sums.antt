@@ -1,20 +1,17 @@
--- The laws of a weighted sum: its parts are small, one more character, and pieces joined.
-use Prim.Native.Nat.{ℕ, zero, suc, _+_, _*_, _-_, _%_, _≤_, _<_}
+-- The laws of a weighted sum: its parts are small, its weights repeat, and pieces are joined.
+use Prim.Native.Nat.{ℕ, zero, suc, _+_, _*_, _-_, _%_, _^_, _≤_, _<_}
 use Prim.Native.Char.{code}
-use mathlib.Core.Path.{_≡_, refl}
+use mathlib.Core.Path.{_≡_, refl, ap}
 use mathlib.Core.Bool.{Bool, true, false, cond}
 use mathlib.Core.List.{List, [], _∷_, _++_}
-use native.Mathlib.Nat.{mod-mod, mod-lt, mul-le-mul, zero-add, add-zero}
-use native.Mathlib.Numerals.{add-one}
+use native.Mathlib.Nat.{mod-mod, mod-lt, mul-le-mul, mul-comm, le-of-lt, zero-add, add-zero}
 use native.Mathlib.Omega.{arith}
 use lib.Dec.{lit≤, lit<}
-use lib.ListN.{length, drop, getD, length-append, drop-of-length-le}
-use lib.Seq.{drop-cons}
+use lib.ListN.{length, take, drop, getD, length-take, length-drop, take-append-drop}
+use lib.Seq.{take-all, drop-drop}
 use Rattle.zone.specs.Alphabet.{isDigit, isLetter}
 use Rattle.zone.proofs.Classes.{digit-range, letter-range}
-use Rattle.digit.specs.Check.{value, weight, sumFrom, checkOf, digitOf}
-use Rattle.digit.specs.Inner.Tally.{Tally·over, Tally·digit}
-use Rattle.digit.specs.declared.Tally.{Tally}
+use Rattle.digit.specs.Check.{value, weight, sumFrom}
 
 pub value-le : (c : ℕ) → value c ≤ 35
 unfolding value
@@ -24,6 +21,10 @@ value-le c = go (isDigit c) refl (isLetter c) refl
     go true p l q = omega (arith, digit-range c p .1)
     go false p true q = omega (arith, letter-range c q .1)
     go false p false q = omega arith
+
+-- the same of what the code counts
+pub counted-le : {a : ℕ} (c : ℕ) → a ≡ value c → a ≤ 35
+counted-le c e = rw e (value-le c)
 
 pub weight-le : (i : ℕ) → weight i ≤ 7
 unfolding weight
@@ -44,21 +45,22 @@ pub weight-mod : (i : ℕ) → weight (i % 3) ≡ weight i
 unfolding weight
 weight-mod i = rw (mod-mod i 3)
 
+pub weight-at : (i k : ℕ) → weight (i % 3 + k) ≡ weight (i + k)
+unfolding weight
+weight-at i k =
+    let e : (i % 3 + k) % 3 ≡ (i + k) % 3 = omega arith in
+    rw e
+
+-- what a third of a field adds
+pub part-le : {b : ℕ} (a i : ℕ) → a < 2 ^ 32 → b ≡ weight i → a * b ≤ 7 * 2 ^ 32
+part-le a i h q = rw (q, mul-comm a (weight i)) (mul-le-mul (weight-le i) (le-of-lt h))
+
 pub sum-mod : (i j : ℕ) (s : List ℕ) → i % 3 ≡ j % 3 → sumFrom i s ≡ sumFrom j s
 unfolding sumFrom weight
 sum-mod i j [] e = refl
 sum-mod i j (c ∷ s) e =
     let k : suc i % 3 ≡ suc j % 3 = omega arith in
     rw (e, sum-mod (suc i) (suc j) s k)
-
--- one turn of the loop: the next character's part moves into the sum
-pub sum-more : (place sum i : ℕ) (s : List ℕ) → i < length s
-    → ((sum + value (getD s i 0) * weight (place + i)) % 10 + sumFrom (place + (i + 1)) (drop (i + 1) s)) % 10
-    ≡ (sum + sumFrom (place + i) (drop i s)) % 10
-unfolding sumFrom
-sum-more place sum i s h =
-    let k : place + (i + 1) ≡ suc (place + i) = omega arith in
-    rw (k, add-one i, drop-cons s i 0 h) (omega arith)
 
 -- the sum over joined pieces
 pub sum-append : (i : ℕ) (a b : List ℕ) → sumFrom i (a ++ b) ≡ sumFrom i a + sumFrom (i + length a) b
@@ -68,34 +70,16 @@ sum-append i (c ∷ a) b =
     let k : i + suc (length a) ≡ suc i + length a = omega arith in
     rw (k, sum-append (suc i) a b) (omega arith)
 
--- where the loop ends: nothing is left, and the sum is below 10
-pub sum-ends : (t : Tally) (s : List ℕ) (i turn sum : ℕ) → length s ≤ i → i ≤ length s → sum < 10
-    → turn ≡ (t .turn % 3 + i) % 3
-    → (sum + sumFrom (t .turn % 3 + i) (drop i s)) % 10 ≡ (t .sum % 10 + sumFrom (t .turn % 3) s) % 10
-    → _≡_ {A = Tally} (record { turn = turn; sum = sum }) (Tally·over t s)
-unfolding Tally·over sumFrom
-sum-ends t s i turn sum h k l e f =
-    let g : (sum + 0) % 10 ≡ (t .sum % 10 + sumFrom (t .turn % 3) s) % 10 = rw (drop-of-length-le s h) at f in
-    let turns : turn ≡ (t .turn + length s) % 3 = omega arith in
-    let sums : sum ≡ (t .sum + sumFrom (t .turn) s) % 10 =
-    omega (arith, g, sum-mod (t .turn % 3) (t .turn) s (mod-mod (t .turn) 3)) in
-    λ j. record { turn = turns j; sum = sums j }
+-- The loop over a long field: its next 255 characters, whose sum moves into the sum so far,
+pub sum-more : (sum at : ℕ) (s : List ℕ) → at + 255 ≤ length s
+    → ((sum + sumFrom 0 (take 255 (drop at s))) % 10 + sumFrom 0 (drop (at + 255) s)) % 10 ≡ (sum + sumFrom 0 (drop at s)) % 10
+sum-more sum at s h =
+    let u = drop at s in
+    let long : length (take 255 u) ≡ 255 = rw (length-take, length-drop) (omega arith) in
+    let all = sum-append 0 (take 255 u) (drop 255 u) in
+    let parts = rw (take-append-drop 255 u, long, sum-mod (0 + 255) 0 (drop 255 u) refl, drop-drop 255 at s) at all in
+    rw parts (omega arith)
 
--- pieces joined: the sum over the one and then the other is the sum over both
-pub over-over : (t : Tally) (a b : List ℕ) → Tally·over (Tally·over t a) b ≡ Tally·over t (a ++ b)
-unfolding Tally·over
-over-over t a b = λ i. record { turn = turns i; sum = sums i }
-  where
-    turns : ((t .turn + length a) % 3 + length b) % 3 ≡ (t .turn + length (a ++ b)) % 3
-    turns = rw (length-append a b) (omega arith)
-
-    sums : ((t .sum + sumFrom (t .turn) a) % 10 + sumFrom ((t .turn + length a) % 3) b) % 10
-        ≡ (t .sum + sumFrom (t .turn) (a ++ b)) % 10
-    sums =
-        let k = t .turn + length a in
-        rw (sum-append (t .turn) a b, sum-mod (k % 3) k b (mod-mod k 3)) (omega arith)
-
--- a sum from nothing, written as a digit, is the check digit
-pub over-digit : (t : Tally) (s : List ℕ) → t .turn ≡ 0 → t .sum ≡ 0 → Tally·digit (Tally·over t s) ≡ digitOf s
-unfolding Tally·over Tally·digit digitOf checkOf
-over-digit t s p q = rw (p, q, zero-add, mod-mod)
+-- and its end
+pub sum-rest : (at : ℕ) (s : List ℕ) → length s < at + 255 → sumFrom 0 (take 255 (drop at s)) ≡ sumFrom 0 (drop at s)
+sum-rest at s h = ap (sumFrom 0) (take-all 255 (drop at s) (rw length-drop (omega arith)))

@@ -1,5 +1,5 @@
 -- The digit as a character: what fillers have, that it is a character and no filler, and that it tells the check.
-use Prim.Native.Nat.{ℕ, zero, suc, _-_, _≤_, _<_}
+use Prim.Native.Nat.{ℕ, zero, suc, _+_, _-_, _%_, _<_}
 use mathlib.Core.Path.{_≡_, refl}
 use mathlib.Core.Bool.{true, false}
 use mathlib.Core.List.{List}
@@ -12,6 +12,7 @@ use lib.ListN.{replicate}
 use Prim.Native.Char.{code}
 use Rattle.zone.specs.Alphabet.{isDigit, isLetter, isFiller, isCharacter, filler}
 use Rattle.digit.specs.Check.{value, sumFrom, checkOf, digitOf}
+use Rattle.digit.specs.Inner.Thirds.{asDigit}
 
 pub sum-fillers : (i n : ℕ) → sumFrom i (replicate n filler) ≡ 0
 unfolding sumFrom value isDigit isLetter
@@ -27,17 +28,17 @@ digit-below : (s : List ℕ) → digitOf s < 58
 unfolding digitOf checkOf
 digit-below s = omega (arith, mod-lt (sumFrom 0 s) (lit< {m = 0} {n = 10} tt))
 
-digit-from : (s : List ℕ) → code "0" ≤ digitOf s
-unfolding digitOf
-digit-from s = omega arith
+-- a sum written as a digit is a digit
+pub as-digit-digit : (sum : ℕ) → isDigit (asDigit sum) ≡ true
+unfolding isDigit asDigit
+as-digit-digit sum = rw (
+  le-leb (code "0") (code "0" + sum % 10) (omega arith),
+  le-leb (code "0" + sum % 10) (code "9") (omega (arith, mod-lt sum (lit< {m = 0} {n = 10} tt))),
+)
 
 pub digit-digit : (s : List ℕ) → isDigit (digitOf s) ≡ true
-unfolding isDigit
-digit-digit s = rw (
-  le-leb (code "0") (digitOf s) (digit-from s),
-  le-leb (digitOf s) (code "9")
-      (omega (arith, digit-below s)),
-)
+unfolding asDigit digitOf checkOf
+digit-digit s = as-digit-digit (sumFrom 0 s)
 
 -- what it counts is the check
 pub digit-number : (s : List ℕ) → digitOf s - code "0" ≡ checkOf s

@@ -1,2 +1,3 @@
 -- No words of the paper: what the promises of the code between are stated in.
-pub mod Tally
+pub mod Thirds  -- a field's characters by thirds
+pub mod Covered  -- what the composite covers, part by part

@@ -1,12 +1,15 @@
 // The check digits, 9: each judged at its place, and all of them in text order.
 ghost use mathlib.Core.Path.{_≡_};
 ghost use mathlib.Core.Bool.{true, _&&_};
-ghost use lib.ListN.{take, drop};
+ghost use mathlib.Core.List.{List};
+ghost use Prim.Native.Nat.{ℕ};
 ghost use Rattle.refusal.specs.Outcome.{outcomeOf, orElse};
 ghost use Rattle.zone.specs.Alphabet.{isDigit, isFiller, every};
 ghost use Rattle.zone.specs.Form.{parts};
 ghost use Rattle.zone.specs.Part.{number, numberCheck, optional, birthCheck, expiryCheck, personal, personalCheck, composite};
 ghost use Rattle.digit.specs.Check.{digitOf};
+ghost use Rattle.digit.specs.Inner.Thirds.{thirdsOf};
+ghost use Rattle.digit.specs.Inner.Covered.{sumsOf};
 ghost use Rattle.text_digits.specs.Digits.{digitAt, digitCheck, inOrder};
 ghost use Rattle.text_digits.specs.Number.{checkedBy};
 ghost use Rattle.text_digits.specs.Inner.Checks.{writtenAt, ifHas};
@@ -14,8 +17,10 @@ ghost use Rattle.text_digits.specs.declared.number.Span.{Span};
 ghost use Rattle.text_digits.specs.declared.number.Span.the-variants.{Long};
 use crate::number::Span;
 use crate::order::in_turn;
-use digit::Tally;
-use digit::composite::covered_digit;
+use digit::as_digit;
+use digit::composite::Sums;
+use digit::composite::digit_by;
+use digit::thirds::Thirds;
 use refusal::Cause;
 use refusal::Verdict;
 use zone::alphabet::FILLER;
@@ -32,36 +37,24 @@ fn judged_digit(text: &[u8], place: usize, digit: u8) -> Verdict
     Verdict::judged(there == digit, Cause::Digit(expected), place)
 }
 
-// Whether a place holds the check digit of a field.
-fn field_digit(text: &[u8], place: usize, at: usize, width: usize) -> Verdict
-    ensures { λ r. ⌜ outcomeOf r ≡ digitAt (now (text .entry)) place (take width (drop at (now (text .entry)))) ⌝ }
+// Whether a place holds the check digit of a field that was gone over.
+fn field_digit(text: &[u8], place: usize, field: Thirds) -> Verdict
+    ensures { λ r. ⌜ ((s : List ℕ) → field ≡ thirdsOf s → outcomeOf r ≡ digitAt (now (text .entry)) place s) ⌝ }
 {
-    judged_digit(text, place, digit::of(lent::part(text, at, width)))
+    judged_digit(text, place, as_digit(field.weighed(0)))
 }
 
-fn number_digit(form: Form, text: &[u8], span: Span) -> Verdict
+fn number_digit(form: Form, text: &[u8], span: Span, sums: Sums) -> Verdict
+    requires { ⌜ sums ≡ sumsOf form (now text) ⌝ }
     ensures { λ r. ⌜ outcomeOf r ≡ digitCheck form (now (text .entry)) span numberCheck ⌝ }
 {
     let at = form.places();
+    let number = sums.number;
     match span {
-        Span::Short => field_digit(text, at.number_check, at.number, Form::NINE),
+        Span::Short => field_digit(text, at.number_check, number),
         Span::Long(_) => Verdict::Passed,
         Span::Bad => Verdict::Passed,
     }
-}
-
-fn birth_digit(form: Form, text: &[u8]) -> Verdict
-    ensures { λ r. ⌜ ((span : Span) → outcomeOf r ≡ digitCheck form (now (text .entry)) span birthCheck) ⌝ }
-{
-    let at = form.places();
-    field_digit(text, at.birth_check, at.birth, Form::DATE)
-}
-
-fn expiry_digit(form: Form, text: &[u8]) -> Verdict
-    ensures { λ r. ⌜ ((span : Span) → outcomeOf r ≡ digitCheck form (now (text .entry)) span expiryCheck) ⌝ }
-{
-    let at = form.places();
-    field_digit(text, at.expiry_check, at.expiry, Form::DATE)
 }
 
 // A filler may stand for the digit of a personal number that is all fillers.
@@ -87,46 +80,54 @@ fn personal_digit(form: Form, text: &[u8]) -> Verdict
         if is_left_out(number, lent::octet(text, at.personal_check)) {
             Verdict::Passed
         } else {
-            field_digit(text, at.personal_check, at.personal, wide)
+            field_digit(
+                text,
+                at.personal_check,
+                Thirds::of(text, at.personal, wide as u8),
+            )
         }
     } else {
         Verdict::Passed
     }
 }
 
-fn composite_digit(form: Form, text: &[u8]) -> Verdict
+fn composite_digit(form: Form, text: &[u8], sums: Sums) -> Verdict
+    requires { ⌜ sums ≡ sumsOf form (now text) ⌝ }
     ensures { λ r. ⌜ ((span : Span) → outcomeOf r ≡ digitCheck form (now (text .entry)) span composite) ⌝ }
 {
     let at = form.places();
-    judged_digit(text, at.composite, covered_digit(form, text))
+    judged_digit(text, at.composite, digit_by(form, text, sums))
 }
 
 // The check runs over the nine and the further characters, as if they stood together.
-fn long_sum(form: Form, text: &[u8], further: usize) -> u8
+fn long_sum(form: Form, text: &[u8], further: u8, sums: Sums) -> u8
+    requires { ⌜ sums ≡ sumsOf form (now text) ⌝ }
     ensures { λ r. ⌜ r ≡ digitOf (checkedBy form (now (text .entry)) (Long further)) ⌝ }
 {
     let at = form.places();
-    let nine = Tally::new().over(lent::part(text, at.number, Form::NINE));
+    let number = sums.number;
     let optional = lent::part(text, at.optional, form.optional_width());
-    nine.over(lent::part(optional, 0, further)).digit()
+    as_digit(number.weighed(0) + Thirds::of(optional, 0, further).weighed(Form::NINE))
 }
 
-fn long_digit(form: Form, text: &[u8], further: u8) -> Verdict
+fn long_digit(form: Form, text: &[u8], further: u8, sums: Sums) -> Verdict
+    requires { ⌜ sums ≡ sumsOf form (now text) ⌝ }
     ensures { λ r. ⌜ outcomeOf r ≡ digitCheck form (now (text .entry)) (Long further) optional ⌝ }
 {
     let at = form.places();
     let n = further as usize;
-    judged_digit(text, at.optional + n, long_sum(form, text, n))
+    judged_digit(text, at.optional + n, long_sum(form, text, further, sums))
 }
 
 // A long number's digit stands behind its further characters, in forms that have room for them.
-fn further_digit(form: Form, text: &[u8], span: Span) -> Verdict
+fn further_digit(form: Form, text: &[u8], span: Span, sums: Sums) -> Verdict
+    requires { ⌜ sums ≡ sumsOf form (now text) ⌝ }
     ensures { λ r. ⌜ outcomeOf r ≡ ifHas form optional (digitCheck form (now (text .entry)) span optional) ⌝ }
 {
     if 0 < form.optional_width() {
         match span {
             Span::Short => Verdict::Passed,
-            Span::Long(further) => long_digit(form, text, further),
+            Span::Long(further) => long_digit(form, text, further, sums),
             Span::Bad => Verdict::Passed,
         }
     } else {
@@ -135,11 +136,15 @@ fn further_digit(form: Form, text: &[u8], span: Span) -> Verdict
 }
 
 // Birth and expiry stand in this order in every form.
-fn dates_digit(form: Form, text: &[u8]) -> Verdict
+fn dates_digit(form: Form, text: &[u8], sums: Sums) -> Verdict
+    requires { ⌜ sums ≡ sumsOf form (now text) ⌝ }
     ensures { λ r. ⌜ ((span : Span) → outcomeOf r ≡
         orElse (digitCheck form (now (text .entry)) span birthCheck) (digitCheck form (now (text .entry)) span expiryCheck)) ⌝ }
 {
-    birth_digit(form, text).or_else(expiry_digit(form, text))
+    let at = form.places();
+    let birth = sums.birth;
+    let expiry = sums.expiry;
+    field_digit(text, at.birth_check, birth).or_else(field_digit(text, at.expiry_check, expiry))
 }
 
 // The first check digit, in text order, that is wrong. Forms differ in where the optional field stands.
@@ -147,9 +152,10 @@ pub fn digits(form: Form, text: &[u8], span: Span) -> Verdict
     ensures { λ r. ⌜ outcomeOf r ≡ inOrder (digitCheck form (now (text .entry)) span) (parts form) ⌝ }
 {
     let at = form.places();
-    let number = number_digit(form, text, span);
-    let further = further_digit(form, text, span);
-    let dates = dates_digit(form, text);
-    let last = personal_digit(form, text).or_else(composite_digit(form, text));
+    let sums = Sums::of(form, text);
+    let number = number_digit(form, text, span, sums);
+    let further = further_digit(form, text, span, sums);
+    let dates = dates_digit(form, text, sums);
+    let last = personal_digit(form, text).or_else(composite_digit(form, text, sums));
     number.or_else(in_turn(at.optional < at.birth, further, dates).or_else(last))
 }

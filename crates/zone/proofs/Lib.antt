@@ -5,7 +5,6 @@ pub mod Every  -- `every`: the steps of a loop over all characters, and lists jo
 pub mod First  -- `first`: the steps of a search, and where it finds none
 pub mod Parts  -- the parts of a text: each has its own rank, and no two overlap
 pub mod Widths  -- the widths that every form shares, and that every part lies within the text
-pub mod Covers  -- what the composite covers, as four pieces
 pub mod Padded  -- `padded`: copies over fillers, and trailing fillers that make no difference
 pub mod Trimmed  -- `trimmedLength`: one character more, its bound, and lists joined and cut
 pub mod Fields  -- the characters of a text found in its fields

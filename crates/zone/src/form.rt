@@ -3,7 +3,6 @@
 ghost use mathlib.Core.Path.{_≡_};
 ghost use Rattle.zone.specs.Form.{formOf, width, longest, total};
 ghost use Rattle.zone.specs.Inner.Places.{placesOf};
-ghost use Rattle.zone.specs.Inner.Pieces.{coveredOf};
 ghost use Rattle.zone.specs.Part.{name, optional, personal};
 
 pub enum Form {
@@ -40,15 +39,7 @@ pub struct Places {
 // A run of characters of a text.
 pub struct Piece {
     pub start: usize,
-    pub width: usize,
-}
-
-// What the composite digit covers, joined in this order. The last is empty in forms that have three.
-pub struct Covered {
-    pub first: Piece,
-    pub second: Piece,
-    pub third: Piece,
-    pub fourth: Piece,
+    pub width: u8,
 }
 
 impl Form {
@@ -89,6 +80,28 @@ impl Form {
     pub const TD2_OPTIONAL: usize = 7;
 
     pub const TD3_PERSONAL: usize = 14;
+
+    // What the composite digit covers beside the number, the dates and their digits: optional fields, or the personal number with
+    // its digit.
+    pub const TD1_BESIDE: Piece = Piece {
+        start: 15,
+        width: 15,
+    };
+
+    pub const TD1_BESIDE_TOO: Piece = Piece {
+        start: 48,
+        width: 11,
+    };
+
+    pub const TD2_BESIDE: Piece = Piece {
+        start: 64,
+        width: 7,
+    };
+
+    pub const TD3_BESIDE: Piece = Piece {
+        start: 72,
+        width: 15,
+    };
 
     // The room that a record has: the most of any form.
     pub const NUMBER: usize = 22;
@@ -168,16 +181,6 @@ impl Form {
             Form::Td3 => td3_places(),
         }
     }
-
-    pub fn covered(self) -> Covered
-        ensures { λ r. ⌜ r ≡ coveredOf self ⌝ }
-    {
-        match self {
-            Form::Td1 => td1_covered(),
-            Form::Td2 => td2_covered(),
-            Form::Td3 => td3_covered(),
-        }
-    }
 }
 
 // The rows.
@@ -244,68 +247,5 @@ fn td3_places() -> Places
         personal_check: 86,
         composite: 87,
         optional: Form::TD3_TEXT,
-    }
-}
-
-fn td1_covered() -> Covered
-    ensures { λ r. ⌜ r ≡ coveredOf Form.Td1 ⌝ }
-{
-    Covered {
-        first: Piece {
-            start: 5,
-            width: 25,
-        },
-        second: Piece {
-            start: 30,
-            width: 7,
-        },
-        third: Piece {
-            start: 38,
-            width: 7,
-        },
-        fourth: Piece {
-            start: 48,
-            width: 11,
-        },
-    }
-}
-
-fn td2_covered() -> Covered
-    ensures { λ r. ⌜ r ≡ coveredOf Form.Td2 ⌝ }
-{
-    Covered {
-        first: Piece {
-            start: 36,
-            width: 10,
-        },
-        second: Piece {
-            start: 49,
-            width: 7,
-        },
-        third: Piece {
-            start: 57,
-            width: 14,
-        },
-        fourth: Piece { start: 0, width: 0 },
-    }
-}
-
-fn td3_covered() -> Covered
-    ensures { λ r. ⌜ r ≡ coveredOf Form.Td3 ⌝ }
-{
-    Covered {
-        first: Piece {
-            start: 44,
-            width: 10,
-        },
-        second: Piece {
-            start: 57,
-            width: 7,
-        },
-        third: Piece {
-            start: 65,
-            width: 22,
-        },
-        fourth: Piece { start: 0, width: 0 },
     }
 }

@@ -7,10 +7,19 @@ use Rattle.text_digits.proofs.Written.{written-digit}
 use Rattle.text_digits.proofs.digits.composite_digit.Statement.{statement}
 use Rattle.text_digits.proofs.digits.composite_digit.Tie as tie
 
+judged-digit-requires : tie.Need-judged-digit-requires
+judged-digit-requires c κs = rw (c .digit-by .ensures (c .before .before .before .pre)) (digit-digit _)
+
 returns : tie.Need-returns
 unfolding digitCheck placesOf
 returns c =
-    λ span. rw (c .judged-digit .ensures, c .before .covered-digit .ensures, c .before .before .places .ensures, written-digit)
+    λ span.
+    rw (
+      c .judged-digit .ensures,
+      c .before .digit-by .ensures (c .before .before .before .before .pre),
+      c .before .before .places .ensures,
+      written-digit,
+    )
 
 pub composite-digit-spec : {M : Type 1} → statement M
 composite-digit-spec =
@@ -18,5 +27,5 @@ composite-digit-spec =
     (tie.spec
     (λ c κs. search needs)
     (λ c κs. search needs)
-    (λ c κs. rw (c .covered-digit .ensures) (digit-digit _))
+    judged-digit-requires
     returns)

@@ -9,7 +9,7 @@ use Rattle.text_digits.proofs.digits.digits.Tie as tie
 returns : tie.Need-returns
 unfolding placesOf
 returns c =
-    let a = c .before .before .before .before .before .before .before .before .before .before .before .before .args in
+    let a = c .before .before .before .before .before .before .before .before .before .before .before .before .before .args in
     let s = a .span in
     rw (
       c .or-else3 .ensures,
@@ -21,7 +21,7 @@ returns c =
       c .before .before .before .before .before .before .before .dates-digit .ensures s,
       c .before .before .before .before .before .before .before .before .further-digit .ensures,
       c .before .before .before .before .before .before .before .before .before .number-digit .ensures,
-      c .before .before .before .before .before .before .before .before .before .before .places .ensures,
+      c .before .before .before .before .before .before .before .before .before .before .before .places .ensures,
     )
     (digits-in-order (a .form) (now (a .text)) s)
 
@@ -29,6 +29,7 @@ pub digits-spec : {M : Type 1} → statement M
 digits-spec =
     tie.close
     (tie.spec
+    (λ c κs. search needs)
     (λ c κs. search needs)
     (λ c κs. search needs)
     (λ c κs. search needs)

@@ -1,21 +1,26 @@
 -- The cases of `numberDigit`.
+use mathlib.Core.Path.{ap}
 use borrow.Author.Needs.{needs}
-use Rattle.zone.proofs.Widths.{fixed}
+use denote.Ref.{now}
+use Rattle.zone.specs.Part.{number}
 use Rattle.zone.specs.Form.{field}
 use Rattle.zone.specs.Inner.Places.{placesOf}
+use Rattle.digit.specs.Inner.Covered.{sumsOf}
+use Rattle.digit.specs.declared.composite.Sums.{Sums}
 use Rattle.text_digits.specs.Number.{checkedBy}
 use Rattle.text_digits.specs.Digits.{numberDigit, digitCheck}
 use Rattle.text_digits.proofs.digits.number_digit.Statement.{statement}
 use Rattle.text_digits.proofs.digits.number_digit.Tie as tie
 
 returns : tie.Need-returns
-unfolding digitCheck numberDigit checkedBy placesOf field
+unfolding digitCheck numberDigit checkedBy placesOf sumsOf
 returns c =
+    let start = c .before .before .before .before .before .before in
+    let gone = ap (λ (s : Sums). s .number) (start .pre) in
     rw (
-      c .field-digit .ensures,
+      c .field-digit .ensures (field (start .args .form) number (now (start .args .text))) gone,
       c .before .enum-told .given .1,
-      c .before .before .before .places .ensures,
-      fixed (c .before .before .before .before .before .args .form) .number-width,
+      c .before .before .before .before .places .ensures,
     )
 
 pub number-digit-spec : {M : Type 1} → statement M

@@ -1,0 +1,51 @@
+// A field gone over once: its check digit and its part in the composite digit are the same counts with other weights.
+ghost use mathlib.Core.Path.{_≡_};
+ghost use Prim.Native.Nat.{_<_, _^_};
+ghost use lib.ListN.{take, drop};
+ghost use Rattle.digit.specs.Inner.Thirds.{thirdsOf, weighed};
+use crate::value;
+use crate::weight;
+
+// What the characters at every third place count together, from each of the first three places on.
+pub struct Thirds {
+    pub first: u32,
+    pub second: u32,
+    pub third: u32,
+}
+
+impl Thirds {
+    // Of so many characters from a place on.
+    pub fn of(s: &[u8], at: usize, width: u8) -> Thirds
+        ensures { λ r. ⌜ r ≡ thirdsOf (take width (drop at (now (s .entry)))) ⌝ }
+    {
+        let part = lent::part(s, at, width as usize);
+        let mut first = 0;
+        let mut second = 0;
+        let mut third = 0;
+        let mut i = 0;
+        while i + 2 < part.len() {
+            first += value(part[i]);
+            second += value(part[i + 1]);
+            third += value(part[i + 2]);
+            i += 3;
+        }
+        first += value(lent::octet(part, i));
+        second += value(lent::octet(part, i + 1));
+        Thirds {
+            first: first as u32,
+            second: second as u32,
+            third: third as u32,
+        }
+    }
+
+    // Their sum, with weights that start at a place.
+    pub fn weighed(self, place: usize) -> usize
+        ensures { λ r. ⌜ (r ≡ weighed self place) × (r < 2 ^ 37) ⌝ }
+    {
+        let turn = place % 3;
+        let first = (self.first as usize) * weight(turn);
+        let second = (self.second as usize) * weight(turn + 1);
+        let third = (self.third as usize) * weight(turn + 2);
+        first + second + third
+    }
+}
