@@ -4,13 +4,13 @@ use mathlib.Core.Bool.{Bool, true, false, cond}
 use mathlib.Core.List.{List, [], _∷_, _++_}
 use Prim.Native.Nat.{ℕ, zero, suc, _+_, _-_, _*_, _/_, _%_, _^_, _≤_, _<_}
 use native.Mathlib.Nat.{zero-add, suc-add, add-comm, pow-suc, mul-comm, add-mul, mul-assoc, mul-add-div-right}
-use native.Mathlib.Nat.{mul-add-mod-self-right, div-add-mod', mod-eq-of-lt}
+use native.Mathlib.Nat.{mul-add-mod-self-right, div-add-mod'}
 use native.Mathlib.Omega.{arith}
-use native.Mathlib.Numerals.{add-one, one-add}
+use native.Mathlib.Numerals.{one-add}
 use borrow.Author.Tests.{eq-eqb, ne-eqb, eqb-true, eqb-false}
 use lib.Dec.{eqb, eqb·suc-zero}
-use lib.ListN.{length, take, getD}
-use lib.Seq.{length-take-le, take-suc}
+use lib.ListN.{length, take}
+use lib.Seq.{length-take-le}
 use lib.Pow.{pow-pos, pow-add, mod-pow-add, shr-shr, shr-mod}
 use Rattle.zone.specs.declared.record.Record.{Record}
 use Rattle.entry.specs.Bits.{put, gathered, octets}
@@ -47,12 +47,6 @@ pub puts-append : (a b t : List ℕ) → puts (a ++ b) t ≡ puts a (puts b t)
 unfolding puts
 puts-append [] b t = refl
 puts-append (c ∷ a) b t = ap (put 6 (codeOf c)) (puts-append a b t)
-
--- one more character
-pub puts-more : (s : List ℕ) (i : ℕ) → i < length s → (t : List ℕ)
-    → puts (take i s) (put 6 (codeOf (getD s i 0)) t) ≡ puts (take (i + 1) s) t
-unfolding puts
-puts-more s i h t = rw (add-one, take-suc s i 0 h, puts-append (take i s) (getD s i 0 ∷ []) t)
 
 -- ---- gathered by eights
 
@@ -100,10 +94,6 @@ gathered-eight (suc (suc w)) n v x t l h =
     ∙ ap (λ (y : ℕ). y ∷ gathered 0 0 t) (bit-more (suc w) v x)
 
 -- ---- a number behind what is at hand
-
-pub gathered-within : (n v w x : ℕ) (t : List ℕ) → n + w < 8 → x < 2 ^ w
-    → gathered n v (put w x t) ≡ gathered (n + w) (v * 2 ^ w + x) t
-gathered-within n v w x t h l = gathered-few w n v x t h ∙ ap (λ (y : ℕ). gathered (n + w) (v * 2 ^ w + y) t) (mod-eq-of-lt l)
 
 over : (n v j k x : ℕ) (t : List ℕ) → n < 8 → n + j ≡ 8 → k < 8 → x < 2 ^ (j + k)
     → gathered n v (put (j + k) x t)

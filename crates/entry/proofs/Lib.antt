@@ -1,6 +1,7 @@
 -- The laws of this crate.
 pub mod Gather  -- `put` and `gathered`: numbers written in bits, one after the other, by eights; the octets of an entry
-pub mod Ink  -- `Wrote`: one writing with a pen after another, a push, and the last octet
+pub mod Placing  -- the units of an entry, from the fields of a record
+pub mod Packing  -- `packed`: units of six bits, and the octets that they are
 pub mod Fits  -- what may be entered fits the bits that it has
 pub mod Shifts  -- `bitsAt`: up to sixteen bits are a field of two octets
 pub mod Fields  -- `charactersAt`, and how far a whole entry reaches
@@ -9,6 +10,8 @@ pub mod FormsAndSexes  -- the codes of forms and sexes tell them
 pub mod BitsOfOctets  -- a range of octets as its bits
 pub mod OctetsOfBits  -- bits gathered by eights
 pub mod FieldBits  -- numbers and characters in bits, put and read
+pub mod UnitBits  -- units of six bits as bits
 pub mod EntryBits  -- the bits of an entry
+pub mod EntryUnits  -- the units of an entry are its bits
 -- what was read is entered exactly when it passed, house and record are sound and there is room (`entered`, `entered-only`)
 pub mod Entered

@@ -3,7 +3,7 @@ mod bits;
 mod characters;
 pub mod codes;
 pub mod enter;
-mod pen;
 mod places;
 pub mod run;
+mod units;
 pub mod write;

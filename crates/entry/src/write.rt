@@ -1,77 +1,71 @@
-// Writing the entry of a record under a house: its bits in their order, into a range that is lent.
+// Writing the entry of a record under a house, in units of six bits.
 ghost use mathlib.Core.Path.{_≡_};
+ghost use mathlib.Core.Bool.{true};
+ghost use mathlib.Core.List.{_++_};
 ghost use Prim.Native.Nat.{_≤_};
-ghost use lib.Seq.{sets};
-ghost use Rattle.zone.specs.Rooms.{nameRoom};
-ghost use Rattle.entry.specs.Parts as part;
-ghost use Rattle.entry.specs.Parts.{width};
-ghost use Rattle.entry.specs.Bits.{put};
-ghost use Rattle.entry.specs.Codes.{formCode};
-ghost use Rattle.entry.specs.Entry.{putKey, putRest, entryOf, Writes};
-ghost use Rattle.entry.specs.Inner.Ink.{Ready, Wrote};
+ghost use lib.ListN.{length, drop};
+ghost use Rattle.sound.specs.Sound.{isSound};
+ghost use Rattle.entry.specs.Entry.{entryOf, size, Writes};
+ghost use Rattle.entry.specs.Inner.Units.{placed, unitsOf};
 use crate::codes;
-use crate::pen;
-use crate::pen::Pen;
 use crate::places;
 use crate::run::is_house;
 use crate::run::size;
+use crate::units::pack;
+use crate::units::to_codes;
 use refusal::Refusal;
 use refusal::Written;
-use zone::form::Form;
+use zone::alphabet::FILLER;
 use zone::record::Record;
 
-// House and form: fifteen bits as seven and eight, and three.
-fn write_house(out: &mut [u8], start: Pen, house: u32, form: Form) -> Pen
-    requires { ⌜ Ready start × (house ≤ 32767) ⌝ }
-    ensures { λ r. ⌜ Wrote (now (out .entry)) (now (out .exit)) start r
-        (λ t. put (width part.house) house (put (width part.form) (formCode form) t)) ⌝ }
+// The characters of a record, each at its unit, and fillers where numbers go.
+fn characters_of(r: Record) -> [u8; places::UNITS]
+    ensures { λ s. ⌜ s ≡ placed r ⌝ }
 {
-    let code = codes::form_code(form) as u32;
-    let high = pen::push(out, start, 7, house >> 8);
-    let low = pen::push(out, high, 8, house & 255);
-    pen::push(out, low, places::FORM_BITS as u32, code)
+    let mut units = [FILLER; places::UNITS];
+    lent::copy_at(&mut units, places::STATE_UNIT, &r.state);
+    lent::copy_at(&mut units, places::NUMBER_UNIT, &r.number);
+    lent::copy_at(&mut units, places::BIRTH_UNIT, &r.birth);
+    lent::copy_at(&mut units, places::EXPIRY_UNIT, &r.expiry);
+    lent::copy_at(&mut units, places::CODE_UNIT, &r.code);
+    lent::copy_at(&mut units, places::NATIONALITY_UNIT, &r.nationality);
+    lent::copy_at(&mut units, places::NAME_UNIT, &r.name);
+    units
 }
 
-// Thirty octets, the key.
-fn write_key(out: &mut [u8], start: Pen, house: u32, r: Record) -> Pen
-    requires { ⌜ Ready start × (house ≤ 32767) ⌝ }
-    ensures { λ p. ⌜ Wrote (now (out .entry)) (now (out .exit)) start p (putKey house r) ⌝ }
+// Their codes, and the numbers: house and form in three units, the sex in the first bits of one, the length of the name.
+fn units_of(house: u32, r: Record) -> [u8; places::UNITS]
+    requires { ⌜ (house ≤ 32767) × (isSound r ≡ true) ⌝ }
+    ensures { λ s. ⌜ s ≡ unitsOf house r ⌝ }
 {
     let form = r.form;
-    let opened = write_house(out, start, house, form);
-    let state = pen::push_all(out, opened, &r.state);
-    let number = pen::push_all(out, state, &r.number);
-    let birth = pen::push_all(out, number, &r.birth);
-    pen::push_all(out, birth, &r.expiry)
+    let head = house * 8 + (codes::form_code(form) as u32);
+    let sex = codes::sex_code(r.sex);
+    let mut units = characters_of(r);
+    to_codes(&mut units);
+    units[0] = (head / 4096) as u8;
+    units[1] = (head / 64 % 64) as u8;
+    units[2] = (head % 64) as u8;
+    units[places::SEX_UNIT] = sex * 16;
+    units[places::NAME_LENGTH_UNIT] = r.name_len as u8;
+    units
 }
 
-// What follows the key, down to the name.
-fn write_rest(out: &mut [u8], start: Pen, r: Record) -> Pen
-    requires { ⌜ Ready start × (r .«name_len» ≤ nameRoom) ⌝ }
-    ensures { λ p. ⌜ Wrote (now (out .entry)) (now (out .exit)) start p (putRest r) ⌝ }
+// The octets of an entry, into a range that has room for them.
+fn write_octets(house: u32, r: Record, out: &mut [u8])
+    requires { ⌜ (house ≤ 32767) × (isSound r ≡ true) × (size (r .«name_len») ≤ length (now out)) ⌝ }
+    ensures { λ _. ⌜ now (out .exit) ≡ entryOf house r ++ drop (size (r .«name_len»)) (now (out .entry)) ⌝ }
 {
-    let n = r.name_len;
-    let sex = codes::sex_code(r.sex) as u32;
-    let code = pen::push_all(out, start, &r.code);
-    let nationality = pen::push_all(out, code, &r.nationality);
-    let holder = pen::push(out, nationality, places::SEX_BITS as u32, sex);
-    let length = pen::push(out, holder, places::NAME_LENGTH_BITS as u32, n as u32);
-    pen::push_all(out, length, lent::part(&r.name, 0, n))
-}
-
-// All the bits of an entry, for as long as there is room.
-fn write_bits(house: u32, r: Record, out: &mut [u8])
-    requires { ⌜ (house ≤ 32767) × (r .«name_len» ≤ nameRoom) ⌝ }
-    ensures { λ _. ⌜ now (out .exit) ≡ sets (now (out .entry)) 0 (entryOf house r) ⌝ }
-{
-    let start = Pen {
-        place: 0,
-        held: 0,
-        count: 0,
-    };
-    let key = write_key(out, start, house, r);
-    let all = write_rest(out, key, r);
-    pen::finish(out, all);
+    let units = units_of(house, r);
+    let mut octets = [0; places::OCTETS];
+    pack(&mut octets, &units);
+    lent::copy(out, lent::part(&octets, 0, places::OPENING));
+    let name = size(r.name_len) - places::OPENING;
+    lent::copy_at(
+        out,
+        places::OPENING,
+        lent::part(&octets, places::SPREAD, name),
+    );
 }
 
 // The entry of a record: 17 for a house or a record that is not sound, then 16 for an output that is too short.
@@ -81,7 +75,7 @@ pub fn write(house: u32, r: Record, out: &mut [u8]) -> Written
     if is_house(house) & sound::is_sound(r) {
         let octets = size(r.name_len);
         if octets <= out.len() {
-            write_bits(house, r, out);
+            write_octets(house, r, out);
             Written::Octets(octets)
         } else {
             Written::Refused(Refusal::TOO_SHORT)

@@ -1,12 +1,10 @@
--- What may be entered fits (`kept-fits`), and its entry has the size that was tested (`length-entry`).
-use mathlib.Core.Path.{_∙_}
-use denote.Ref.{now}
+-- What may be entered fits (`kept-fits`), and its entry has the size that was tested.
 use borrow.Author.Tests.{le-leb, lt-leb}
 use borrow.Author.Needs.{needs}
-use Rattle.entry.specs.Entry.{entryOf, size, entryAnswer, entryOut}
+use Rattle.lent.proofs.Bools.{and-both}
+use Rattle.sound.specs.Sound.{isSound}
+use Rattle.entry.specs.Entry.{isHouse, entryAnswer, entryOut}
 use Rattle.entry.proofs.Fits.{kept-fits}
-use Rattle.entry.proofs.Gather.{length-entry}
-use Rattle.entry.proofs.Ink.{sets-front}
 use Rattle.entry.proofs.write.write.Statement.{statement}
 use Rattle.entry.proofs.write.write.Tie as tie
 
@@ -17,35 +15,25 @@ size-requires c κs =
     let fits = kept-fits (a .house) (a .r) kept in
     search needs
 
-write-bits-requires : tie.Need-write-bits-requires
-write-bits-requires c κs =
-    let early = c .before .before .before in
+write-octets-requires : tie.Need-write-octets-requires
+write-octets-requires c κs =
+    let sized = c .before .before in
+    let early = sized .before in
     let a = early .before .before .before .before .args in
-    kept-fits (a .house) (a .r) (rw (early .before .is-sound .ensures, early .before .before .is-house .ensures) at
-    (early .if1 .taken))
+    let kept = rw (early .before .is-sound .ensures, early .before .before .is-house .ensures) at (early .if1 .taken) in (
+      kept-fits (a .house) (a .r) kept .0,
+      and-both (isHouse (a .house)) (isSound (a .r)) kept .1,
+      rw (sized .size .ensures .0) at (c .before .if2 .taken),
+    )
 
 returns : tie.Need-returns
 unfolding entryAnswer entryOut
 returns c =
-    let a = c .before .before .before .before .before .before .before .before .before .before .args in
+    let early = c .before .before .before .before .before .before in
     let s = c .before .before .before .before .before .size .ensures .0 in
-    let kept = rw (
-      c .before .before .before .before .before .before .before .is-sound .ensures,
-      c .before .before .before .before .before .before .before .before .is-house .ensures,
-    )
-    at (c .before .before .before .before .before .before .if1 .taken) in
-    let room = rw s at (c .before .before .before .before .if2 .taken) in
-    let h = le-leb _ _ room in
-    let n =
-    length-entry (a .house) (a .r) (search needs) (search needs) (search needs) (search needs) (search needs) (search needs)
-    (search needs) (kept-fits (a .house) (a .r) kept .1) in
-    record {
-      answer = rw (kept, h, s);
-      output =
-          rw (kept, h)
-          (c .before .before .write-bits .ensures
-          ∙ sets-front (now (a .out)) (entryOf (a .house) (a .r)) (size (a .r .«name_len»)) n room);
-    }
+    let kept = rw (early .before .is-sound .ensures, early .before .before .is-house .ensures) at (early .if1 .taken) in
+    let h = le-leb _ _ (rw s at (c .before .before .before .before .if2 .taken)) in
+    record { answer = rw (kept, h, s); output = rw (kept, h) (c .before .before .write-octets .ensures) }
 
 returns-2 : tie.Need-returns-2
 unfolding entryAnswer entryOut
@@ -68,7 +56,7 @@ write-spec =
     (λ c κs. search needs)
     (λ c κs. search needs)
     size-requires
-    write-bits-requires
+    write-octets-requires
     (λ c. search needs)
     returns
     returns-2
