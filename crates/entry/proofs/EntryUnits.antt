@@ -6,7 +6,6 @@ use mathlib.Core.Bool.{true}
 use mathlib.Core.List.{List, [], _∷_, _++_, map, append-assoc, append-nil}
 use native.Mathlib.Omega.{arith}
 use borrow.Author.Tests.{lt-ltb}
-use lib.Dec.{ltb}
 use lib.ListN.{length, take, drop, replicate, length-append, length-map, length-drop, length-replicate}
 use lib.ListN.{replicate-append-replicate}
 use lib.Seq.{take-at, drop-at, take-all, drop-drop, drop-append-add, length-take-le}
@@ -18,7 +17,7 @@ use Rattle.zone.specs.declared.record.Record.{Record}
 use Rattle.zone.proofs.Every.{every-append, every-replicate}
 use Rattle.zone.proofs.Padded.{padded-trimmed, padded-exact, padded-spare}
 use Rattle.sound.proofs.SoundRecord.{Sound}
-use Rattle.entry.specs.Bits.{put, gathered, octets}
+use Rattle.entry.specs.Bits.{put, octets}
 use Rattle.entry.specs.Codes.{formCode, sexCode}
 use Rattle.entry.specs.Entry.{puts, putKey, putRest, entryOf, size}
 use Rattle.entry.specs.Inner.Units.{packed, before, front, unitsOf}

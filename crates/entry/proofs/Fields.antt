@@ -6,14 +6,12 @@ use mathlib.Core.List.{List, _++_}
 use mathlib.Core.Logic.{_⊎_}
 use native.Mathlib.Numerals.{unary-clauses}
 use native.Mathlib.Omega.{arith}
-use borrow.Author.Tests.{leb-true}
+use borrow.Author.Tests.{leb-true, eqb-true}
 use lib.Dec.{leb, eqb}
-use lib.ListN.{length, take, drop, getD, set, replicate}
-use Rattle.zone.specs.Alphabet.{filler}
+use lib.ListN.{length, take, drop, getD, set}
 use Rattle.lent.specs.Copied.{copied}
 use Rattle.lent.proofs.Bools.{and-both}
 use Rattle.lent.proofs.Lists.{copy-more, copy-ends}
-use Rattle.zone.proofs.Padded.{copied-padded, padded-exact}
 use Rattle.entry.specs.Bits.{bitsAt}
 use Rattle.zone.specs.Codes.{characterOf}
 use Rattle.entry.specs.Parts.{allBits}
@@ -48,15 +46,11 @@ unpack-ends to s k n i ht hn e =
     let f : (length (charactersAt s k n) ≤ i) ⊎ (length to ≤ i) = rw (length-characters s k n) e in
     copy-ends to (charactersAt s k n) i ht h f
 
--- characters over as many fillers
-pub characters-fill : (s : List ℕ) (k n : ℕ) → copied (replicate n filler) (charactersAt s k n) ≡ charactersAt s k n
-characters-fill s k n = copied-padded n (charactersAt s k n) ∙ padded-exact n (charactersAt s k n) (length-characters s k n)
-
--- an entry that is whole has all the bits of its name
-pub whole-reaches : (s : List ℕ) → isWhole s ≡ true → allBits (nameLength s) ≤ 8 * length s
-unfolding isWhole size
-whole-reaches s e =
+-- an entry that is whole has all its octets, and its spare bits are zero
+pub whole-told : (s : List ℕ) → isWhole s ≡ true
+    → (size (nameLength s) ≤ length s) × (bitsAt s (allBits (nameLength s)) (spare (nameLength s)) ≡ 0)
+unfolding isWhole
+whole-told s e =
     let n = nameLength s in
-    let h : size n ≤ length s = leb-true (size n) (length s)
-    (and-both (leb (size n) (length s)) (eqb (bitsAt s (allBits n) (spare n)) 0) e .0) in
-    omega arith
+    let both = and-both (leb (size n) (length s)) (eqb (bitsAt s (allBits n) (spare n)) 0) e in
+    (leb-true (size n) (length s) (both .0), eqb-true (bitsAt s (allBits n) (spare n)) 0 (both .1))

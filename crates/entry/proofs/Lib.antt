@@ -5,6 +5,8 @@ pub mod Packing  -- `packed`: units of six bits, and the octets that they are
 pub mod Fits  -- what may be entered fits the bits that it has
 pub mod Shifts  -- `bitsAt`: up to sixteen bits are a field of two octets
 pub mod Fields  -- `charactersAt`, and how far a whole entry reaches
+pub mod Unpacking  -- three octets read as four characters
+pub mod Spreading  -- an entry spread out to whole units
 pub mod Lengths  -- the lengths of a record that is read fit an octet
 pub mod FormsAndSexes  -- the codes of forms and sexes tell them
 pub mod BitsOfOctets  -- a range of octets as its bits

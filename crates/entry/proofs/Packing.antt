@@ -1,6 +1,6 @@
 -- Laws on units of six bits: `packed`, the steps of the loop that packs them, and the bits that they are.
 use Prim.Native.Nat.{ℕ, zero, suc, _+_, _-_, _*_, _/_, _%_, _≤_, _<_}
-use mathlib.Core.Path.{_≡_, refl, ap, sym}
+use mathlib.Core.Path.{_≡_, refl, sym}
 use mathlib.Core.List.{List, [], _∷_, _++_, map, append-nil}
 use mathlib.Core.Logic.{inl}
 use native.Mathlib.Numerals.{add-one}

@@ -85,20 +85,6 @@ bits-read s at w x y h p q b =
     let o : getD s (at / 8 + 1) 0 < 256 = rw q at b in
     rw (p, q, power-kept w l) (sym (bits-of-pair s (at / 8) (at % 8) w m k o) ∙ ap (λ (n : ℕ). bitsAt s n w) e)
 
--- six bits, from the octet that they end in and the one before it
-pub six-read : (s : List ℕ) (at x y : ℕ) → 3 ≤ at → x ≡ getD s ((at + 5) / 8 - 1) 0 → y ≡ getD s ((at + 5) / 8) 0 → y < 256
-    → (x * 256 + y) / 2 ^ (7 - (at + 5) % 8) % 2 ^ 6 ≡ bitsAt s at 6
-unfolding pair
-six-read s at x y h p q b =
-    let j = (at + 5) / 8 - 1 in
-    let m = 7 - (at + 5) % 8 in
-    let n : j + 1 ≡ (at + 5) / 8 = omega arith in
-    let e : 8 * j + (at - 8 * j) ≡ at = omega arith in
-    let k : at - 8 * j + 6 + m ≡ 16 = omega arith in
-    let z : y ≡ getD s (j + 1) 0 = q ∙ ap (λ (i : ℕ). getD s i 0) (sym n) in
-    let o : getD s (j + 1) 0 < 256 = rw z at b in
-    rw (p, z) (sym (bits-of-pair s j (at - 8 * j) 6 m k o) ∙ ap (λ (i : ℕ). bitsAt s i 6) e)
-
 -- w bits say no more than that
 pub bits-below : (s : List ℕ) (k w : ℕ) → bitsAt s k w < 2 ^ w
 unfolding bitsAt bit

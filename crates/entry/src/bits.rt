@@ -1,8 +1,7 @@
 // Numbers of a few bits at any place of a range, the most significant bit first. Two octets hold each of them, so that none is
 // read bit by bit.
 ghost use mathlib.Core.Path.{_≡_};
-ghost use Prim.Native.Nat.{_+_, _*_, _%_, _≤_, _<_};
-ghost use lib.ListN.{length};
+ghost use Prim.Native.Nat.{_+_, _%_, _≤_, _<_};
 ghost use Rattle.entry.specs.Bits.{bitsAt};
 
 pub(crate) fn wide(octet: u8) -> u32
@@ -20,16 +19,4 @@ pub(crate) fn bits(s: &[u8], at: usize, width: usize) -> u32
     let second = wide(lent::octet(s, at / 8 + 1));
     let field = (first * 256 + second) >> (16 - at % 8 - width);
     field % (1 << width)
-}
-
-// The number of six bits that are all there, from the octet that they end in and the one before it: both are there too, so that a
-// character costs no test of the end.
-pub(crate) fn six(s: &[u8], at: usize) -> u32
-    requires { ⌜ (3 ≤ at) × (at + 6 ≤ 8 * length (now s)) × (at < 4096) ⌝ }
-    ensures { λ r. ⌜ (r ≡ bitsAt (now (s .entry)) at 6) × (r < 64) ⌝ }
-{
-    let end = at + 5;
-    let first = wide(s[end / 8 - 1]);
-    let second = wide(s[end / 8]);
-    ((first * 256 + second) >> (7 - end % 8)) % 64
 }

@@ -1,16 +1,10 @@
-// What the bits of an entry stand for: a form, a sex, and fields of characters, each of 6 bits.
+// What the bits of an entry stand for: a form, a sex, and fields of characters.
 ghost use mathlib.Core.Path.{_≡_};
-ghost use Prim.Native.Nat.{_+_, _*_, _<_, _≤_};
-ghost use lib.ListN.{length};
-ghost use Rattle.lent.specs.Copied.{copied};
+ghost use lib.ListN.{take, drop};
 ghost use Rattle.zone.specs.Record.{padded};
 ghost use Rattle.zone.specs.Rooms.{codeRoom, stateRoom, dateRoom, numberRoom, nameRoom};
 ghost use Rattle.entry.specs.Codes.{formBy, sexBy};
-ghost use Rattle.entry.specs.Run.{charactersAt};
-use crate::bits::six;
-use crate::places;
 use zone::alphabet::FILLER;
-use zone::codes::characters;
 use zone::form::Form;
 use zone::form::Recognised;
 
@@ -37,64 +31,43 @@ pub(crate) fn sex_by(code: u32) -> u8
     }
 }
 
-// The first places of a range become the n characters from a bit on, as many as it has places. All n are there.
-fn unpack(to: &mut [u8], s: &[u8], at: usize, n: usize)
-    requires { ⌜ (3 ≤ at) × (at + 6 * n ≤ 8 * length (now s)) × (at + 6 * n < 4096) ⌝ }
-    ensures { λ _. ⌜ now (to .exit) ≡ copied (now (to .entry)) (charactersAt (now (s .entry)) at n) ⌝ }
-{
-    let table = characters();
-    let mut i = 0;
-    while i < to.len() {
-        if n <= i {
-            return;
-        }
-        to[i] = table[six(s, at + places::CHARACTER * i) as usize];
-        i += 1;
-    }
-}
-
-pub(crate) fn code_at(s: &[u8], at: usize) -> [u8; Form::CODE]
-    requires { ⌜ (3 ≤ at) × (at + 6 * codeRoom ≤ 8 * length (now s)) × (at < 1024) ⌝ }
-    ensures { λ r. ⌜ r ≡ charactersAt (now (s .entry)) at codeRoom ⌝ }
+// The fields of a record, from its characters in their units.
+pub(crate) fn code_at(units: &[u8], at: usize) -> [u8; Form::CODE]
+    ensures { λ r. ⌜ r ≡ padded codeRoom (take codeRoom (drop at (now (units .entry)))) ⌝ }
 {
     let mut room = [FILLER; Form::CODE];
-    unpack(&mut room, s, at, Form::CODE);
+    lent::copy(&mut room, lent::part(units, at, Form::CODE));
     room
 }
 
-pub(crate) fn state_at(s: &[u8], at: usize) -> [u8; Form::STATE]
-    requires { ⌜ (3 ≤ at) × (at + 6 * stateRoom ≤ 8 * length (now s)) × (at < 1024) ⌝ }
-    ensures { λ r. ⌜ r ≡ charactersAt (now (s .entry)) at stateRoom ⌝ }
+pub(crate) fn state_at(units: &[u8], at: usize) -> [u8; Form::STATE]
+    ensures { λ r. ⌜ r ≡ padded stateRoom (take stateRoom (drop at (now (units .entry)))) ⌝ }
 {
     let mut room = [FILLER; Form::STATE];
-    unpack(&mut room, s, at, Form::STATE);
+    lent::copy(&mut room, lent::part(units, at, Form::STATE));
     room
 }
 
-pub(crate) fn date_at(s: &[u8], at: usize) -> [u8; Form::DATE]
-    requires { ⌜ (3 ≤ at) × (at + 6 * dateRoom ≤ 8 * length (now s)) × (at < 1024) ⌝ }
-    ensures { λ r. ⌜ r ≡ charactersAt (now (s .entry)) at dateRoom ⌝ }
+pub(crate) fn date_at(units: &[u8], at: usize) -> [u8; Form::DATE]
+    ensures { λ r. ⌜ r ≡ padded dateRoom (take dateRoom (drop at (now (units .entry)))) ⌝ }
 {
     let mut room = [FILLER; Form::DATE];
-    unpack(&mut room, s, at, Form::DATE);
+    lent::copy(&mut room, lent::part(units, at, Form::DATE));
     room
 }
 
-pub(crate) fn number_at(s: &[u8], at: usize) -> [u8; Form::NUMBER]
-    requires { ⌜ (3 ≤ at) × (at + 6 * numberRoom ≤ 8 * length (now s)) × (at < 1024) ⌝ }
-    ensures { λ r. ⌜ r ≡ charactersAt (now (s .entry)) at numberRoom ⌝ }
+pub(crate) fn number_at(units: &[u8], at: usize) -> [u8; Form::NUMBER]
+    ensures { λ r. ⌜ r ≡ padded numberRoom (take numberRoom (drop at (now (units .entry)))) ⌝ }
 {
     let mut room = [FILLER; Form::NUMBER];
-    unpack(&mut room, s, at, Form::NUMBER);
+    lent::copy(&mut room, lent::part(units, at, Form::NUMBER));
     room
 }
 
-// A name longer than any form allows is cut to the room that there is.
-pub(crate) fn name_at(s: &[u8], at: usize, n: usize) -> [u8; Form::NAME]
-    requires { ⌜ (3 ≤ at) × (at + 6 * n ≤ 8 * length (now s)) × (at < 1024) × (n < 64) ⌝ }
-    ensures { λ r. ⌜ r ≡ padded nameRoom (charactersAt (now (s .entry)) at n) ⌝ }
+pub(crate) fn name_at(units: &[u8], at: usize) -> [u8; Form::NAME]
+    ensures { λ r. ⌜ r ≡ padded nameRoom (take nameRoom (drop at (now (units .entry)))) ⌝ }
 {
     let mut room = [FILLER; Form::NAME];
-    unpack(&mut room, s, at, n);
+    lent::copy(&mut room, lent::part(units, at, Form::NAME));
     room
 }

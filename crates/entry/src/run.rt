@@ -1,17 +1,20 @@
 // A run of entries, read one by one.
 ghost use mathlib.Core.Path.{_≡_};
 ghost use mathlib.Core.Bool.{true, _&&_};
-ghost use Prim.Native.Nat.{_+_, _*_, _^_, _<_, _≤_};
+ghost use Prim.Native.Nat.{_+_, _^_, _<_, _≤_};
 ghost use lib.ListN.{length};
 ghost use Rattle.zone.specs.declared.form.Recognised.the-variants.{As};
 ghost use Rattle.entry.specs.Parts.{allBits};
 ghost use Rattle.entry.specs.Entry as E;
+ghost use Rattle.entry.specs.Inner.Units.{unitsIn};
 ghost use Rattle.entry.specs.Run as R;
 use crate::bits::bits;
 use crate::characters;
 use crate::places;
+use crate::units::unpack;
 use refusal::Cause;
 use refusal::Refusal;
+use zone::alphabet::FILLER;
 use zone::form::Form;
 use zone::form::Recognised;
 use zone::record::Record;
@@ -74,21 +77,38 @@ fn is_whole(s: &[u8], n: usize) -> bool
     (size(n) <= s.len()) & (bits(s, name_end(n), spare(n)) == 0)
 }
 
-// The record that the bits say, where none of its characters is cut off.
-fn record_in(form: Form, s: &[u8]) -> Record
-    requires { ⌜ allBits (R.nameLength (now s)) ≤ 8 * length (now s) ⌝ }
+// The characters of an entry, each at its unit. Its name has n characters.
+fn characters_in(s: &[u8], n: usize) -> [u8; places::UNITS]
+    requires { ⌜ (n < 64) × (E.size n ≤ length (now s)) ⌝ }
+    ensures { λ r. ⌜ r ≡ unitsIn (now (s .entry)) n ⌝ }
+{
+    let mut octets = [0; places::OCTETS];
+    lent::copy(&mut octets, lent::part(s, 0, places::OPENING));
+    let name = lent::part(s, places::OPENING, size(n) - places::OPENING);
+    lent::copy_at(&mut octets, places::SPREAD, name);
+    let mut units = [FILLER; places::UNITS];
+    unpack(
+        &mut units,
+        lent::part(&octets, 0, places::SPREAD + (n + 4) / 4 * 3),
+    );
+    units
+}
+
+// The record that the bits say, where they are whole.
+fn record_in(form: Form, s: &[u8], n: usize) -> Record
+    requires { ⌜ (n < 64) × (n ≡ R.nameLength (now s)) × (R.isWhole (now s) ≡ true) ⌝ }
     ensures { λ r. ⌜ r ≡ R.recordIn form (now (s .entry)) ⌝ }
 {
-    let code = characters::code_at(s, places::CODE);
-    let state = characters::state_at(s, places::STATE);
-    let number = characters::number_at(s, places::NUMBER);
+    let units = characters_in(s, n);
+    let code = characters::code_at(&units, places::CODE_UNIT);
+    let state = characters::state_at(&units, places::STATE_UNIT);
+    let number = characters::number_at(&units, places::NUMBER_UNIT);
     let number_len = trimmed_length(&number);
-    let nationality = characters::state_at(s, places::NATIONALITY);
-    let birth = characters::date_at(s, places::BIRTH);
+    let nationality = characters::state_at(&units, places::NATIONALITY_UNIT);
+    let birth = characters::date_at(&units, places::BIRTH_UNIT);
     let sex = characters::sex_by(bits(s, places::SEX, places::SEX_BITS));
-    let expiry = characters::date_at(s, places::EXPIRY);
-    let name_len = name_length(s);
-    let name = characters::name_at(s, places::NAME, name_len);
+    let expiry = characters::date_at(&units, places::EXPIRY_UNIT);
+    let name = characters::name_at(&units, places::NAME_UNIT);
     Record {
         form,
         code,
@@ -100,7 +120,7 @@ fn record_in(form: Form, s: &[u8]) -> Record
         sex,
         expiry,
         name,
-        name_len,
+        name_len: n,
     }
 }
 
@@ -121,7 +141,7 @@ fn sound_entry(form: Form, s: &[u8], at: usize, house: u32, n: usize) -> Standin
     requires { ⌜ (house ≡ R.houseIn (now s)) × (E.isHouse house && R.isWhole (now s) ≡ true) ⌝ }
     ensures { λ r. ⌜ R.standingOf r ≡ R.entryBy (As form) (now (s .entry)) at ⌝ }
 {
-    let kept = record_in(form, s);
+    let kept = record_in(form, s, n);
     if sound::is_sound(kept) {
         Standing {
             step: Step::Next(at + size(n)),

@@ -1,12 +1,15 @@
 // Units of six bits, each in an octet of its own: four of them are three octets.
 ghost use mathlib.Core.Path.{_≡_};
 ghost use mathlib.Core.List.{map};
-ghost use Prim.Native.Nat.{_+_, _*_, _/_, _%_, _≤_};
+ghost use Prim.Native.Nat.{_+_, _*_, _/_, _%_, _≤_, _<_};
 ghost use lib.ListN.{length, set};
 ghost use Rattle.lent.specs.Copied.{copied};
 ghost use Rattle.zone.specs.Codes.{codeOf};
+ghost use Rattle.entry.specs.Bits.{bitsAt};
 ghost use Rattle.entry.specs.Inner.Units.{fourAt, packed};
+ghost use Rattle.entry.specs.Run.{charactersAt};
 use crate::bits::wide;
+use zone::codes::characters;
 use zone::codes::code_of;
 
 // Every character becomes its code. Every octet is stored, so that the compiler takes many at a time.
@@ -49,6 +52,32 @@ pub(crate) fn pack(out: &mut [u8], s: &[u8])
     while i < s.len() / 4 {
         let number = four_at(s, 4 * i);
         put_three(out, 3 * i, number);
+        i += 1;
+    }
+}
+
+// The number that three octets say.
+fn three_at(s: &[u8], at: usize) -> u32
+    requires { ⌜ at + 3 ≤ length (now s) ⌝ }
+    ensures { λ r. ⌜ (r ≡ bitsAt (now (s .entry)) (8 * at) 24) × (r < 16777216) ⌝ }
+{
+    (wide(s[at]) * 256 + wide(s[at + 1])) * 256 + wide(s[at + 2])
+}
+
+// The characters of octets, at the front of a range that has room for them.
+pub(crate) fn unpack(to: &mut [u8], s: &[u8])
+    requires { ⌜ length (now s) / 3 * 4 ≤ length (now to) ⌝ }
+    ensures { λ _. ⌜ now (to .exit) ≡
+        copied (now (to .entry)) (charactersAt (now (s .entry)) 0 (length (now (s .entry)) / 3 * 4)) ⌝ }
+{
+    let table = characters();
+    let mut i = 0;
+    while i < s.len() / 3 {
+        let number = three_at(s, 3 * i);
+        to[4 * i] = table[(number / 262144) as usize];
+        to[4 * i + 1] = table[(number / 4096 % 64) as usize];
+        to[4 * i + 2] = table[(number / 64 % 64) as usize];
+        to[4 * i + 3] = table[(number % 64) as usize];
         i += 1;
     }
 }

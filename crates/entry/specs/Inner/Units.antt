@@ -1,11 +1,15 @@
--- No words of the paper: units of six bits, in which an entry is written.
-use Prim.Native.Nat.{ℕ, _+_, _*_, _/_, _%_}
+-- No words of the paper: units of six bits, in which an entry is written and read.
+use Prim.Native.Nat.{ℕ, _+_, _-_, _*_, _/_, _%_}
 use mathlib.Core.List.{List, [], _∷_, _++_, map}
-use lib.ListN.{getD, replicate}
+use lib.ListN.{length, take, drop, getD, replicate}
+use Rattle.lent.specs.Copied.{copied, copiedAt}
 use Rattle.zone.specs.Alphabet.{filler}
 use Rattle.zone.specs.Codes.{codeOf}
+use Rattle.zone.specs.Record.{padded}
 use Rattle.zone.specs.declared.record.Record.{Record}
 use Rattle.entry.specs.Codes.{formCode, sexCode}
+use Rattle.entry.specs.Entry.{size}
+use Rattle.entry.specs.Run.{charactersAt}
 
 -- the number that four units say
 abbrev pub four : (a b c d : ℕ) → ℕ
@@ -40,3 +44,11 @@ unitsOf house r = front house r ++ (sexCode (r .sex) * 16 ∷ 0 ∷ 0 ∷ r .«n
 -- the same places with the characters alone
 unfoldable pub placed : Record → List ℕ
 placed r = replicate 3 filler ++ (before r ++ (replicate 4 filler ++ r .name))
+
+-- an entry with a name of n characters, as it is read: two zero octets behind the sex and zeros behind the name, to whole units
+unfoldable pub spread : List ℕ → ℕ → List ℕ
+spread s n = take (36 + (n + 4) / 4 * 3) (copiedAt (copied (replicate 66 0) (take 34 s)) 36 (take (size n - 34) (drop 34 s)))
+
+-- its characters, and fillers behind them
+unfoldable pub unitsIn : List ℕ → ℕ → List ℕ
+unitsIn s n = padded 88 (charactersAt (spread s n) 0 (length (spread s n) / 3 * 4))

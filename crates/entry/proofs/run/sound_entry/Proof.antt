@@ -6,14 +6,14 @@ use denote.Ref.{now}
 use Rattle.lent.proofs.Bools.{and-both}
 use Rattle.entry.specs.Entry.{isHouse}
 use Rattle.entry.specs.Run.{standingOf, isWhole, isEntry, entryBy}
-use Rattle.entry.proofs.Fields.{whole-reaches}
 use Rattle.entry.proofs.run.sound_entry.Statement.{statement}
 use Rattle.entry.proofs.run.sound_entry.Tie as tie
 
 record-in-requires : tie.Need-record-in-requires
 record-in-requires c κs =
     let a = c .before .args in
-    whole-reaches (now (a .s)) (and-both (isHouse (a .house)) (isWhole (now (a .s))) (c .before .pre .1 .1) .1)
+    let known = c .before .pre in
+    (known .0 .0, known .0 .1, and-both (isHouse (a .house)) (isWhole (now (a .s))) (known .1 .1) .1)
 
 returns : tie.Need-returns
 unfolding standingOf isEntry entryBy
