@@ -8,7 +8,7 @@ use native.Mathlib.Omega.{arith}
 use borrow.Author.Tests.{lt-ltb}
 use lib.ListN.{length, take, drop, replicate, length-append, length-map, length-drop, length-replicate}
 use lib.ListN.{replicate-append-replicate}
-use lib.Seq.{take-at, drop-at, take-all, drop-drop, drop-append-add, length-take-le}
+use lib.Seq.{take-at, drop-at, take-all, take-add, take-take, take-append-le, drop-drop, drop-append-add, length-take-le}
 use Rattle.lent.specs.Copied.{copied, copiedAt}
 use Rattle.zone.specs.Alphabet.{filler, isCharacter, every, isDigit, isLetter}
 use Rattle.zone.specs.Codes.{codeOf}
@@ -28,7 +28,7 @@ use Rattle.entry.proofs.OctetsOfBits.{gathered-eight, gathered-zeros}
 use Rattle.entry.proofs.FieldBits.{puts-followed, puts-bits}
 use Rattle.entry.proofs.FormsAndSexes.{form-tells, sex-tells}
 use Rattle.entry.proofs.EntryBits.{name-taken, whole-octets, spare-few}
-use Rattle.entry.proofs.Packing.{length-packed}
+use Rattle.entry.proofs.Packing.{length-packed, packed-cut}
 use Rattle.entry.proofs.Placing.{sound-before}
 use Rattle.entry.proofs.UnitBits.{putUnits, puts-units, units-append, units-followed, units-bits, length-units, isUnit}
 use Rattle.entry.proofs.UnitBits.{units-of, unit-more, octets-packed, octets-append}
@@ -241,12 +241,61 @@ module _ (house : ℕ) (r : Record) (s : Sound r) where
       ap octets (entry-opened house r) ∙ octets-opened (named [])
       ∙ rw (packed-opened h, front, back, name)
 
--- over zeros, the whole range
-pub packed-whole : (u : List ℕ) → length u ≡ 88 → copied (replicate 66 0) (packed u) ≡ packed u
-packed-whole u e =
-    let l : length (packed u) ≡ 66 = length-packed u ∙ omega arith in
-    let n : length (replicate {A = ℕ} 66 0) ≡ 66 = length-replicate {A = ℕ} 66 0 in
-    rw (l, n, take-all 66 (packed u) (omega arith)) (append-nil (packed u))
+-- what stands between two places is the same in two lists that begin alike
+cut-alike : (a b : List ℕ) (i k : ℕ) → i ≤ length a → i ≤ length b → take (i + k) a ≡ take (i + k) b
+    → take k (drop i a) ≡ take k (drop i b)
+cut-alike a b i k ha hb e =
+    let one : drop i (take (i + k) a) ≡ take k (drop i a) = ap (drop i) (take-add i k a)
+    ∙ drop-at (take i a) (take k (drop i a)) i (length-take-le i a ha) in
+    let two : drop i (take (i + k) b) ≡ take k (drop i b) = ap (drop i) (take-add i k b)
+    ∙ drop-at (take i b) (take k (drop i b)) i (length-take-le i b hb) in
+    sym one ∙ ap (drop i) e ∙ two
+
+-- an entry needs no more units than those of its name, to whole fours
+module _ (u : List ℕ) (n : ℕ) (l : length u ≡ 88) (h : n ≤ 39) where
+  abbrev pub shortened : List ℕ
+  shortened = copied (replicate 66 0) (packed (take (48 + (n + 4) / 4 * 4) u))
+
+  long : length (packed u) ≡ 66
+  long = length-packed u ∙ omega arith
+
+  shortened-parts : shortened ≡ take (36 + (n + 4) / 4 * 3) (packed u) ++ drop (36 + (n + 4) / 4 * 3) (replicate 66 0)
+  shortened-parts =
+      let j = 12 + (n + 4) / 4 in
+      let e : 48 + (n + 4) / 4 * 4 ≡ 4 * j = omega arith in
+      let f : 3 * j ≡ 36 + (n + 4) / 4 * 3 = omega arith in
+      let p = take (36 + (n + 4) / 4 * 3) (packed u) in
+      let c : packed (take (48 + (n + 4) / 4 * 4) u) ≡ p = ap (λ (m : ℕ). packed (take m u)) e ∙ packed-cut j u
+      ∙ ap (λ (m : ℕ). take m (packed u)) f in
+      let k : length p ≡ 36 + (n + 4) / 4 * 3 = length-take-le (36 + (n + 4) / 4 * 3) (packed u) (omega (arith, long)) in
+      rw (c, k, length-replicate {A = ℕ} 66 0, take-all 66 p (omega arith))
+
+  shortened-alike : (m : ℕ) → m ≤ 36 + (n + 4) / 4 * 3 → take m shortened ≡ take m (packed u)
+  shortened-alike m k =
+      let p = take (36 + (n + 4) / 4 * 3) (packed u) in
+      ap (take m) shortened-parts
+      ∙ take-append-le m p _ (omega (arith, length-take-le (36 + (n + 4) / 4 * 3) (packed u) (omega (arith, long))))
+      ∙ take-take m (36 + (n + 4) / 4 * 3) (packed u) k
+
+  pub shortened-opening : take 34 shortened ≡ take 34 (packed u)
+  shortened-opening = shortened-alike 34 (omega arith)
+
+  pub shortened-name : take (size n - 34) (drop 36 shortened) ≡ take (size n - 34) (drop 36 (packed u))
+  unfolding size
+  shortened-name =
+      cut-alike shortened (packed u) 36 (size n - 34) (omega (arith, shortened-long)) (omega (arith, long))
+      (shortened-alike (36 + (size n - 34)) (omega arith))
+    where
+      shortened-long : length shortened ≡ 66
+      shortened-long =
+          ap length shortened-parts
+          ∙ length-append (take (36 + (n + 4) / 4 * 3) (packed u)) (drop (36 + (n + 4) / 4 * 3) (replicate 66 0))
+          ∙ omega (
+            arith,
+            length-take-le (36 + (n + 4) / 4 * 3) (packed u) (omega (arith, long)),
+            length-drop {A = ℕ} (36 + (n + 4) / 4 * 3) (replicate 66 0),
+            length-replicate {A = ℕ} 66 0,
+          )
 
 -- these copied into a range, one behind the other
 pub entry-copied : (out p : List ℕ) (n : ℕ) → length p ≡ 66 → 34 ≤ n → n ≤ 64 → n ≤ length out

@@ -6,7 +6,7 @@ use mathlib.Core.Logic.{inl}
 use native.Mathlib.Numerals.{add-one}
 use native.Mathlib.Omega.{arith}
 use lib.ListN.{length, take, drop, getD, set, drop-of-length-le}
-use lib.Seq.{take-all, take-suc-set, drop-set-lt, drop-cons, append-snoc}
+use lib.Seq.{take-all, take-nil, take-suc-set, drop-set-lt, drop-cons, append-snoc}
 use Rattle.lent.specs.Copied.{copied}
 use Rattle.lent.proofs.Lists.{copy-more, copy-ends}
 use Rattle.entry.specs.Inner.Units.{four, fourAt, packed}
@@ -87,3 +87,19 @@ pub pack-ends : (out s : List ℕ) (i : ℕ) → length s / 4 * 3 ≤ length out
 pack-ends out s i h e =
     let l = length-packed s in
     copy-ends out (packed s) (3 * i) (omega arith) (omega arith) (inl (omega arith))
+
+-- units cut off by fours; of fewer than four nothing
+few : (j : ℕ) (s : List ℕ) → length s ≤ 3 → packed s ≡ [] → packed (take (4 * suc j) s) ≡ take (3 * suc j) (packed s)
+few j s h e = rw (take-all (4 * suc j) s (omega arith), e) (sym (take-nil (3 * suc j)))
+
+pub packed-cut : (j : ℕ) (s : List ℕ) → packed (take (4 * j) s) ≡ take (3 * j) (packed s)
+unfolding packed
+packed-cut zero s = refl
+packed-cut (suc j) [] = few j [] (omega arith) refl
+packed-cut (suc j) (a ∷ []) = few j (a ∷ []) (omega arith) refl
+packed-cut (suc j) (a ∷ (b ∷ [])) = few j (a ∷ b ∷ []) (omega arith) refl
+packed-cut (suc j) (a ∷ (b ∷ (c ∷ []))) = few j (a ∷ b ∷ c ∷ []) (omega arith) refl
+packed-cut (suc j) (a ∷ (b ∷ (c ∷ (d ∷ s)))) =
+    let e : 4 * suc j ≡ suc (suc (suc (suc (4 * j)))) = omega arith in
+    let f : 3 * suc j ≡ suc (suc (suc (3 * j))) = omega arith in
+    rw (e, f, packed-cut j s)

@@ -4,6 +4,7 @@ ghost use mathlib.Core.Bool.{true};
 ghost use mathlib.Core.List.{_++_};
 ghost use Prim.Native.Nat.{_≤_};
 ghost use lib.ListN.{length, drop};
+ghost use Rattle.zone.specs.Rooms.{nameRoom};
 ghost use Rattle.sound.specs.Sound.{isSound};
 ghost use Rattle.entry.specs.Entry.{entryOf, size, Writes};
 ghost use Rattle.entry.specs.Inner.Units.{placed, unitsOf};
@@ -53,14 +54,18 @@ fn units_of(house: u32, r: Record) -> [u8; places::UNITS]
 
 // The octets of an entry, into a range that has room for them.
 fn write_octets(house: u32, r: Record, out: &mut [u8])
-    requires { ⌜ (house ≤ 32767) × (isSound r ≡ true) × (size (r .«name_len») ≤ length (now out)) ⌝ }
+    requires { ⌜ (house ≤ 32767) × (isSound r ≡ true) × (r .«name_len» ≤ nameRoom) × (size (r .«name_len») ≤ length (now out)) ⌝ }
     ensures { λ _. ⌜ now (out .exit) ≡ entryOf house r ++ drop (size (r .«name_len»)) (now (out .entry)) ⌝ }
 {
     let units = units_of(house, r);
+    let n = r.name_len;
     let mut octets = [0; places::OCTETS];
-    pack(&mut octets, &units);
+    pack(
+        &mut octets,
+        lent::part(&units, 0, places::NAME_LENGTH_UNIT + (n + 4) / 4 * 4),
+    );
     lent::copy(out, lent::part(&octets, 0, places::OPENING));
-    let name = size(r.name_len) - places::OPENING;
+    let name = size(n) - places::OPENING;
     lent::copy_at(
         out,
         places::OPENING,

@@ -23,6 +23,7 @@ write-octets-requires c κs =
     let kept = rw (early .before .is-sound .ensures, early .before .before .is-house .ensures) at (early .if1 .taken) in (
       kept-fits (a .house) (a .r) kept .0,
       and-both (isHouse (a .house)) (isSound (a .r)) kept .1,
+      kept-fits (a .house) (a .r) kept .1,
       rw (sized .size .ensures .0) at (c .before .if2 .taken),
     )
 
