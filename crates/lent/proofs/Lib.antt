@@ -7,3 +7,4 @@ pub mod Comparing  -- octets that are compared
 pub mod Among  -- an octet among others
 pub mod Marks  -- a table with a mark for each number of a list
 pub mod Left  -- how many of a list are left when others are taken
+pub mod Absent  -- what is in no row of a `match`
