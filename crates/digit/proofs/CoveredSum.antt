@@ -11,7 +11,7 @@ use lib.ListN.{length, take, drop, getD, length-take, length-drop, drop-of-lengt
 use lib.Seq.{take-nil, drop-drop, getD-drop}
 use Rattle.lent.proofs.Bools.{and-both}
 use Rattle.zone.specs.Alphabet.{isDigit, isLetter}
-use Rattle.zone.specs.Part.{number, numberCheck, optional, birth, birthCheck, expiry, expiryCheck, rank, same}
+use Rattle.zone.specs.Part.{number, optional, birth, expiry, rank, same}
 use Rattle.zone.proofs.Widths.{fixed}
 use Rattle.zone.specs.Rooms.{nine}
 use Rattle.zone.specs.Form.{layout, start, startIn, width, widthIn, field, line}
@@ -20,7 +20,7 @@ use Rattle.zone.specs.declared.form.Form.{Form}
 use Rattle.zone.specs.declared.form.Form.the-variants.{Td1, Td2, Td3}
 use Rattle.zone.specs.declared.form.Piece.{Piece}
 use Rattle.digit.specs.Check.{value, weight, sumFrom}
-use Rattle.digit.specs.Inner.Covered.{besideSum}
+use Rattle.digit.specs.Inner.Covered.{besideSum, othersSum}
 use Rattle.digit.proofs.Sums.{sum-append, sum-mod}
 
 -- a piece cut in two
@@ -98,11 +98,9 @@ sum-each place from t (s ∷ ss) e =
 
 -- the number, birth and expiry with their digits stand one behind another in every form, and what else is covered among them
 pub covered-sum : (f : Form) (t : List ℕ)
-    → (sumFrom 0 (field f number t) + sumFrom 10 (field f birth t) + sumFrom 17 (field f expiry t))
-    + (value (getD t (start f numberCheck) 0) * weight 9 + value (getD t (start f birthCheck) 0) * weight 16
-    + value (getD t (start f expiryCheck) 0) * weight 23) + besideSum f t
+    → sumFrom 0 (field f number t) + sumFrom 10 (field f birth t) + sumFrom 17 (field f expiry t) + othersSum f t
     ≡ sumFrom 0 (covered f t)
-unfolding covered covers line pieceOf pieces isRising sumEach besideSum cut
+unfolding covered covers line pieceOf pieces isRising sumEach othersSum besideSum cut
     field width widthIn start startIn layout rank same weight
 covered-sum Td1 t = omega (
   arith,

@@ -36,10 +36,6 @@ weight-le i = go (i % 3) (mod-lt i (lit< tt))
     go (suc (suc zero)) h = lit≤ tt
     go (suc (suc (suc k))) h = omega arith
 
--- what one character adds
-pub weighed-le : {a b : ℕ} (c i : ℕ) → a ≡ value c → b ≡ weight i → a * b ≤ 245
-weighed-le c i p q = rw (p, q) (mul-le-mul (value-le c) (weight-le i))
-
 -- weights repeat
 pub weight-mod : (i : ℕ) → weight (i % 3) ≡ weight i
 unfolding weight
@@ -50,6 +46,10 @@ unfolding weight
 weight-at i k =
     let e : (i % 3 + k) % 3 ≡ (i + k) % 3 = omega arith in
     rw e
+
+-- what one count adds
+pub count-le : {a b : ℕ} (i : ℕ) → a ≤ 255 → b ≡ weight i → a * b ≤ 1785
+count-le i h q = rw q (mul-le-mul h (weight-le i))
 
 -- what a third of a field adds
 pub part-le : {b : ℕ} (a i : ℕ) → a < 2 ^ 32 → b ≡ weight i → a * b ≤ 7 * 2 ^ 32

@@ -1,82 +1,103 @@
 // The composite digit: of several pieces of a text, joined as its form says.
 ghost use mathlib.Core.Path.{_≡_};
-ghost use Prim.Native.Nat.{_*_, _<_, _^_};
+ghost use mathlib.Core.List.{List};
+ghost use Prim.Native.Nat.{ℕ, _*_, _%_, _<_, _^_};
 ghost use lib.ListN.{getD};
 ghost use Rattle.zone.specs.Form.{cut, covered};
-ghost use Rattle.digit.specs.Check.{value, weight, sumFrom, digitOf};
-ghost use Rattle.digit.specs.Inner.Covered.{sumsOf, besideSum};
+ghost use Rattle.zone.specs.declared.form.Form.{Form};
+ghost use Rattle.digit.specs.Check.{weight, digitOf};
+ghost use Rattle.digit.specs.Inner.Thirds.{thirdsIn, weighed, Counts};
+ghost use Rattle.digit.specs.Inner.Covered.{sumsOf, besideSum, othersSum};
 use crate::as_digit;
 use crate::thirds::Thirds;
-use crate::value;
+use crate::thirds::counts;
 use crate::weight;
 use zone::form::Form;
 use zone::form::Piece;
 
-// The fields that have a check digit in every form, each gone over once.
+// The fields that have a check digit in every form, each gone over once; and what all else that the composite covers comes to,
+// modulo 10.
 pub struct Sums {
     pub number: Thirds,
     pub birth: Thirds,
     pub expiry: Thirds,
+    pub others: u8,
+}
+
+// What one character adds, where so many are covered before it.
+fn one(counts: &[u8], at: usize, before: usize) -> usize
+    ensures { λ r. ⌜ (r ≡ getD (now (counts .entry)) at 0 * weight before) × (r < 2048) ⌝ }
+{
+    (lent::octet(counts, at) as usize) * weight(before)
+}
+
+// What a piece adds.
+fn some(counts: &[u8], s: Piece, before: usize) -> usize
+    ensures { λ r. ⌜ (r ≡ weighed (thirdsIn (cut (now (counts .entry)) s)) before) × (r < 2 ^ 37) ⌝ }
+{
+    Thirds::counted(counts, s.start, s.width).weighed(before)
+}
+
+fn beside(form: Form, counts: &[u8]) -> usize
+    ensures { λ r. ⌜ ((t : List ℕ) → Counts t (now (counts .entry)) → r ≡ besideSum form t) × (r < 2 ^ 38) ⌝ }
+{
+    match form {
+        Form::Td1 => some(counts, Form::TD1_BESIDE, 10) + some(counts, Form::TD1_BESIDE_TOO, 39),
+        Form::Td2 => some(counts, Form::TD2_BESIDE, 24),
+        Form::Td3 => some(counts, Form::TD3_BESIDE, 24),
+    }
+}
+
+// What all else comes to: the three digits, and what is beside.
+fn others(form: Form, counts: &[u8]) -> u8
+    ensures { λ r. ⌜ ((t : List ℕ) → Counts t (now (counts .entry)) → r ≡ othersSum form t % 10) ⌝ }
+{
+    let at = form.places();
+    let digits = one(counts, at.number_check, 9)
+        + one(counts, at.birth_check, 16)
+        + one(counts, at.expiry_check, 23);
+    ((digits + beside(form, counts)) % 10) as u8
 }
 
 impl Sums {
-    pub fn of(form: Form, text: &[u8]) -> Sums
-        ensures { λ r. ⌜ r ≡ sumsOf form (now (text .entry)) ⌝ }
+    fn by(form: Form, counts: &[u8]) -> Sums
+        ensures { λ r. ⌜ ((t : List ℕ) → Counts t (now (counts .entry)) → r ≡ sumsOf form t) ⌝ }
     {
         let at = form.places();
-        let number = Thirds::of(text, at.number, Form::NINE as u8);
-        let birth = Thirds::of(text, at.birth, Form::DATE as u8);
-        let expiry = Thirds::of(text, at.expiry, Form::DATE as u8);
+        let number = Thirds::counted(counts, at.number, Form::NINE as u8);
+        let birth = Thirds::counted(counts, at.birth, Form::DATE as u8);
+        let expiry = Thirds::counted(counts, at.expiry, Form::DATE as u8);
+        let others = others(form, counts);
         Sums {
             number,
             birth,
             expiry,
+            others,
         }
     }
-}
 
-// What one character adds, where so many are covered before it.
-fn one(text: &[u8], at: usize, before: usize) -> usize
-    ensures { λ r. ⌜ (r ≡ value (getD (now (text .entry)) at 0) * weight before) × (r < 256) ⌝ }
-{
-    value(lent::octet(text, at)) * weight(before)
-}
-
-// What a piece adds.
-fn some(text: &[u8], s: Piece, before: usize) -> usize
-    ensures { λ r. ⌜ (r ≡ sumFrom before (cut (now (text .entry)) s)) × (r < 2 ^ 37) ⌝ }
-{
-    Thirds::of(text, s.start, s.width).weighed(before)
-}
-
-fn beside(form: Form, text: &[u8]) -> usize
-    ensures { λ r. ⌜ (r ≡ besideSum form (now (text .entry))) × (r < 2 ^ 38) ⌝ }
-{
-    match form {
-        Form::Td1 => some(text, Form::TD1_BESIDE, 10) + some(text, Form::TD1_BESIDE_TOO, 39),
-        Form::Td2 => some(text, Form::TD2_BESIDE, 24),
-        Form::Td3 => some(text, Form::TD3_BESIDE, 24),
+    pub fn of(form: Form, text: &[u8]) -> Sums
+        ensures { λ r. ⌜ r ≡ sumsOf form (now (text .entry)) ⌝ }
+    {
+        let all = counts(text);
+        Sums::by(form, &all)
     }
 }
 
-// The digit of everything that the composite covers, from the sums of the text. In every form the number stands first, birth and
+// The digit of everything that the composite covers, from the sums of a text. In every form the number stands first, birth and
 // its digit behind ten characters or 25, expiry and its digit behind seven more: weights start again after three.
-pub fn digit_by(form: Form, text: &[u8], sums: Sums) -> u8
-    ensures { λ r. ⌜ (sums ≡ sumsOf form (now (text .entry)) → r ≡ digitOf (covered form (now (text .entry)))) ⌝ }
+pub fn digit_by(sums: Sums) -> u8
+    ensures { λ r. ⌜ ((form : Form) (t : List ℕ) → sums ≡ sumsOf form t → r ≡ digitOf (covered form t)) ⌝ }
 {
-    let at = form.places();
     let number = sums.number;
     let birth = sums.birth;
     let expiry = sums.expiry;
     let fields = number.weighed(0) + birth.weighed(10) + expiry.weighed(17);
-    let digits = one(text, at.number_check, 9)
-        + one(text, at.birth_check, 16)
-        + one(text, at.expiry_check, 23);
-    as_digit(fields + digits + beside(form, text))
+    as_digit(fields + sums.others as usize)
 }
 
 pub fn covered_digit(form: Form, text: &[u8]) -> u8
     ensures { λ r. ⌜ r ≡ digitOf (covered form (now (text .entry))) ⌝ }
 {
-    digit_by(form, text, Sums::of(form, text))
+    digit_by(Sums::of(form, text))
 }

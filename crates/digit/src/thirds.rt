@@ -2,9 +2,24 @@
 ghost use mathlib.Core.Path.{_≡_};
 ghost use Prim.Native.Nat.{_<_, _^_};
 ghost use lib.ListN.{take, drop};
-ghost use Rattle.digit.specs.Inner.Thirds.{thirdsOf, weighed};
+ghost use Rattle.digit.specs.Inner.Thirds.{thirdsOf, thirdsIn, Counts, weighed};
 use crate::value;
 use crate::weight;
+use zone::form::Form;
+
+// What each place of a text counts, 0 past its end. A loop of its own, so that the compiler takes many characters at a time.
+pub(crate) fn counts(text: &[u8]) -> [u8; Form::TD1_TEXT]
+    ensures { λ r. ⌜ Counts (now (text .entry)) r ⌝ }
+{
+    let s = lent::part(text, 0, Form::TD1_TEXT);
+    let mut counts = [0; Form::TD1_TEXT];
+    let mut i = 0;
+    while i < s.len() {
+        counts[i] = value(s[i]) as u8;
+        i += 1;
+    }
+    counts
+}
 
 // What the characters at every third place count together, from each of the first three places on.
 pub struct Thirds {
@@ -31,6 +46,30 @@ impl Thirds {
         }
         first += value(lent::octet(part, i));
         second += value(lent::octet(part, i + 1));
+        Thirds {
+            first: first as u32,
+            second: second as u32,
+            third: third as u32,
+        }
+    }
+
+    // The same where it was worked out before what each character counts.
+    pub(crate) fn counted(counts: &[u8], at: usize, width: u8) -> Thirds
+        ensures { λ r. ⌜ r ≡ thirdsIn (take width (drop at (now (counts .entry)))) ⌝ }
+    {
+        let part = lent::part(counts, at, width as usize);
+        let mut first = 0;
+        let mut second = 0;
+        let mut third = 0;
+        let mut i = 0;
+        while i + 2 < part.len() {
+            first += part[i] as usize;
+            second += part[i + 1] as usize;
+            third += part[i + 2] as usize;
+            i += 3;
+        }
+        first += lent::octet(part, i) as usize;
+        second += lent::octet(part, i + 1) as usize;
         Thirds {
             first: first as u32,
             second: second as u32,

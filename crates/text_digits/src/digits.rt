@@ -96,7 +96,7 @@ fn composite_digit(form: Form, text: &[u8], sums: Sums) -> Verdict
     ensures { λ r. ⌜ ((span : Span) → outcomeOf r ≡ digitCheck form (now (text .entry)) span composite) ⌝ }
 {
     let at = form.places();
-    judged_digit(text, at.composite, digit_by(form, text, sums))
+    judged_digit(text, at.composite, digit_by(sums))
 }
 
 // The check runs over the nine and the further characters, as if they stood together.

@@ -1,49 +1,20 @@
--- Each row is the value of its character; what is in no row is neither a digit nor a letter.
+-- The tests that led to each `return` are those of `value`.
+use Rattle.lent.proofs.Tests.{tests}
 use Rattle.zone.specs.Alphabet.{isDigit, isLetter}
 use Rattle.digit.specs.Check.{value}
-use Rattle.digit.proofs.Uncounted.{Absent, uncounted}
 use Rattle.digit.proofs.value.Statement.{statement}
 use Rattle.digit.proofs.value.Tie as tie
 
 pub value-spec : {M : Type 1} → statement M
-unfolding value isDigit isLetter Absent
+unfolding value isDigit isLetter
 value-spec =
     tie.close
     (tie.spec
-    (λ c. rw (c .match .keys1))
-    (λ c. rw (c .match .keys2))
-    (λ c. rw (c .match .keys3))
-    (λ c. rw (c .match .keys4))
-    (λ c. rw (c .match .keys5))
-    (λ c. rw (c .match .keys6))
-    (λ c. rw (c .match .keys7))
-    (λ c. rw (c .match .keys8))
-    (λ c. rw (c .match .keys9))
-    (λ c. rw (c .match .keys10))
-    (λ c. rw (c .match .keys11))
-    (λ c. rw (c .match .keys12))
-    (λ c. rw (c .match .keys13))
-    (λ c. rw (c .match .keys14))
-    (λ c. rw (c .match .keys15))
-    (λ c. rw (c .match .keys16))
-    (λ c. rw (c .match .keys17))
-    (λ c. rw (c .match .keys18))
-    (λ c. rw (c .match .keys19))
-    (λ c. rw (c .match .keys20))
-    (λ c. rw (c .match .keys21))
-    (λ c. rw (c .match .keys22))
-    (λ c. rw (c .match .keys23))
-    (λ c. rw (c .match .keys24))
-    (λ c. rw (c .match .keys25))
-    (λ c. rw (c .match .keys26))
-    (λ c. rw (c .match .keys27))
-    (λ c. rw (c .match .keys28))
-    (λ c. rw (c .match .keys29))
-    (λ c. rw (c .match .keys30))
-    (λ c. rw (c .match .keys31))
-    (λ c. rw (c .match .keys32))
-    (λ c. rw (c .match .keys33))
-    (λ c. rw (c .match .keys34))
-    (λ c. rw (c .match .keys35))
-    (λ c. rw (c .match .keys36))
-    (λ c. uncounted (c .before .args .c) (c .match .rest)))
+    (λ c. search tests)
+    (λ c. search tests)
+    (λ c. search tests)
+    (λ c. search tests)
+    (λ c. search tests)
+    (λ c. search tests)
+    (λ c. search tests)
+    (λ c. search tests))

@@ -1,9 +1,8 @@
 -- The sums of the parts come to the sum of what is covered.
+use native.Mathlib.Omega.{arith}
 use borrow.Author.Needs.{needs}
-use denote.Ref.{now}
 use Rattle.zone.specs.Part.{number, birth, expiry}
 use Rattle.zone.specs.Form.{field}
-use Rattle.zone.specs.Inner.Places.{placesOf}
 use Rattle.digit.specs.Check.{checkOf, digitOf}
 use Rattle.digit.specs.Inner.Thirds.{asDigit}
 use Rattle.digit.specs.Inner.Covered.{sumsOf}
@@ -13,28 +12,20 @@ use Rattle.digit.proofs.composite.digit_by.Statement.{statement}
 use Rattle.digit.proofs.composite.digit_by.Tie as tie
 
 returns : tie.Need-returns
-unfolding asDigit digitOf checkOf sumsOf placesOf
+unfolding asDigit digitOf checkOf sumsOf
 returns c =
-    λ same.
-    let a = c .before .before .before .before .before .before .before .before .before .before .before .before .before .args in
-    let f = a .form in
-    let t = now (a .text) in
+    λ f t same.
     rw (
       c .as-digit .ensures,
-      c .before .beside .ensures .0,
-      c .before .before .one3 .ensures .0,
-      c .before .before .before .one2 .ensures .0,
-      c .before .before .before .before .one .ensures .0,
-      c .before .before .before .before .before .weighed3 .ensures .0,
-      c .before .before .before .before .before .before .weighed2 .ensures .0,
-      c .before .before .before .before .before .before .before .weighed .ensures .0,
-      c .before .before .before .before .before .before .before .before .before .before .before .places .ensures,
+      c .before .before .weighed3 .ensures .0,
+      c .before .before .before .weighed2 .ensures .0,
+      c .before .before .before .before .weighed .ensures .0,
       same,
       weighed-sum 0 (field f number t),
       weighed-sum 10 (field f birth t),
       weighed-sum 17 (field f expiry t),
-      covered-sum f t,
     )
+    (omega (arith, covered-sum f t))
 
 pub digit-by-spec : {M : Type 1} → statement M
 digit-by-spec =
@@ -42,17 +33,10 @@ digit-by-spec =
     (tie.spec
     (λ c κs. search needs)
     (λ c κs. search needs)
-    (λ c κs. search needs)
-    (λ c. search needs)
-    (λ c κs. search needs)
-    (λ c. search needs)
-    (λ c κs. search needs)
-    (λ c κs. search needs)
     (λ c. search needs)
     (λ c κs. search needs)
     (λ c. search needs)
     (λ c. search needs)
-    (λ c κs. search needs)
     (λ c. search needs)
     (λ c κs. search needs)
     returns)

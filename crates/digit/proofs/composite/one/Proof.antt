@@ -1,7 +1,7 @@
--- A value times a weight.
+-- A count times a weight.
 use native.Mathlib.Omega.{arith}
 use borrow.Author.Needs.{needs}
-use Rattle.digit.proofs.Sums.{weighed-le}
+use Rattle.digit.proofs.Sums.{count-le}
 use Rattle.digit.proofs.composite.one.Statement.{statement}
 use Rattle.digit.proofs.composite.one.Tie as tie
 
@@ -10,10 +10,10 @@ one-spec =
     tie.close
     (tie.spec
     (λ c κs. search needs)
+    (λ c. search needs)
     (λ c κs. search needs)
-    (λ c κs. search needs)
-    (λ c. omega (arith, weighed-le _ _ (c .before .value .ensures) (c .weight .ensures)))
+    (λ c. omega (arith, count-le {a = c .before .octet .result} _ (search needs) (c .weight .ensures)))
     (λ c. (
-      rw (c .weight .ensures, c .before .value .ensures, c .before .before .octet .ensures),
-      omega (arith, weighed-le _ _ (c .before .value .ensures) (c .weight .ensures)),
+      rw (c .weight .ensures, c .before .octet .ensures),
+      omega (arith, count-le {a = c .before .octet .result} _ (search needs) (c .weight .ensures)),
     )))

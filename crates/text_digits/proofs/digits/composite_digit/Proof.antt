@@ -1,5 +1,6 @@
 -- One call on what the digit covers.
 use borrow.Author.Needs.{needs}
+use denote.Ref.{now}
 use Rattle.zone.specs.Inner.Places.{placesOf}
 use Rattle.digit.proofs.Written.{digit-digit}
 use Rattle.text_digits.specs.Digits.{digitCheck}
@@ -8,15 +9,18 @@ use Rattle.text_digits.proofs.digits.composite_digit.Statement.{stateme
 use Rattle.text_digits.proofs.digits.composite_digit.Tie as tie
 
 judged-digit-requires : tie.Need-judged-digit-requires
-judged-digit-requires c κs = rw (c .digit-by .ensures (c .before .before .before .pre)) (digit-digit _)
+judged-digit-requires c κs =
+    let start = c .before .before .before in
+    rw (c .digit-by .ensures (start .args .form) (now (start .args .text)) (start .pre)) (digit-digit _)
 
 returns : tie.Need-returns
 unfolding digitCheck placesOf
 returns c =
     λ span.
+    let start = c .before .before .before .before in
     rw (
       c .judged-digit .ensures,
-      c .before .digit-by .ensures (c .before .before .before .before .pre),
+      c .before .digit-by .ensures (start .args .form) (now (start .args .text)) (start .pre),
       c .before .before .places .ensures,
       written-digit,
     )

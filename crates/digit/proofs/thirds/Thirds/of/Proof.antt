@@ -1,10 +1,12 @@
 -- What was passed and what is left count the same as the whole, third by third.
 use Prim.Native.Nat.{_≤_, _*_, _-_}
-use mathlib.Core.Path.{_≡_, _∙_}
+use mathlib.Core.Path.{_≡_, refl, _∙_}
 use native.Mathlib.Omega.{arith}
 use borrow.Author.Needs.{needs}
 use denote.Ref.{now}
 use lib.ListN.{length, drop, length-take}
+use Rattle.zone.specs.Alphabet.{isDigit, isLetter}
+use Rattle.digit.specs.Check.{value}
 use Rattle.digit.specs.Inner.Thirds.{thirdsOf}
 use Rattle.digit.proofs.Sums.{counted-le}
 use Rattle.digit.proofs.ByThirds.{andLeft, left-none, left-three, left-end}
@@ -18,7 +20,7 @@ Inv-loop s at width part first₀ second₀ third₀ i₀ first second third i =
     × (first ≤ 35 * i)
     × (second ≤ 35 * i)
     × (third ≤ 35 * i)
-    × (andLeft first second third (drop i part) ≡ thirdsOf part)
+    × (andLeft value first second third (drop i part) ≡ thirdsOf part)
 
 abbrev μ-loop : tie.MeasureT-loop
 μ-loop s at width part first₀ second₀ third₀ i₀ first second third i = length part - i
@@ -30,7 +32,7 @@ loop-holds c = (
   search needs,
   search needs,
   search needs,
-  left-none _,
+  left-none value _,
 )
 
 loop-again : tie.Need-loop-again Inv-loop μ-loop
@@ -45,10 +47,11 @@ loop-again c =
       omega (arith, counted-le _ one),
       omega (arith, counted-le _ two),
       omega (arith, counted-le _ three),
-      rw (one, two, three) (left-three (l .first) (l .second) (l .third) part (l .i) (search needs) ∙ l .inv .5),
+      rw (one, two, three) (left-three value (l .first) (l .second) (l .third) part (l .i) (search needs) ∙ l .inv .5),
     )
 
 returns : tie.Need-returns Inv-loop μ-loop
+unfolding value isDigit isLetter
 returns c =
     let l = c .before .before .before .before .before .loop in
     let part = c .before .before .before .before .before .before .part in
@@ -59,7 +62,7 @@ returns c =
       c .before .before .before .octet .ensures,
       ← part .ensures,
     )
-    (left-end (l .first) (l .second) (l .third) (now (part .result)) (l .i) (search needs) ∙ l .inv .5)
+    (left-end value refl (l .first) (l .second) (l .third) (now (part .result)) (l .i) (search needs) ∙ l .inv .5)
 
 pub of-spec : {M : Type 1} → statement M
 of-spec =
