@@ -16,10 +16,10 @@ use Rattle.lent.proofs.Lists.{drop-replicate}
 use Rattle.zone.specs.Alphabet.{filler}
 use Rattle.zone.specs.Codes.{characterOf}
 use Rattle.zone.specs.Record.{padded}
-use Rattle.zone.proofs.Padded.{padded-spare, padded-exact, length-padded}
+use Rattle.zone.proofs.Padded.{copied-padded, padded-spare, padded-exact, length-padded}
 use Rattle.entry.specs.Bits.{bit, bitsAt}
 use Rattle.entry.specs.Entry.{size}
-use Rattle.entry.specs.Inner.Units.{spread, unitsIn}
+use Rattle.entry.specs.Inner.Units.{spread, unpacked, unitsIn}
 use Rattle.entry.specs.Run.{charactersAt, spare}
 use Rattle.entry.proofs.EntryBits.{whole-octets}
 use Rattle.entry.proofs.Fields.{length-characters, getD-characters}
@@ -232,6 +232,10 @@ module _ (s : List ℕ) (n : ℕ) (h : size n ≤ length s) (g : n < 64) where
   unfolding spread
   spread-long = length-take (36 + (n + 4) / 4 * 3) _ ∙ ap (min (36 + (n + 4) / 4 * 3)) parts-long
 
+  pub units-copied : {u : List ℕ} → u ≡ copied (replicate 88 filler) (unpacked s n) → u ≡ unitsIn s n
+  unfolding unitsIn
+  units-copied e = e ∙ copied-padded 88 (unpacked s n)
+
   units-long : length (unitsIn s n) ≡ 88
   unfolding unitsIn
   units-long = length-padded 88 _
@@ -242,8 +246,8 @@ module _ (s : List ℕ) (n : ℕ) (h : size n ≤ length s) (g : n < 64) where
   unit-cut : (at m i : ℕ) → i < m → getD (take m (drop at (unitsIn s n))) i 0 ≡ getD (unitsIn s n) (at + i) 0
   unit-cut at m i k = getD-take m (drop at (unitsIn s n)) i 0 k ∙ getD-drop at (unitsIn s n) i 0
 
-  field-opening : (at m : ℕ) → at + m ≤ 45 → take m (drop at (unitsIn s n)) ≡ charactersAt s (6 * at) m
-  unfolding unitsIn
+  pub field-opening : (at m : ℕ) → at + m ≤ 45 → take m (drop at (unitsIn s n)) ≡ charactersAt s (6 * at) m
+  unfolding unitsIn unpacked
   field-opening at m k =
       ext-getD 0 (take m (drop at (unitsIn s n))) (charactersAt s (6 * at) m)
       (cut-long at m (omega arith) ∙ sym (length-characters s (6 * at) m))
@@ -259,7 +263,7 @@ module _ (s : List ℕ) (n : ℕ) (h : size n ≤ length s) (g : n < 64) where
 
   field-name : bitsAt s (278 + 6 * n) (spare n) ≡ 0
       → take 39 (drop 49 (unitsIn s n)) ≡ padded 39 (charactersAt s 278 n)
-  unfolding unitsIn size characterOf
+  unfolding unitsIn unpacked size characterOf
   field-name z =
       ext-getD 0 (take 39 (drop 49 (unitsIn s n))) (padded 39 (charactersAt s 278 n))
       (cut-long 49 39 (omega arith) ∙ sym (length-padded 39 (charactersAt s 278 n)))

@@ -3,10 +3,11 @@ ghost use mathlib.Core.Path.{_≡_};
 ghost use mathlib.Core.Bool.{true, _&&_};
 ghost use Prim.Native.Nat.{_+_, _^_, _<_, _≤_};
 ghost use lib.ListN.{length};
+ghost use Rattle.lent.specs.Copied.{copied};
 ghost use Rattle.zone.specs.declared.form.Recognised.the-variants.{As};
 ghost use Rattle.entry.specs.Parts.{allBits};
 ghost use Rattle.entry.specs.Entry as E;
-ghost use Rattle.entry.specs.Inner.Units.{unitsIn};
+ghost use Rattle.entry.specs.Inner.Units.{unpacked};
 ghost use Rattle.entry.specs.Run as R;
 use crate::bits::bits;
 use crate::characters;
@@ -77,21 +78,20 @@ fn is_whole(s: &[u8], n: usize) -> bool
     (size(n) <= s.len()) & (bits(s, name_end(n), spare(n)) == 0)
 }
 
-// The characters of an entry, each at its unit. Its name has n characters.
-fn characters_in(s: &[u8], n: usize) -> [u8; places::UNITS]
-    requires { ⌜ (n < 64) × (E.size n ≤ length (now s)) ⌝ }
-    ensures { λ r. ⌜ r ≡ unitsIn (now (s .entry)) n ⌝ }
+// The characters of an entry, each at its unit, into a range that is lent: by value they would be copied one by one. Its name
+// has n characters.
+fn read_units(units: &mut [u8], s: &[u8], n: usize)
+    requires { ⌜ (n < 64) × (E.size n ≤ length (now s)) × (length (now units) ≡ 88) ⌝ }
+    ensures { λ _. ⌜ now (units .exit) ≡ copied (now (units .entry)) (unpacked (now (s .entry)) n) ⌝ }
 {
     let mut octets = [0; places::OCTETS];
     lent::copy(&mut octets, lent::part(s, 0, places::OPENING));
     let name = lent::part(s, places::OPENING, size(n) - places::OPENING);
     lent::copy_at(&mut octets, places::SPREAD, name);
-    let mut units = [FILLER; places::UNITS];
     unpack(
-        &mut units,
+        units,
         lent::part(&octets, 0, places::SPREAD + (n + 4) / 4 * 3),
     );
-    units
 }
 
 // The record that the bits say, where they are whole.
@@ -99,11 +99,12 @@ fn record_in(form: Form, s: &[u8], n: usize) -> Record
     requires { ⌜ (n < 64) × (n ≡ R.nameLength (now s)) × (R.isWhole (now s) ≡ true) ⌝ }
     ensures { λ r. ⌜ r ≡ R.recordIn form (now (s .entry)) ⌝ }
 {
-    let units = characters_in(s, n);
+    let mut units = [FILLER; places::UNITS];
+    read_units(&mut units, s, n);
     let code = characters::code_at(&units, places::CODE_UNIT);
     let state = characters::state_at(&units, places::STATE_UNIT);
     let number = characters::number_at(&units, places::NUMBER_UNIT);
-    let number_len = trimmed_length(&number);
+    let number_len = trimmed_length(lent::part(&units, places::NUMBER_UNIT, Form::NUMBER));
     let nationality = characters::state_at(&units, places::NATIONALITY_UNIT);
     let birth = characters::date_at(&units, places::BIRTH_UNIT);
     let sex = characters::sex_by(bits(s, places::SEX, places::SEX_BITS));

@@ -50,5 +50,8 @@ unfoldable pub spread : List ℕ → ℕ → List ℕ
 spread s n = take (36 + (n + 4) / 4 * 3) (copiedAt (copied (replicate 66 0) (take 34 s)) 36 (take (size n - 34) (drop 34 s)))
 
 -- its characters, and fillers behind them
+unfoldable pub unpacked : List ℕ → ℕ → List ℕ
+unpacked s n = charactersAt (spread s n) 0 (length (spread s n) / 3 * 4)
+
 unfoldable pub unitsIn : List ℕ → ℕ → List ℕ
-unitsIn s n = padded 88 (charactersAt (spread s n) 0 (length (spread s n) / 3 * 4))
+unitsIn s n = padded 88 (unpacked s n)

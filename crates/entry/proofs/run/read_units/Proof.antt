@@ -1,19 +1,15 @@
--- The entry is spread out, and its characters unpacked over fillers.
+-- The entry is spread out, and its characters unpacked.
 use borrow.Author.Needs.{needs}
 use denote.Ref.{now}
 use native.Mathlib.Omega.{arith}
-use Prim.Native.Nat.{_*_, _/_}
-use lib.ListN.{length}
-use Rattle.zone.proofs.Padded.{copied-padded}
-use Rattle.entry.specs.Inner.Units.{spread, unitsIn}
-use Rattle.entry.specs.Run.{charactersAt}
+use Rattle.entry.specs.Inner.Units.{spread, unpacked}
 use Rattle.entry.proofs.EntryUnits.{size-least}
 use Rattle.entry.proofs.Spreading.{spread-long}
-use Rattle.entry.proofs.run.characters_in.Statement.{statement}
-use Rattle.entry.proofs.run.characters_in.Tie as tie
+use Rattle.entry.proofs.run.read_units.Statement.{statement}
+use Rattle.entry.proofs.run.read_units.Tie as tie
 
 sub-part : tie.Need-sub-part
-sub-part c = omega (arith, size-least (c .before .before .before .before .before .before .args .n))
+sub-part c = omega (arith, size-least (c .before .before .before .before .before .before .before .args .n))
 
 unpack-requires : tie.Need-unpack-requires
 unfolding spread
@@ -21,7 +17,7 @@ unpack-requires c κs =
     let copied = c .before .before .before .before in
     let sized = copied .before .before .before in
     let first = sized .before .before in
-    let start = first .before .before .before .before in
+    let start = first .before .before .before .before .before in
     let a = start .args in
     let long = spread-long (now (a .s)) (a .n) (start .pre .1) (start .pre .0) in
     rw (
@@ -35,27 +31,24 @@ unpack-requires c κs =
     (omega (arith, long))
 
 returns : tie.Need-returns
-unfolding unitsIn spread
+unfolding unpacked spread
 returns c =
-    let unpacked = c .before in
-    let copied = unpacked .before .before .before .before .before in
+    let last = c .before .before in
+    let copied = last .before .before .before .before .before in
     let sized = copied .before .before .before in
     let first = sized .before .before in
-    let a = first .before .before .before .before .args in
-    let q = spread (now (a .s)) (a .n) in
     rw (
-      unpacked .unpack .ensures,
-      unpacked .before .part3 .ensures,
+      last .unpack .ensures,
+      last .before .part3 .ensures,
       copied .copy-at .ensures,
       copied .before .before .part2 .ensures,
       sized .size .ensures .0,
       first .copy .ensures,
       first .before .part .ensures,
     )
-    (copied-padded 88 (charactersAt q 0 (length q / 3 * 4)))
 
-pub characters-in-spec : {M : Type 1} → statement M
-characters-in-spec =
+pub read-units-spec : {M : Type 1} → statement M
+read-units-spec =
     tie.close
     (tie.spec
     (λ c. search needs)
@@ -70,7 +63,7 @@ characters-in-spec =
     (λ c. search needs)
     (λ c. search needs)
     (λ c. search needs)
-    (λ c. search needs)
     (λ c κs. search needs)
     unpack-requires
+    (λ c. search needs)
     returns)
