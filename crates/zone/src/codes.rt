@@ -3,6 +3,8 @@ ghost use mathlib.Core.Path.{_≡_};
 ghost use Prim.Native.Nat.{ℕ, _<_};
 ghost use lib.ListN.{getD};
 ghost use Rattle.zone.specs.Codes.{codeOf, characterOf};
+use crate::alphabet::is_digit;
+use crate::alphabet::is_letter;
 
 // The characters by their codes; 0 for a code above 36: no character, so that no sound record holds it.
 const CHARACTERS: [u8; 64] =
@@ -12,11 +14,13 @@ const CHARACTERS: [u8; 64] =
 pub fn code_of(c: u8) -> u8
     ensures { λ r. ⌜ (r ≡ codeOf c) × (r < 64) ⌝ }
 {
-    match c {
-        b'0'..=b'9' => c - b'0' + 1,
-        b'A'..=b'Z' => c - b'A' + 11,
-        _ => 0,
+    if is_digit(c) {
+        return c - b'0' + 1;
     }
+    if is_letter(c) {
+        return c - b'A' + 11;
+    }
+    0
 }
 
 // Handed out by value, so that a field is read from one copy and not each character from its own.
