@@ -2,7 +2,7 @@
 ghost use mathlib.Core.Path.{_≡_};
 ghost use Prim.Native.Nat.{_≤_};
 ghost use lib.ListN.{length};
-ghost use Rattle.zone.specs.Alphabet.{every, isCharacter, isFiller};
+ghost use Rattle.zone.specs.Alphabet.{every, isCharacter};
 ghost use Rattle.field.specs.Letters.{nameRule};
 ghost use Rattle.sound.specs.Sound.{isHeld, isSolid, isNumber, isDocument, isHolder};
 use field::code::is_code;
@@ -13,21 +13,9 @@ use field::letters::is_sex;
 use field::letters::is_state;
 use zone::alphabet::FILLER;
 use zone::alphabet::all_characters;
+use zone::alphabet::all_fillers;
 use zone::form::Form;
 use zone::record::Record;
-
-// Nothing but fillers.
-fn all_fillers(s: &[u8]) -> bool
-    ensures { λ r. ⌜ r ≡ every isFiller (now (s .entry)) ⌝ }
-{
-    let mut fine = true;
-    let mut i = 0;
-    while i < s.len() {
-        fine = fine & (s[i] == FILLER);
-        i += 1;
-    }
-    fine
-}
 
 // n characters, not none and at most so many, that end in no filler, and fillers past them.
 fn is_held(most: usize, s: &[u8], n: usize) -> bool

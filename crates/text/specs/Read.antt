@@ -27,8 +27,7 @@ unfoldable pub answerOf : Reading → Answer
 answerOf r = record { outcome = outcomeOf (r .verdict); kept = r .kept }
 
 -- the record of a text: the fields that stand in it, number and name without trailing fillers. (A field of a text of its form's
--- length
--- has its width, so that padding changes nothing: `Holds`.)
+-- length has its width, so that padding changes nothing: `Holds`.)
 unfoldable pub recordBy : Form → List ℕ → Span → Record
 recordBy f t span = record {
   form = f;

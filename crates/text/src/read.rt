@@ -61,7 +61,7 @@ fn read_by(form: Form, text: &[u8]) -> Reading
     }
 }
 
-// Any octets at all are read as a text, or refused by number and place.
+// Any octets at all are read as a text, or refused with cause and place.
 pub fn read(text: &[u8]) -> Reading
     ensures { λ r. ⌜ answerOf r ≡ readText (now (text .entry)) ⌝ }
 {

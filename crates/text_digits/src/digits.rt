@@ -27,7 +27,7 @@ use zone::alphabet::FILLER;
 use zone::alphabet::all_fillers;
 use zone::form::Form;
 
-// Whether a place holds the digit that was worked out, which the refusal carries as its number.
+// Whether a place holds the digit that was worked out, which the refusal carries, as 0 to 9.
 fn judged_digit(text: &[u8], place: usize, digit: u8) -> Verdict
     requires { ⌜ isDigit digit ≡ true ⌝ }
     ensures { λ r. ⌜ outcomeOf r ≡ writtenAt (now (text .entry)) place digit ⌝ }

@@ -11,7 +11,7 @@ use Rattle.zone.specs.Part.{Part}
 use Rattle.zone.specs.Form.{width}
 use Rattle.zone.specs.declared.form.Form.{Form}
 
--- a place against a digit that was worked out, which the refusal carries as its number
+-- a place against a digit that was worked out, which the refusal carries, as 0 to 9
 unfoldable pub writtenAt : List ℕ → (place digit : ℕ) → Outcome
 writtenAt t place digit = refusedUnless (eqb (getD t place 0) digit) (expecting (digit - code "0")) place
 
