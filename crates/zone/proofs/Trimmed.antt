@@ -1,15 +1,15 @@
 -- The laws of `trimmedLength`: one character more at the end, and its bound.
-use mathlib.Core.Path.{_≡_, refl}
+use mathlib.Core.Path.{_≡_, refl, sym}
 use mathlib.Core.List.{List, [], _∷_, _++_}
 use mathlib.Core.Bool.{Bool, true, false, cond, _&&_, not}
 use Prim.Native.Nat.{ℕ, suc, _+_, _≤_, _<_, zero, _-_}
 use native.Mathlib.Numerals.{add-one}
 use native.Mathlib.Omega.{arith}
-use lib.ListN.{length, take, getD, replicate}
+use lib.ListN.{length, take, drop, getD, replicate}
 use lib.Dec.{eqb, eqb·suc-zero}
-use lib.Seq.{take-suc, length-take-le, take-take}
+use lib.Seq.{take-suc, length-take-le, take-take, take-add}
 use borrow.Author.Tests.{eqb-true}
-use Rattle.zone.specs.Alphabet.{isFiller, filler}
+use Rattle.zone.specs.Alphabet.{isFiller, filler, every}
 use Rattle.zone.specs.Record.{trimmedLength, trimmed}
 use Rattle.lent.proofs.Bools.{and-both}
 
@@ -49,6 +49,27 @@ pub trimmed-fillers : (s : List ℕ) (m : ℕ) → trimmedLength (s ++ replicate
 unfolding trimmedLength
 trimmed-fillers [] m = fillers-none m
 trimmed-fillers (c ∷ s) m = rw (trimmed-fillers s m)
+
+-- the same of characters that are all fillers
+fillers-gone : (s : List ℕ) → every isFiller s ≡ true → trimmedLength s ≡ 0
+unfolding trimmedLength every
+fillers-gone [] e = refl
+fillers-gone (c ∷ s) e =
+    let both = and-both (isFiller c) (every isFiller s) e in
+    rw (both .0, fillers-gone s (both .1))
+
+trimmed-behind : (a b : List ℕ) → every isFiller b ≡ true → trimmedLength (a ++ b) ≡ trimmedLength a
+unfolding trimmedLength
+trimmed-behind [] b e = fillers-gone b e
+trimmed-behind (c ∷ a) b e = rw (trimmed-behind a b e)
+
+-- where the first n end in k fillers
+pub trimmed-fewer : (s : List ℕ) (n k : ℕ) → k ≤ n → every isFiller (take k (drop (n - k) s)) ≡ true
+    → trimmedLength (take (n - k) s) ≡ trimmedLength (take n s)
+trimmed-fewer s n k h e =
+    let parts : n - k + k ≡ n = omega arith in
+    let joined = rw parts at (take-add (n - k) k s) in
+    rw joined (sym (trimmed-behind (take (n - k) s) (take k (drop (n - k) s)) e))
 
 pub trimmed-twice : (s : List ℕ) → trimmedLength (take (trimmedLength s) s) ≡ trimmedLength s
 unfolding trimmedLength

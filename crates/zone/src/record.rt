@@ -1,7 +1,13 @@
 // What the library keeps of a document. Names, numbers and codes are characters; places past a length are fillers.
 ghost use mathlib.Core.Path.{_≡_};
+ghost use mathlib.Core.Bool.{_&&_};
+ghost use Prim.Native.Nat.{_-_, _≤_};
+ghost use lib.Dec.{leb};
+ghost use lib.ListN.{length, take, drop};
+ghost use Rattle.zone.specs.Alphabet.{isFiller, every};
 ghost use Rattle.zone.specs.Record.{blank, trimmedLength};
 use crate::alphabet::FILLER;
+use crate::alphabet::all_fillers;
 use crate::form::Form;
 
 pub struct Record {
@@ -39,11 +45,27 @@ impl Record {
     }
 }
 
-// The length without trailing fillers, looked for from the end.
+// Whether the first n octets end in eight fillers.
+fn ends_in_eight(s: &[u8], n: usize) -> bool
+    requires { ⌜ n ≤ length (now s) ⌝ }
+    ensures { λ r. ⌜ r ≡ leb 8 n && every isFiller (take 8 (drop (n - 8) (now (s .entry)))) ⌝ }
+{
+    if 8 <= n {
+        let from = n - 8;
+        all_fillers(&s[from..n])
+    } else {
+        false
+    }
+}
+
+// The length without trailing fillers, looked for from the end: eight at a time, and then one by one.
 pub fn trimmed_length(s: &[u8]) -> usize
     ensures { λ r. ⌜ r ≡ trimmedLength (now (s .entry)) ⌝ }
 {
     let mut n = s.len();
+    while ends_in_eight(s, n) {
+        n -= 8;
+    }
     while 0 < n {
         let last = n - 1;
         if s[last] != FILLER {
