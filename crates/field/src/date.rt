@@ -5,6 +5,7 @@ ghost use Prim.Native.Nat.{_+_, _<_};
 ghost use lib.ListN.{getD};
 ghost use Rattle.field.specs.Date.{pairOf, isLeap, daysIn, monthRule, dayRule, yearRule, isKnown, birthRule, expiryRule};
 use zone::alphabet::FILLER;
+use zone::alphabet::is_digit;
 
 // What two characters of a date say.
 pub enum Pair {
@@ -97,14 +98,11 @@ fn is_year(year: Pair) -> bool
     }
 }
 
-fn is_known(pair: Pair) -> bool
-    ensures { λ r. ⌜ r ≡ isKnown pair ⌝ }
+// Two digits.
+fn is_known(a: u8, b: u8) -> bool
+    ensures { λ r. ⌜ r ≡ isKnown (pairOf a b) ⌝ }
 {
-    match pair {
-        Pair::Known(_) => true,
-        Pair::Unknown => false,
-        Pair::Neither => false,
-    }
+    is_digit(a) & is_digit(b)
 }
 
 // A day of a month of a year.
@@ -120,11 +118,19 @@ pub fn is_birth(s: &[u8]) -> bool
     is_date(pair_at(s, 0), pair_at(s, 2), pair_at(s, 4))
 }
 
+// The six are tested first: so no pair has to be asked what it is.
 pub fn is_expiry(s: &[u8]) -> bool
     ensures { λ r. ⌜ r ≡ expiryRule (now (s .entry)) ⌝ }
 {
-    let year = pair_at(s, 0);
-    let month = pair_at(s, 2);
-    let day = pair_at(s, 4);
-    (is_known(year) & (is_known(month) & is_known(day))) & is_date(year, month, day)
+    let a = lent::octet(s, 0);
+    let b = lent::octet(s, 1);
+    let c = lent::octet(s, 2);
+    let d = lent::octet(s, 3);
+    let e = lent::octet(s, 4);
+    let f = lent::octet(s, 5);
+    if is_known(a, b) & (is_known(c, d) & is_known(e, f)) {
+        is_date(pair_of(a, b), pair_of(c, d), pair_of(e, f))
+    } else {
+        false
+    }
 }

@@ -1,17 +1,13 @@
--- Each arm is the row of `isKnown`.
+-- Both are digits.
 use borrow.Author.Needs.{needs}
-use Rattle.field.specs.Date.{isKnown}
+use Rattle.field.proofs.Known.{known-digits}
 use Rattle.field.proofs.date.is_known.Statement.{statement}
 use Rattle.field.proofs.date.is_known.Tie as tie
 
 pub is-known-spec : {M : Type 1} → statement M
-unfolding isKnown
 is-known-spec =
     tie.close
     (tie.spec
-    (λ c. search needs)
-    (λ c. search needs)
-    (λ c. search needs)
-    (λ c. simp (c .enum-told .given .1))
-    (λ c. simp (c .enum-told2 .given .1))
-    (λ c. simp (c .enum-told3 .given .1)))
+    (λ c κs. search needs)
+    (λ c κs. search needs)
+    (λ c. rw (c .is-digit2 .ensures, c .before .is-digit .ensures) (known-digits _ _)))
