@@ -35,7 +35,8 @@ pub fn is_sex(c: u8) -> bool
     (c == b'M') | (c == b'F') | (c == FILLER)
 }
 
-fn all_name_characters(s: &[u8]) -> bool
+// One by one; as of characters in zone.
+fn are_name_characters(s: &[u8]) -> bool
     ensures { λ r. ⌜ r ≡ every isNameCharacter (now (s .entry)) ⌝ }
 {
     let mut fine = true;
@@ -43,6 +44,24 @@ fn all_name_characters(s: &[u8]) -> bool
     while i < s.len() {
         fine = fine & is_letter_or_filler(s[i]);
         i += 1;
+    }
+    fine
+}
+
+// The last sixteen first, and then by sixteens up to them.
+fn all_name_characters(s: &[u8]) -> bool
+    ensures { λ r. ⌜ r ≡ every isNameCharacter (now (s .entry)) ⌝ }
+{
+    if s.len() < 16 {
+        return are_name_characters(s);
+    }
+    let from = s.len() - 16;
+    let mut fine = are_name_characters(&s[from..]);
+    let mut i = 0;
+    while i <= from {
+        let to = i + 16;
+        fine = fine & are_name_characters(&s[i..to]);
+        i = to;
     }
     fine
 }

@@ -1,11 +1,11 @@
 -- The laws of `every`, over the test p: by which a loop over all characters steps, and where a search finds none that fails it.
-use mathlib.Core.Path.{_≡_, refl, sym, _∙_}
+use mathlib.Core.Path.{_≡_, refl, ap, sym, _∙_}
 use mathlib.Core.List.{List, [], _∷_, _++_}
 use mathlib.Core.Bool.{Bool, true, false, not, _&&_, and-true, and-assoc}
 use Prim.Native.Nat.{ℕ, _+_, _≤_, _<_, zero, suc, _-_}
 use native.Mathlib.Numerals.{add-one}
-use lib.ListN.{length, drop, getD, drop-of-length-le, take, replicate}
-use lib.Seq.{drop-cons}
+use lib.ListN.{length, drop, getD, drop-of-length-le, take, replicate, take-append-drop}
+use lib.Seq.{drop-cons, take-add}
 use native.Mathlib.Omega.{arith}
 use Rattle.lent.proofs.Bools.{and-both}
 use Rattle.zone.specs.Alphabet.{every, first}
@@ -36,6 +36,45 @@ module _ (p : ℕ → Bool) (s : List ℕ) (i : ℕ) (fine : Bool) (left : fine 
   pub every-done : length s ≤ i → fine ≡ every p s
   unfolding every
   every-done h = sym (and-true fine) ∙ (rw (drop-of-length-le s h) at left)
+
+-- lists joined
+every-join : (p : ℕ → Bool) (a b : List ℕ) → every p (a ++ b) ≡ every p a && every p b
+unfolding every
+every-join p [] b = refl
+every-join p (c ∷ a) b = rw (every-join p a b) (sym (and-assoc (p c) (every p a) (every p b)))
+
+-- A loop over pieces, after the last: the next piece,
+pub every-piece : (p : ℕ → Bool) (s : List ℕ) (last : Bool) (i k : ℕ)
+    → (last && every p (take i s)) && every p (take k (drop i s)) ≡ last && every p (take (i + k) s)
+every-piece p s last i k =
+    and-assoc last (every p (take i s)) (every p (take k (drop i s)))
+    ∙ rw (take-add i k s, every-join p (take i s) (take k (drop i s)))
+
+-- and where those that were passed reach into the last
+overlap : (a b c : Bool) → (b && c) && (a && b) ≡ a && (b && c)
+overlap true true true = refl
+overlap true true false = refl
+overlap true false c = refl
+overlap false true true = refl
+overlap false true false = refl
+overlap false false c = refl
+
+pub every-overlap : (p : ℕ → Bool) (s : List ℕ) (from i : ℕ) → from ≤ i
+    → every p (drop from s) && every p (take i s) ≡ every p s
+every-overlap p s from i h =
+    let k = i - from in
+    let e : from + k ≡ i = omega arith in
+    let u = drop from s in
+    let front = rw e at (take-add from k s) in
+    let back = take-append-drop k u in
+    let whole = take-append-drop from s in
+    let b = every p (take k u) in
+    let c = every p (drop k u) in
+    let a = every p (take from s) in
+    let last : every p u ≡ b && c = sym (ap (every p) back) ∙ every-join p (take k u) (drop k u) in
+    let passed : every p (take i s) ≡ a && b = ap (every p) front ∙ every-join p (take from s) (take k u) in
+    let all : every p s ≡ a && every p u = sym (ap (every p) whole) ∙ every-join p (take from s) u in
+    rw (all, passed, last) (overlap a b c)
 
 -- where every one passes, the search for one that does not comes to the end
 pub every-first : (p : ℕ → Bool) (s : List ℕ) → every p s ≡ true → first (λ c. not (p c)) s ≡ length s

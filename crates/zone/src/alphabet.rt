@@ -22,8 +22,8 @@ pub fn is_character(c: u8) -> bool
     is_digit(c) | (is_letter(c) | (c == FILLER))
 }
 
-// No octet outside the alphabet. The loop goes to the end in any case: so the compiler takes many characters at a time.
-pub fn all_characters(s: &[u8]) -> bool
+// One by one. The loop goes to the end in any case: so the compiler takes many characters at a time.
+fn are_characters(s: &[u8]) -> bool
     ensures { λ r. ⌜ r ≡ every isCharacter (now (s .entry)) ⌝ }
 {
     let mut fine = true;
@@ -31,6 +31,24 @@ pub fn all_characters(s: &[u8]) -> bool
     while i < s.len() {
         fine = fine & is_character(s[i]);
         i += 1;
+    }
+    fine
+}
+
+// No octet outside the alphabet. The last sixteen first, and then by sixteens up to them: so none is left to be taken alone.
+pub fn all_characters(s: &[u8]) -> bool
+    ensures { λ r. ⌜ r ≡ every isCharacter (now (s .entry)) ⌝ }
+{
+    if s.len() < 16 {
+        return are_characters(s);
+    }
+    let from = s.len() - 16;
+    let mut fine = are_characters(&s[from..]);
+    let mut i = 0;
+    while i <= from {
+        let to = i + 16;
+        fine = fine & are_characters(&s[i..to]);
+        i = to;
     }
     fine
 }

@@ -52,7 +52,9 @@ trimmed-length-spec =
     μ-loop
     Inv-loop2
     μ-loop2
-    (λ c. (search needs, ap trimmedLength (take-all (length (now (c .before .args .s))) (now (c .before .args .s)) (search needs))))
+    (λ c.
+    let s = now (c .before .args .s) in
+    (search needs, ap trimmedLength (take-all (length s) s (search needs))))
     (λ c κs. search needs)
     sub-n
     (λ c. omega (arith, sub-n c))
