@@ -1,10 +1,10 @@
 -- The laws of this crate.
 pub mod Gather  -- `put` and `gathered`: numbers written in bits, one after the other, by eights; the octets of an entry
 pub mod Placing  -- the units of an entry, from the fields of a record
-pub mod Packing  -- `packed`: units of six bits, and the octets that they are
+pub mod Packing  -- the loops over units of six bits: their codes, and `packed`
 pub mod Fits  -- what may be entered fits the bits that it has
 pub mod Shifts  -- `bitsAt`: up to sixteen bits are a field of two octets
-pub mod Fields  -- `charactersAt`, and how far a whole entry reaches
+pub mod Fields  -- `charactersAt`, and what a whole entry says of its octets
 pub mod Unpacking  -- three octets read as four characters
 pub mod Spreading  -- an entry spread out to whole units
 pub mod Lengths  -- the lengths of a record that is read fit an octet

@@ -1,4 +1,4 @@
--- Laws on units of six bits: `packed`, the steps of the loop that packs them, and the bits that they are.
+-- Laws on loops over units of six bits: one that changes each of them, and the one that packs four into three octets.
 use Prim.Native.Nat.{ℕ, zero, suc, _+_, _-_, _*_, _/_, _%_, _≤_, _<_}
 use mathlib.Core.Path.{_≡_, refl, sym}
 use mathlib.Core.List.{List, [], _∷_, _++_, map, append-nil}

@@ -1,5 +1,4 @@
--- Units of six bits as bits: four of them are three octets, and the octets of an entry's units are those of the entry, with two
--- more behind the sex and zeros behind the name.
+-- Units of six bits as bits: what four of them say is what their three octets say, and whole octets stand before others.
 use Prim.Native.Nat.{ℕ, zero, suc, _+_, _-_, _*_, _/_, _%_, _^_, _<_}
 use mathlib.Core.Path.{_≡_, refl, ap, sym, _∙_}
 use mathlib.Core.Bool.{Bool, true, _&&_}
