@@ -1,19 +1,21 @@
 -- Counting the characters: what is read from a place on, behind n others, answers the same as the whole.
-use Prim.Native.Nat.{ℕ, suc, _+_, _-_, _≤_, _<_}
+use Prim.Native.Nat.{ℕ, suc, _+_, _-_, _*_, _/_, _≤_, _<_}
 use mathlib.Core.Path.{_≡_, refl, sym, ap, _∙_}
-use mathlib.Core.Bool.{true, false}
+use mathlib.Core.Bool.{Bool, true, false, cond, _&&_, and-assoc, false≢true}
 use mathlib.Core.List.{List, [], _∷_, _++_}
 use native.Mathlib.Nat.{zero-add, add-zero}
 use native.Mathlib.Omega.{arith}
-use borrow.Author.Tests.{lt-leb, le-leb}
-use lib.Dec.{leb}
+use borrow.Author.Tests.{lt-leb, le-leb, eqb-true, eqb-false}
+use lib.Dec.{eqb, leb}
 use lib.ListN.{length, drop, getD, drop-of-length-le}
 use lib.Seq.{drop-cons}
 use Rattle.c40.specs.declared.pair.Triple.{Triple}
 use Rattle.c40.specs.declared.measure.Counted.the-variants.{Characters, Bad}
-use Rattle.c40.specs.Reader.{Reading, characters, noImage, isThree, three}
+use Rattle.lent.proofs.Bools.{and-both}
+use Rattle.c40.specs.Reader.{Reading, characters, noImage, numberOf, valuesOf, isThree, three}
 use Rattle.c40.specs.Reader.{before, lastPair, readC40}
-use Rattle.c40.specs.Inner.Left.{answered, fitted, valuesAt}
+use Rattle.c40.proofs.Pairs.{Pairs, none, ofThree, pairs-read}
+use Rattle.c40.specs.Inner.Left.{answered, fitted, allThree, valuesAt}
 
 -- the pair at a place, and what follows it
 pub pair-at : (s : List ℕ) (i : ℕ) → i + 2 ≤ length s → drop i s ≡ getD s i 0 ∷ getD s (i + 1) 0 ∷ drop (i + 2) s
@@ -82,3 +84,45 @@ all-fitted s room = go (readC40 s)
     go : (r : Reading) → fitted room 0 r ≡ answered r room
     go (characters t) = rw zero-add
     go noImage = refl
+
+-- ---- pairs of three alone
+
+module _ (s : List ℕ) (i : ℕ) (fine : Bool) (left : fine && allThree (drop i s) ≡ allThree s) where
+  pub pass-three : i + 2 ≤ length s → (fine && isThree (valuesAt s i)) && allThree (drop (i + 2) s) ≡ allThree s
+  unfolding allThree valuesAt
+  pass-three h = and-assoc fine (isThree (valuesAt s i)) (allThree (drop (i + 2) s)) ∙ (rw (pair-at s i h) at left)
+
+  -- none is left, or half a pair
+  pub all-passed : i ≤ length s → length s < i + 2 → fine && eqb i (length s) ≡ allThree s
+  unfolding allThree
+  all-passed h k = go (eqb i (length s)) refl
+    where
+      go : (b : Bool) → eqb i (length s) ≡ b → fine && b ≡ allThree s
+      go true e =
+          let end : drop i s ≡ [] = drop-of-length-le s {i = i} (omega (arith, eqb-true i (length s) e)) in
+          rw end at left
+      go false e =
+          let other = eqb-false i (length s) e in
+          let here : i < length s = omega arith in
+          let end : drop (suc i) s ≡ [] = drop-of-length-le s {i = suc i} (omega arith) in
+          rw (drop-cons s i 0 here, end) at left
+
+-- there are three characters for each two octets
+three-pairs : (s : List ℕ) → allThree s ≡ true
+    → (t : List ℕ) × Pairs s t × (k : ℕ) × (length s ≡ 2 * k) × (length t ≡ 3 * k)
+unfolding allThree three
+three-pairs [] e = ([], none, 0, refl, refl)
+three-pairs (x ∷ []) e = absurd (false≢true e)
+three-pairs (x ∷ y ∷ s) e =
+    let both = and-both (isThree (valuesOf (numberOf x y))) (allThree s) e in
+    let r = three-pairs s (both .1) in
+    let t = three (valuesOf (numberOf x y)) ++ r .0 in
+    (t, ofThree x y (both .0) (r .1), suc (r .2), omega (arith, r .3), omega (arith, r .4))
+
+pub three-answered : (s : List ℕ) (room : ℕ) → allThree s ≡ true
+    → cond (leb (0 + length s / 2 * 3) room) (Characters (0 + length s / 2 * 3)) Bad ≡ answered (readC40 s) room
+unfolding answered
+three-answered s room e =
+    let r = three-pairs s e in
+    let n : 0 + length s / 2 * 3 ≡ length (r .0) = omega (arith, r .3, r .4) in
+    rw (pairs-read (r .1), n)

@@ -6,7 +6,7 @@ ghost use Prim.Native.Nat.{_+_, _≤_};
 ghost use lib.Dec.{leb};
 ghost use lib.ListN.{length, getD};
 ghost use Rattle.c40.specs.Reader.{readC40, lastPair};
-ghost use Rattle.c40.specs.Inner.Left.{answered, fitted};
+ghost use Rattle.c40.specs.Inner.Left.{answered, fitted, allThree};
 use crate::pair::is_one;
 use crate::pair::is_three;
 use crate::pair::is_two;
@@ -45,8 +45,21 @@ fn last(s: &[u8], i: usize, n: usize, room: usize) -> Counted
     Counted::Bad
 }
 
+// Pairs of three characters and nothing else. The loop goes to the end in any case: so the compiler takes many pairs at a time.
+fn all_three(s: &[u8]) -> bool
+    ensures { λ r. ⌜ r ≡ allThree (now (s .entry)) ⌝ }
+{
+    let mut fine = true;
+    let mut i = 0;
+    while 2 <= s.len() - i {
+        fine = fine & is_three(values_at(s, i));
+        i += 2;
+    }
+    fine & (i == s.len())
+}
+
 // Pairs of three characters up to the end, or to another pair, which must be the last.
-pub(crate) fn measured(s: &[u8], room: usize) -> Counted
+fn paired(s: &[u8], room: usize) -> Counted
     ensures { λ r. ⌜ r ≡ answered (readC40 (now (s .entry))) room ⌝ }
 {
     let mut i = 0;
@@ -69,4 +82,14 @@ pub(crate) fn measured(s: &[u8], room: usize) -> Counted
         return Counted::Bad;
     }
     Counted::Characters(n)
+}
+
+// As a rule there are pairs of three alone.
+pub(crate) fn measured(s: &[u8], room: usize) -> Counted
+    ensures { λ r. ⌜ r ≡ answered (readC40 (now (s .entry))) room ⌝ }
+{
+    if all_three(s) {
+        return behind(0, s.len() / 2 * 3, room);
+    }
+    paired(s, room)
 }

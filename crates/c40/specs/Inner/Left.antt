@@ -1,13 +1,13 @@
 -- What is counted of a reading, and what is read from a place on, behind n characters that were read before it.
 use Prim.Native.Nat.{ℕ, _+_, _≤_}
-use mathlib.Core.Bool.{cond}
-use mathlib.Core.List.{List, []}
+use mathlib.Core.Bool.{Bool, true, false, cond, _&&_}
+use mathlib.Core.List.{List, [], _∷_}
 use lib.Dec.{leb}
 use lib.ListN.{length, drop, getD}
 use Rattle.c40.specs.declared.pair.Triple.{Triple}
 use Rattle.c40.specs.declared.measure.Counted.{Counted}
 use Rattle.c40.specs.declared.measure.Counted.the-variants.{Characters, Bad}
-use Rattle.c40.specs.Reader.{Reading, characters, noImage, numberOf, valuesOf, readC40}
+use Rattle.c40.specs.Reader.{Reading, characters, noImage, numberOf, valuesOf, isThree, readC40}
 
 -- how many characters, where it is an image and there is room for them
 unfoldable pub answered : Reading → ℕ → Counted
@@ -26,6 +26,12 @@ textOf noImage = []
 
 unfoldable pub textFrom : List ℕ → ℕ → List ℕ
 textFrom s i = textOf (readC40 (drop i s))
+
+-- pairs of three characters and nothing else
+unfoldable pub allThree : List ℕ → Bool
+allThree [] = true
+allThree (x ∷ []) = false
+allThree (x ∷ y ∷ s) = isThree (valuesOf (numberOf x y)) && allThree s
 
 -- the values in the pair at a place
 unfoldable pub valuesAt : List ℕ → ℕ → Triple
