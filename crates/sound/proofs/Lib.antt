@@ -1,4 +1,3 @@
 pub mod Rooms  -- the room of each field, and the characters behind the ninth
 pub mod Solid  -- characters that are no fillers
-pub mod Sixteens  -- fields with fillers behind them
 pub mod SoundRecord  -- a sound record taken apart

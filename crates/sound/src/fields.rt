@@ -1,9 +1,6 @@
 // The rules of the text, asked of a record's fields.
 ghost use mathlib.Core.Path.{_≡_};
-ghost use Prim.Native.Nat.{_≤_};
-ghost use lib.ListN.{length};
-ghost use Rattle.zone.specs.Alphabet.{every, isCharacter};
-ghost use Rattle.field.specs.Letters.{nameRule};
+ghost use Rattle.zone.specs.Alphabet.{every};
 ghost use Rattle.sound.specs.Sound.{isHeld, isSolid, isNumber, isDocument, isHolder};
 use field::code::is_code;
 use field::date::is_birth;
@@ -43,32 +40,11 @@ fn all_solid(s: &[u8]) -> bool
     fine
 }
 
-// Characters of the alphabet, with fillers to whole sixteens, so that the compiler takes sixteen at a time.
-fn all_characters_by_sixteens(s: &[u8]) -> bool
-    requires { ⌜ length (now s) ≤ 32 ⌝ }
-    ensures { λ r. ⌜ r ≡ every isCharacter (now (s .entry)) ⌝ }
-{
-    let mut whole = [FILLER; 32];
-    lent::copy(&mut whole, s);
-    all_characters(&whole)
-}
-
-// A name, likewise.
-fn is_name_by_sixteens(s: &[u8]) -> bool
-    requires { ⌜ (1 ≤ length (now s)) × (length (now s) ≤ 48) ⌝ }
-    ensures { λ r. ⌜ r ≡ nameRule (now (s .entry)) ⌝ }
-{
-    let mut whole = [FILLER; 48];
-    lent::copy(&mut whole, s);
-    is_name(&whole)
-}
-
 fn is_number(s: &[u8], n: usize) -> bool
-    requires { ⌜ length (now s) ≤ 32 ⌝ }
     ensures { λ r. ⌜ r ≡ isNumber (now (s .entry)) n ⌝ }
 {
     let further = lent::part(lent::part(s, 0, n), Form::NINE, s.len());
-    all_characters_by_sixteens(s) & ((lent::octet(s, 0) != FILLER) & all_solid(further))
+    all_characters(s) & ((lent::octet(s, 0) != FILLER) & all_solid(further))
 }
 
 // Code, issuing state and number.
@@ -89,5 +65,5 @@ pub fn is_holder(r: Record) -> bool
     let held = is_held(form.name_width(), &r.name, r.name_len);
     is_state(&r.nationality)
         & (is_birth(&r.birth)
-            & (is_sex(r.sex) & (is_expiry(&r.expiry) & (held & is_name_by_sixteens(&r.name)))))
+            & (is_sex(r.sex) & (is_expiry(&r.expiry) & (held & is_name(&r.name)))))
 }

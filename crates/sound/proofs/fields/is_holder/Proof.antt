@@ -13,7 +13,7 @@ returns c =
     let state = birth .before .before .before .before in
     let held = state .before .before .before .before in
     rw (
-      c .is-name-by-sixteens .ensures,
+      c .is-name .ensures,
       expiry .is-expiry .ensures,
       sex .is-sex .ensures,
       birth .is-birth .ensures,

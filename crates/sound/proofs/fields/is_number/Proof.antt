@@ -22,7 +22,7 @@ is-number-spec =
     rw (
       c .all-solid .ensures,
       c .before .octet .ensures,
-      c .before .before .all-characters-by-sixteens .ensures,
+      c .before .before .all-characters .ensures,
       c .before .before .before .part2 .ensures,
       c .before .before .before .before .part .ensures,
       from-tenth (a .n) (now (a .s)),
