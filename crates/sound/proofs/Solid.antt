@@ -1,12 +1,12 @@
 -- Characters that are no fillers.
 use Prim.Native.Nat.{ℕ, _-_, zero, suc, _+_, _≤_, _<_}
-use mathlib.Core.Path.{_≡_, refl, ap, sym, _∙_}
-use mathlib.Core.Bool.{true, false, Bool, cond, not, _&&_}
+use mathlib.Core.Path.{_≡_, refl}
+use mathlib.Core.Bool.{true, false, Bool, cond, _&&_}
 use borrow.Author.Tests.{not-true}
 use mathlib.Core.List.{List, [], _∷_, _++_}
 use native.Mathlib.Omega.{arith}
-use lib.Dec.{eqb, eqb·suc-zero, eqb·zero-suc, eqb·suc-suc}
-use lib.ListN.{length, take, drop, getD}
+use lib.Dec.{eqb, eqb·suc-zero}
+use lib.ListN.{length, take}
 use Rattle.zone.specs.Alphabet.{isFiller, first, firstFiller, every}
 use Rattle.sound.specs.Sound.{isSolid}
 use Rattle.lent.proofs.Bools.{and-both}
@@ -59,40 +59,3 @@ first-padded (suc n) [] e h = rw (padded-nil (suc n))
 first-padded (suc n) (c ∷ s) e h =
     let both = and-both (isSolid c) (every isSolid s) e in
     rw (padded-cons n c s, solid c (both .0), first-padded n s (both .1) (omega arith))
-
--- ---- where the characters end
-
-pub none-trimmed : (s : List ℕ) → eqb (trimmedLength s) 0 ≡ every isFiller s
-unfolding trimmedLength every
-none-trimmed [] = refl
-none-trimmed (c ∷ s) =
-    go (isFiller c && eqb (trimmedLength s) 0) (trimmedLength s) ∙ ap (λ (x : Bool). isFiller c && x) (none-trimmed s)
-  where
-    go : (b : Bool) (t : ℕ) → eqb (cond b 0 (suc t)) 0 ≡ b
-    go true t = refl
-    go false t = eqb·suc-zero t
-
--- a filler before nothing but fillers ends nowhere, and any other character moves the end by one
-later : (f : Bool) (t n : ℕ) → eqb (cond (f && eqb t 0) 0 (suc t)) (suc (suc n)) ≡ eqb t (suc n)
-later false t n = eqb·suc-suc t (suc n)
-later true zero n = eqb·zero-suc (suc n) ∙ sym (eqb·zero-suc n)
-later true (suc t) n = rw (eqb·suc-zero t) (eqb·suc-suc (suc t) (suc n))
-
-here : (f : Bool) (t : ℕ) → eqb (cond (f && eqb t 0) 0 (suc t)) 1 ≡ not f && eqb t 0
-here false t = eqb·suc-suc t 0
-here true zero = refl
-here true (suc t) = rw (eqb·suc-zero t) (eqb·suc-suc (suc t) 0 ∙ eqb·suc-zero t)
-
-ends-behind : (s : List ℕ) (n : ℕ) → n < length s
-    → eqb (trimmedLength s) (suc n) ≡ not (isFiller (getD s n 0)) && every isFiller (drop (suc n) s)
-unfolding trimmedLength
-ends-behind [] n h = absurd (omega arith)
-ends-behind (c ∷ s) zero h = here (isFiller c) (trimmedLength s) ∙ ap (λ (x : Bool). not (isFiller c) && x) (none-trimmed s)
-ends-behind (c ∷ s) (suc n) h = later (isFiller c) (trimmedLength s) n ∙ ends-behind s n (omega arith)
-
--- the first n end in no filler, and all that follow are
-pub ends-there : (s : List ℕ) (n : ℕ) → 1 ≤ n → n ≤ length s
-    → eqb (trimmedLength s) n ≡ not (isFiller (getD s (n - 1) 0)) && every isFiller (drop n s)
-ends-there s n h k =
-    let e : suc (n - 1) ≡ n = omega arith in
-    rw e at (ends-behind s (n - 1) (omega arith))

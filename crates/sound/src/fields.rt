@@ -10,21 +10,15 @@ use field::letters::is_sex;
 use field::letters::is_state;
 use zone::alphabet::FILLER;
 use zone::alphabet::all_characters;
-use zone::alphabet::all_fillers;
 use zone::form::Form;
 use zone::record::Record;
+use zone::record::trimmed_length;
 
-// n characters, not none and at most so many, that end in no filler, and fillers past them.
+// n characters, not none and at most so many, and fillers past them.
 fn is_held(most: usize, s: &[u8], n: usize) -> bool
     ensures { λ r. ⌜ r ≡ isHeld most (now (s .entry)) n ⌝ }
 {
-    if n == 0 {
-        return false;
-    }
-    if s.len() < n {
-        return false;
-    }
-    (n <= most) & ((s[n - 1] != FILLER) & all_fillers(&s[n..]))
+    (1 <= n) & ((n <= most) & (trimmed_length(s) == n))
 }
 
 // No filler among them.
@@ -52,9 +46,12 @@ pub fn is_document(r: Record) -> bool
     ensures { λ b. ⌜ b ≡ isDocument r ⌝ }
 {
     let form = r.form;
+    let code = r.code;
+    let state = r.state;
+    let number = r.number;
     let n = r.number_len;
-    let held = is_held(form.longest_number(), &r.number, n);
-    is_code(form, &r.code) & (is_state(&r.state) & (held & is_number(&r.number, n)))
+    let held = is_held(form.longest_number(), &number, n);
+    is_code(form, &code) & (is_state(&state) & (held & is_number(&number, n)))
 }
 
 // Nationality, birth, sex, expiry and name.
@@ -62,8 +59,11 @@ pub fn is_holder(r: Record) -> bool
     ensures { λ b. ⌜ b ≡ isHolder r ⌝ }
 {
     let form = r.form;
-    let held = is_held(form.name_width(), &r.name, r.name_len);
-    is_state(&r.nationality)
-        & (is_birth(&r.birth)
-            & (is_sex(r.sex) & (is_expiry(&r.expiry) & (held & is_name(&r.name)))))
+    let nationality = r.nationality;
+    let birth = r.birth;
+    let expiry = r.expiry;
+    let name = r.name;
+    let held = is_held(form.name_width(), &name, r.name_len);
+    is_state(&nationality)
+        & (is_birth(&birth) & (is_sex(r.sex) & (is_expiry(&expiry) & (held & is_name(&name)))))
 }
