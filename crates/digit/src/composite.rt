@@ -15,12 +15,12 @@ use crate::weight;
 use zone::form::Form;
 use zone::form::Piece;
 
-// The fields that have a check digit in every form, each gone over once; and what all else that the composite covers comes to,
-// modulo 10.
+// The fields that have a check digit, each gone over once; and what the composite covers beside number and dates, modulo 10.
 pub struct Sums {
     pub number: Thirds,
     pub birth: Thirds,
     pub expiry: Thirds,
+    pub personal: Thirds,
     pub others: u8,
 }
 
@@ -67,11 +67,14 @@ impl Sums {
         let number = Thirds::counted(counts, at.number, Form::NINE as u8);
         let birth = Thirds::counted(counts, at.birth, Form::DATE as u8);
         let expiry = Thirds::counted(counts, at.expiry, Form::DATE as u8);
+        let wide = form.personal_width();
+        let personal = Thirds::counted(counts, at.personal, wide as u8);
         let others = others(form, counts);
         Sums {
             number,
             birth,
             expiry,
+            personal,
             others,
         }
     }

@@ -1,7 +1,8 @@
 // The record of a text: each field copied to its place in the record, with fillers behind it.
 ghost use mathlib.Core.Path.{_≡_};
 ghost use mathlib.Core.List.{_++_};
-ghost use lib.ListN.{length, take, drop};
+ghost use lib.ListN.{length, take, drop, getD};
+ghost use Rattle.zone.specs.Alphabet.{filler};
 ghost use Rattle.zone.specs.Form.{field};
 ghost use Rattle.zone.specs.Part.{name};
 ghost use Rattle.zone.specs.Record.{padded, trimmed};
@@ -15,20 +16,25 @@ use zone::form::Form;
 use zone::record::Record;
 use zone::record::trimmed_length;
 
+// The character at a place, and a filler past the end.
+fn or_filler(s: &[u8], i: usize) -> u8
+    ensures { λ r. ⌜ r ≡ getD (now (s .entry)) i filler ⌝ }
+{
+    if i < s.len() { s[i] } else { FILLER }
+}
+
 fn code_at(text: &[u8], at: usize) -> [u8; Form::CODE]
     ensures { λ r. ⌜ r ≡ padded codeRoom (take codeRoom (drop at (now (text .entry)))) ⌝ }
 {
-    let mut room = [FILLER; Form::CODE];
-    lent::copy(&mut room, lent::part(text, at, Form::CODE));
-    room
+    let s = lent::part(text, at, Form::CODE);
+    [or_filler(s, 0), or_filler(s, 1)]
 }
 
 fn state_at(text: &[u8], at: usize) -> [u8; Form::STATE]
     ensures { λ r. ⌜ r ≡ padded stateRoom (take stateRoom (drop at (now (text .entry)))) ⌝ }
 {
-    let mut room = [FILLER; Form::STATE];
-    lent::copy(&mut room, lent::part(text, at, Form::STATE));
-    room
+    let s = lent::part(text, at, Form::STATE);
+    [or_filler(s, 0), or_filler(s, 1), or_filler(s, 2)]
 }
 
 fn date_at(text: &[u8], at: usize) -> [u8; Form::DATE]
@@ -46,13 +52,6 @@ fn name_chars(form: Form, text: &[u8]) -> [u8; Form::NAME]
     let mut room = [FILLER; Form::NAME];
     lent::copy(&mut room, lent::part(text, at.name, form.name_width()));
     room
-}
-
-fn name_length(form: Form, text: &[u8]) -> usize
-    ensures { λ r. ⌜ r ≡ length (trimmed (field form name (now (text .entry)))) ⌝ }
-{
-    let at = form.places();
-    trimmed_length(lent::part(text, at.name, form.name_width()))
 }
 
 // The nine and the further characters, joined.
@@ -114,7 +113,7 @@ pub fn record_by(form: Form, text: &[u8], span: Span) -> Record
     let sex = lent::octet(text, at.sex);
     let expiry = date_at(text, at.expiry);
     let name = name_chars(form, text);
-    let name_len = name_length(form, text);
+    let name_len = trimmed_length(&name);
     Record {
         form,
         code,

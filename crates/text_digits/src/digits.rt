@@ -69,7 +69,8 @@ fn is_left_out(number: &[u8], check: u8) -> bool
 }
 
 // Only some forms have a personal number.
-fn personal_digit(form: Form, text: &[u8]) -> Verdict
+fn personal_digit(form: Form, text: &[u8], sums: Sums) -> Verdict
+    requires { ⌜ sums ≡ sumsOf form (now text) ⌝ }
     ensures { λ r. ⌜ ((span : Span) → outcomeOf r ≡
         ifHas form personal (digitCheck form (now (text .entry)) span personalCheck)) ⌝ }
 {
@@ -80,11 +81,8 @@ fn personal_digit(form: Form, text: &[u8]) -> Verdict
         if is_left_out(number, lent::octet(text, at.personal_check)) {
             Verdict::Passed
         } else {
-            field_digit(
-                text,
-                at.personal_check,
-                Thirds::of(text, at.personal, wide as u8),
-            )
+            let field = sums.personal;
+            field_digit(text, at.personal_check, field)
         }
     } else {
         Verdict::Passed
@@ -156,6 +154,6 @@ pub fn digits(form: Form, text: &[u8], span: Span) -> Verdict
     let number = number_digit(form, text, span, sums);
     let further = further_digit(form, text, span, sums);
     let dates = dates_digit(form, text, sums);
-    let last = personal_digit(form, text).or_else(composite_digit(form, text, sums));
+    let last = personal_digit(form, text, sums).or_else(composite_digit(form, text, sums));
     number.or_else(in_turn(at.optional < at.birth, further, dates).or_else(last))
 }

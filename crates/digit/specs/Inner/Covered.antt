@@ -2,7 +2,7 @@
 use Prim.Native.Nat.{ℕ, _+_, _*_, _%_}
 use mathlib.Core.List.{List}
 use lib.ListN.{getD}
-use Rattle.zone.specs.Part.{number, numberCheck, birth, birthCheck, expiry, expiryCheck}
+use Rattle.zone.specs.Part.{number, numberCheck, birth, birthCheck, expiry, expiryCheck, personal}
 use Rattle.zone.specs.Form.{start, field, cut}
 use Rattle.zone.specs.declared.form.Form.{Form}
 use Rattle.zone.specs.declared.form.Form.the-variants.{Td1, Td2, Td3}
@@ -28,5 +28,6 @@ sumsOf f t = record {
   number = thirdsOf (field f number t);
   birth = thirdsOf (field f birth t);
   expiry = thirdsOf (field f expiry t);
+  personal = thirdsOf (field f personal t);
   others = othersSum f t % 10;
 }

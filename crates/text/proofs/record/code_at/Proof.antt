@@ -1,21 +1,27 @@
--- A copy over fillers.
+-- Character by character.
 use borrow.Author.Needs.{needs}
+use mathlib.Core.Path.{sym}
 use denote.Ref.{now}
 use lib.ListN.{take, drop}
-use Rattle.zone.proofs.Padded.{copied-padded}
+use Rattle.text.proofs.Filled.{two-filled}
 use Rattle.text.proofs.record.code_at.Statement.{statement}
 use Rattle.text.proofs.record.code_at.Tie as tie
 
 returns : tie.Need-returns
 returns c =
-    let a = c .before .before .before .before .before .args in
-    rw (c .before .copy .ensures, c .before .before .part .ensures) (copied-padded 2 (take 2 (drop (a .at) (now (a .text)))))
+    let a = c .before .before .before .before .args in
+    rw (
+      c .or-filler2 .ensures,
+      c .before .or-filler .ensures,
+      c .before .before .part .ensures,
+    )
+    (sym (two-filled (take 2 (drop (a .at) (now (a .text))))))
 
 pub code-at-spec : {M : Type 1} → statement M
 code-at-spec =
     tie.close
     (tie.spec
-    (λ c. search needs)
+    (λ c κs. search needs)
     (λ c κs. search needs)
     (λ c κs. search needs)
     returns)

@@ -4,20 +4,23 @@ use Rattle.zone.proofs.Widths.{fixed}
 use Rattle.zone.specs.Form.{field}
 use Rattle.zone.specs.Inner.Places.{placesOf}
 use Rattle.text.specs.Read.{recordBy}
+use Rattle.text.proofs.Filled.{name-ends}
 use Rattle.text.proofs.record.record_by.Statement.{statement}
 use Rattle.text.proofs.record.record_by.Tie as tie
 
 returns : tie.Need-returns
 unfolding recordBy placesOf field
 returns c =
-    let early = c .before .before .before .before .before in
-    let widths = fixed (early .before .before .before .before .before .before .before .args .form) in
+    let early = c .before .before .before .before .before .before in
+    let form = early .before .before .before .before .before .before .before .args .form in
+    let widths = fixed form in
     rw (
-      c .name-length .ensures,
-      c .before .name-chars .ensures,
-      c .before .before .date-at2 .ensures,
-      c .before .before .before .octet .ensures,
-      c .before .before .before .before .date-at .ensures,
+      c .trimmed-length .ensures,
+      c .before .before .name-chars .ensures,
+      name-ends form,
+      c .before .before .before .date-at2 .ensures,
+      c .before .before .before .before .octet .ensures,
+      c .before .before .before .before .before .date-at .ensures,
       early .state-at2 .ensures,
       early .before .number-length .ensures,
       early .before .before .number-chars .ensures,
@@ -45,5 +48,6 @@ record-by-spec =
     (λ c κs. search needs)
     (λ c κs. search needs)
     (λ c κs. search needs)
+    (λ c. search needs)
     (λ c κs. search needs)
     returns)

@@ -1,11 +1,13 @@
--- Where the form has the field: nothing more where it is left out, else one call on the field.
-use native.Mathlib.Omega.{arith}
+-- Where the form has the field: nothing more where it is left out, else its digit.
+use mathlib.Core.Path.{ap}
 use borrow.Author.Needs.{needs}
+use denote.Ref.{now}
 use borrow.Author.Tests.{lt-ltb, le-ltb}
 use Rattle.zone.specs.Part.{personal}
 use Rattle.zone.specs.Form.{field}
-use Rattle.zone.proofs.Widths.{within, total-le}
 use Rattle.zone.specs.Inner.Places.{placesOf}
+use Rattle.digit.specs.Inner.Covered.{sumsOf}
+use Rattle.digit.specs.declared.composite.Sums.{Sums}
 use Rattle.text_digits.specs.Digits.{isLeftOut, personalDigit, digitCheck}
 use Rattle.text_digits.specs.Inner.Checks.{ifHas}
 use Rattle.text_digits.proofs.digits.personal_digit.Statement.{statement}
@@ -28,25 +30,23 @@ returns c =
     rw (has, out)
 
 returns-2 : tie.Need-returns-2
-unfolding ifHas digitCheck personalDigit isLeftOut placesOf field
+unfolding ifHas digitCheck personalDigit isLeftOut placesOf field sumsOf
 returns-2 c =
     λ span.
-    let places = c .before .before .before .before .before .before .before .before .places .ensures in
-    let wide = c .before .before .before .before .before .before .before .personal-width .ensures in
-    let has = rw wide at (lt-ltb _ _ (c .before .before .before .before .before .before .if1 .taken)) in
+    let tested = c .before .before in
+    let places = tested .before .before .before .before .before .before .places .ensures in
+    let wide = tested .before .before .before .before .before .personal-width .ensures in
+    let has = rw wide at (lt-ltb _ _ (tested .before .before .before .before .if1 .taken)) in
     let in-text = rw (
-      c .before .before .before .is-left-out .ensures,
-      c .before .before .before .before .octet .ensures,
-      c .before .before .before .before .before .part .ensures,
+      tested .before .is-left-out .ensures,
+      tested .before .before .octet .ensures,
+      tested .before .before .before .part .ensures,
       wide,
       places,
-    ) at (c .before .before .if2 .left) in
-    rw (c .field-digit .ensures _ (c .before .of .ensures), wide, places, has, in-text)
-
-cast-of : tie.Need-cast-of
-cast-of c =
-    let form = c .before .before .before .before .before .before .before .before .args .form in
-    omega (arith, c .before .before .before .before .before .personal-width .ensures, within form personal, total-le form)
+    ) at (tested .if2 .left) in
+    let start = tested .before .before .before .before .before .before .before .before in
+    let gone = ap (λ (s : Sums). s .personal) (start .pre) in
+    rw (c .field-digit .ensures (field (start .args .form) personal (now (start .args .text))) gone, places, has, in-text)
 
 pub personal-digit-spec : {M : Type 1} → statement M
 unfolding ifHas
@@ -57,8 +57,6 @@ personal-digit-spec =
     (λ c κs. search needs)
     (λ c κs. search needs)
     (λ c κs. search needs)
-    (λ c κs. search needs)
-    cast-of
     (λ c κs. search needs)
     (λ c κs. search needs)
     returns

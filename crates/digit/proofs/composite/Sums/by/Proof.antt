@@ -2,9 +2,9 @@
 use native.Mathlib.Omega.{arith}
 use borrow.Author.Needs.{needs}
 use denote.Ref.{now}
-use Rattle.zone.specs.Part.{number, birth, expiry}
+use Rattle.zone.specs.Part.{number, birth, expiry, personal}
 use Rattle.zone.specs.Rooms.{dateRoom, nine}
-use Rattle.zone.specs.Form.{start, field}
+use Rattle.zone.specs.Form.{start, width, field}
 use Rattle.zone.specs.Inner.Places.{placesOf}
 use Rattle.zone.proofs.Widths.{fixed, within, total-le}
 use Rattle.digit.specs.Inner.Covered.{sumsOf}
@@ -16,23 +16,32 @@ returns : tie.Need-returns
 unfolding sumsOf field placesOf
 returns c =
     λ t e.
-    let a = c .before .before .before .before .before .before .args in
+    let early = c .before .before .before in
+    let a = early .before .before .before .before .before .args in
     let f = a .form in
     let s = now (a .counts) in
     let wide = fixed f in
     rw (
       c .others .ensures t e,
-      c .before .counted3 .ensures,
-      c .before .before .counted2 .ensures,
-      c .before .before .before .counted .ensures,
-      c .before .before .before .before .places .ensures,
+      c .before .counted4 .ensures,
+      c .before .before .personal-width .ensures,
+      early .counted3 .ensures,
+      early .before .counted2 .ensures,
+      early .before .before .counted .ensures,
+      early .before .before .before .places .ensures,
       same-thirds t s e nine (start f number) (omega (arith, within f number, total-le f, wide .number-width)),
       same-thirds t s e dateRoom (start f birth) (omega (arith, within f birth, total-le f, wide .birth-width)),
       same-thirds t s e dateRoom (start f expiry) (omega (arith, within f expiry, total-le f, wide .expiry-width)),
+      same-thirds t s e (width f personal) (start f personal) (omega (arith, within f personal, total-le f)),
       wide .number-width,
       wide .birth-width,
       wide .expiry-width,
     )
+
+cast-counted-4 : tie.Need-cast-counted-4
+cast-counted-4 c =
+    let f = c .before .before .before .before .before .before .args .form in
+    omega (arith, c .personal-width .ensures, within f personal, total-le f)
 
 pub by-spec : {M : Type 1} → statement M
 by-spec =
@@ -44,6 +53,9 @@ by-spec =
     (λ c. search needs)
     (λ c κs. search needs)
     (λ c. search needs)
+    (λ c κs. search needs)
+    (λ c κs. search needs)
+    cast-counted-4
     (λ c κs. search needs)
     (λ c κs. search needs)
     returns)
