@@ -2,15 +2,16 @@
 use Prim.Native.Nat.{ℕ, zero, suc, _+_, _-_, _%_, _<_}
 use mathlib.Core.Path.{_≡_, refl}
 use mathlib.Core.Bool.{true, false}
-use mathlib.Core.List.{List}
+use mathlib.Core.List.{List, [], _∷_}
 use mathlib.Core.Logic.{_↔_}
 use native.Mathlib.Nat.{mod-lt}
 use native.Mathlib.Omega.{arith}
-use borrow.Author.Tests.{ne-eqb, le-leb}
-use lib.Dec.{lit<}
+use borrow.Author.Tests.{ne-eqb, le-leb, eqb-true}
+use lib.Dec.{eqb, lit<}
 use lib.ListN.{replicate}
 use Prim.Native.Char.{code}
-use Rattle.zone.specs.Alphabet.{isDigit, isLetter, isFiller, isCharacter, filler}
+use Rattle.lent.proofs.Bools.{and-both}
+use Rattle.zone.specs.Alphabet.{isDigit, isLetter, isFiller, isCharacter, filler, every}
 use Rattle.digit.specs.Check.{value, sumFrom, checkOf, digitOf}
 use Rattle.digit.specs.Inner.Thirds.{asDigit}
 
@@ -18,6 +19,14 @@ pub sum-fillers : (i n : ℕ) → sumFrom i (replicate n filler) ≡ 0
 unfolding sumFrom value isDigit isLetter
 sum-fillers i zero = refl
 sum-fillers i (suc n) = rw (sum-fillers (suc i) n) (omega arith)
+
+-- the same of characters that are fillers
+pub fillers-sum : (i : ℕ) (s : List ℕ) → every isFiller s ≡ true → sumFrom i s ≡ 0
+unfolding sumFrom every isFiller value isDigit isLetter
+fillers-sum i [] e = refl
+fillers-sum i (c ∷ s) e =
+    let both = and-both (eqb c filler) (every isFiller s) e in
+    rw (eqb-true c filler (both .0), fillers-sum (suc i) s (both .1)) (omega arith)
 
 -- fillers have 0
 pub fillers-digit : (n : ℕ) → digitOf (replicate n filler) ≡ code "0"

@@ -57,14 +57,14 @@ answer-outcome (value r) = refl
 answer-outcome (refusal n p) = refl
 
 module _ (w : List ℕ) where
-  outcome-through : readPresentation w .outcome ≡ outcomeIn (andThen (textStretch w) (onwards readText w))
+  outcome-through : readPresentation w .outcome ≡ outcomeIn (andThen (textStretch w) (onwards w))
   unfolding readPresentation
   outcome-through = answer-outcome (readStages w) ∙ ap outcomeIn (through-text w)
 
   presentation-carries : Each (Carries w) (readPresentation w .outcome)
   unfolding onwards
   presentation-carries n q e =
-      each-then (Carries w) (textStretch w) (onwards readText w)
+      each-then (Carries w) (textStretch w) (onwards w)
       (before-text (Carries w) (length w) (λ n q h k. (h, k)) w (le-refl (length w)))
       (λ v at. moved-each (Carries w) (v .from) (readText (cut w v) .outcome) (readText (cut w v) .kept) (carries w v at))
       n q (sym outcome-through ∙ e)
@@ -76,7 +76,7 @@ module _ (w : List ℕ) where
     λ e. presentation-carries (expecting d) q e .0,
     λ t.
         outcome-through
-        ∙ (ap (λ (m : Read Stretch). outcomeIn (andThen m (onwards readText w))) (t .stands)
+        ∙ (ap (λ (m : Read Stretch). outcomeIn (andThen m (onwards w))) (t .stands)
         ∙ (ap (λ (o : Outcome). outcomeIn (moved (t .held .from) (record { outcome = o; kept = readText (cut w (t .held)) .kept })))
         (t .text-refused)
         ∙ ap (refused (expecting d)) (sym (t .there)))),

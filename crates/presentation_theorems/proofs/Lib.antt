@@ -35,8 +35,6 @@ pub mod Refusals
 -- DEMAND 2: the digit that a refusal 9 carries is the text's (`expected-carried`, `presentation-nine`); DEMAND 1: its number and
 -- its place (`presentation-numbered`, `presentation-within`)
 pub mod Expected
--- REQUEST 2026-02: what it lets in and what stays (`newly-presented`, `left-out-presented` and others)
-pub mod LeftOut
 -- stage 3 as rows
 pub mod EfComRows
 -- stage 4 as rows

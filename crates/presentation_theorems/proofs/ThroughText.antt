@@ -1,5 +1,5 @@
--- Reading a presentation is finding its text (`textStretch`) and then reading it (`through-text`), whatever reads it; and where
--- the text stands (`text-stands`).
+-- Reading a presentation is finding its text (`textStretch`) and then reading it (`through-text`); and where the text stands
+-- (`text-stands`).
 use Prim.Native.Nat.{ℕ, _≤_}
 use mathlib.Core.Path.{_≡_, refl, ap}
 use mathlib.Core.List.{List, []}
@@ -7,7 +7,7 @@ use native.Mathlib.Omega.{arith}
 use lib.ListN.{length, take, length-take}
 use Rattle.refusal.specs.Outcome.{Outcome, passed, refused}
 use Rattle.zone.specs.declared.record.Record.{Record}
-use Rattle.text.specs.Read.{Answer, readText}
+use Rattle.text.specs.Read.{readText}
 use Rattle.tlv.specs.declared.Stretch.{Stretch}
 use Rattle.tlv.specs.Read.{Read, value, refusal, andThen, checked}
 use Rattle.tlv.specs.Element.{element}
@@ -40,43 +40,28 @@ unfolding checked andThen
 checked-behind passed m g k e = e
 checked-behind (refused n p) m g k e = refl
 
--- over any reading of the text
-module _ (read : List ℕ → Answer) (w : List ℕ) where
+module _ (w : List ℕ) where
   unfoldable pub onwards : Stretch → Read Record
-  onwards v = moved (v .from) (read (cut w v))
+  onwards v = moved (v .from) (readText (cut w v))
 
   text-behind : (k at : ℕ)
-      → andThen (element (take k w) at Tag.text) (λ v.
-      checked (endCheck (take k w) (v .to)) (moved (v .from) (read (cut (take k w) v))))
+      → textAt (take k w) at
       ≡ andThen (andThen (element (take k w) at Tag.text) (λ v. checked (endCheck (take k w) (v .to)) (value v))) onwards
-  unfolding onwards andThen
+  unfolding textAt onwards andThen
   text-behind k at = then-behind (element (take k w) at Tag.text) _ onwards _ (λ v e.
       let in-s = value-within (take k w) at Tag.text v e in
       checked-behind (endCheck (take k w) (v .to)) (value v) onwards _
-      (ap (λ (t : List ℕ). moved (v .from) (read t)) (cut-same w k v (omega (arith, in-s .2, length-take k w)) (in-s .1))))
+      (ap (λ (t : List ℕ). moved (v .from) (readText t)) (cut-same w k v (omega (arith, in-s .2, length-take k w)) (in-s .1))))
 
-  pub stages-behind :
-      andThen (walked w) (λ o.
-      andThen (readEfCom w (o .efcom)) (λ tags.
-      andThen (readObject w (o .object)) (λ es.
-      andThen (files w (o .object .to)) (λ fs.
-      checked (filesCheck w (cut w tags) [] es fs)
-      (andThen (firstFile w 1 fs) (λ f.
-      andThen (element (take (f .held .to) w) (f .held .from) Tag.text) (λ v.
-      checked (endCheck (take (f .held .to) w) (v .to)) (moved (v .from) (read (cut (take (f .held .to) w) v))))))))))
-      ≡ andThen (textStretch w) onwards
-  unfolding textStretch
-  stages-behind =
+  pub through-text : readStages w ≡ andThen (textStretch w) onwards
+  unfolding textStretch readStages decided groupOne
+  through-text =
       then-behind (walked w) _ onwards _ (λ o e.
       then-behind (readEfCom w (o .efcom)) _ onwards _ (λ tags f.
       then-behind (readObject w (o .object)) _ onwards _ (λ es g.
       then-behind (files w (o .object .to)) _ onwards _ (λ fs h.
       checked-behind (filesCheck w (cut w tags) [] es fs) _ onwards _
       (then-behind (firstFile w 1 fs) _ onwards _ (λ file i. text-behind (file .held .to) (file .held .from)))))))
-
-pub through-text : (w : List ℕ) → readStages w ≡ andThen (textStretch w) (onwards readText w)
-unfolding readStages decided groupOne textAt
-through-text w = stages-behind readText w
 
 -- the text stands in the presentation
 pub text-stands : (w : List ℕ) (v : Stretch) → textStretch w ≡ value v → (v .from ≤ v .to) × (v .to ≤ length w)

@@ -2,8 +2,6 @@
 pub mod Presented
 -- where a presentation's text stands, and that the digit of a refusal 9 is that text's
 pub mod Expected
--- reading before request 2026-02
-pub mod Before
 -- the first failing check: the checks of EF.COM, a row for each sentence that can refuse
 pub mod EfComChecks
 -- those of the security object

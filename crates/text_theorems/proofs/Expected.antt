@@ -19,11 +19,14 @@ use Rattle.zone.specs.declared.form.Form.{Form}
 use Rattle.zone.specs.declared.form.Form.the-variants.{Td1, Td2, Td3}
 use Rattle.zone.specs.declared.form.Recognised.{Recognised}
 use Rattle.zone.specs.declared.form.Recognised.the-variants.{As, Unknown}
+use Rattle.zone.specs.Alphabet.{isFiller, every}
 use Rattle.zone.specs.Record.{blank}
 use Rattle.zone.specs.Part.{numberCheck, optional, birth, birthCheck, expiry}
 use Rattle.zone.specs.Part.{expiryCheck, composite, personal, personalCheck, rank, same}
 use Rattle.zone.specs.Form.{formOf, layout, start, startIn, width, widthIn, field, covered}
+use Rattle.zone.proofs.FormByLength.{as-same}
 use Rattle.digit.specs.Check.{sumFrom, checkOf, digitOf}
+use Rattle.digit.proofs.Written.{fillers-sum}
 use Rattle.text_digits.specs.declared.number.Span.{Span}
 use Rattle.text_digits.specs.declared.number.Span.the-variants.{Short, Long, Bad}
 use Rattle.text_digits.specs.Number.{spanOf, checkedBy}
@@ -55,7 +58,7 @@ expiry-covered Td1 t = refl
 expiry-covered Td2 t = refl
 expiry-covered Td3 t = refl
 
-pub personal-covered : (f : Form) (t : List ℕ) → coveredAt f t (start f personalCheck) ≡ field f personal t
+personal-covered : (f : Form) (t : List ℕ) → coveredAt f t (start f personalCheck) ≡ field f personal t
 unfolding coveredAt start startIn layout same rank
 personal-covered Td1 t = refl
 personal-covered Td2 t = refl
@@ -194,10 +197,18 @@ expected-exactly t d p = (
       let k = nine .0 in
       let f : readText t .outcome ≡ refused (expecting k) p = e ∙ ap (λ (n : Why). refused n p) (nine .1) in
       let told = digit-told t k p f in
-      let one : told .0 ≡ h .3 = same-form (sym (told .1) ∙ h .4) in
+      let one : told .0 ≡ h .3 = as-same (told .0) (h .3) (sym (told .1) ∙ h .4) in
       let same : k ≡ d = told .2 .worked-out ∙ ap (λ (g : Form). checkOf (coveredAt g t p)) one ∙ sym (h .5) in
       f ∙ ap (λ (m : ℕ). refused (expecting m) p) same,
 )
-  where
-    same-form : {a b : Form} → As a ≡ As b → a ≡ b
-    same-form q = cc
+
+-- over an empty personal number the expected digit is 0, which document 02, 2026-02, lets `<` stand for
+pub empty-expects-zero : (f : Form) (t : List ℕ) (d : ℕ) → formOf (length t) ≡ As f → every isFiller (field f personal t) ≡ true
+    → readText t .outcome ≡ refused (expecting d) (start f personalCheck) → d ≡ 0
+unfolding checkOf
+empty-expects-zero f t d e none r =
+    let told = digit-told t d (start f personalCheck) r in
+    let one : told .0 ≡ f = as-same (told .0) f (sym (told .1) ∙ e) in
+    told .2 .worked-out
+    ∙ (ap (λ (g : Form). checkOf (coveredAt g t (start f personalCheck))) one
+    ∙ (ap checkOf (personal-covered f t) ∙ rw (fillers-sum 0 (field f personal t) none)))

@@ -16,5 +16,3 @@ pub mod RecordOfText
 pub mod TextOfRecord
 -- DEMAND 2: every sound record is written as a text that reads back as that record (`text-read-back`)
 pub mod RoundTrip
--- REQUEST 2026-02: what it lets in and what stays (`newly-accepted`, `still-accepted`, `left-out-read`, `others-as-before`)
-pub mod LeftOut

@@ -6,6 +6,3 @@ pub mod Ordered
 pub mod Held
 -- the digit that a refusal 9 carries
 pub mod Expected
--- reading before request 2026-02, and what the request lets in
-pub mod Before
-pub mod LeftOut
