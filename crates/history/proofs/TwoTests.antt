@@ -1,0 +1,70 @@
+-- REQUEST 2026-09: for every list of octets today's reader answers what it answers with the two tests put back: behind the tests
+-- before it each always passes.
+use Prim.Native.Nat.{ℕ}
+use mathlib.Core.Path.{_≡_, ap, sym, _∙_}
+use mathlib.Core.List.{List, []}
+use native.Mathlib.Omega.{arith}
+use borrow.Author.Tests.{le-leb}
+use lib.Dec.{leb}
+use lib.ListN.{length, take}
+use Rattle.refusal.specs.Outcome.{unless}
+use Rattle.refusal.proofs.Outcomes.{kept-unless, orElse-assoc, orElse-idle}
+use Rattle.tlv.specs.declared.Stretch.{Stretch}
+use Rattle.tlv.specs.Read.{value, checked}
+use Rattle.tlv.specs.Element.{element}
+use Rattle.tlv.specs.Cut.{cut, endCheck}
+use Rattle.tlv.specs.Tags as Tag
+use Rattle.tlv.proofs.Joined.{then-same}
+use Rattle.efcom.specs.EfCom.{knownFrom, onceFrom, tagsCheck, fromTagList, fromUnicode, fromVersion, readEfCom}
+use Rattle.efcom.proofs.FifteenTags.{fifteen-tags}
+use Rattle.object.specs.Object.{GroupHash, entries, numbersOnce, count, entriesCheck, fromEntryList, fromAlgorithm, readObject}
+use Rattle.object.specs.Object as object
+use Rattle.object.proofs.SixteenEntries.{sixteen-read}
+use Rattle.chip.specs.Presentation.{decided, readStages, readPresentation}
+use Rattle.history.specs.TwoTests as tested
+
+-- ---- stage 3
+
+tags-same : (s : List ℕ) (v : Stretch) (at : ℕ) → tested.tagsCheck s v at ≡ tagsCheck s v
+unfolding tested.tagsCheck tagsCheck
+tags-same s v at =
+    let tags = cut s v in
+    let known = knownFrom (v .from) tags in
+    let once = onceFrom (v .from) [] tags in
+    orElse-assoc known once _
+    ∙ orElse-idle known once _
+    (λ k o. kept-unless _ 11 at (le-leb (length tags) _ (omega (arith, fifteen-tags (v .from) (v .from) tags k o))))
+
+pub efcom-same : (w : List ℕ) (efcom : Stretch) → readEfCom w efcom ≡ tested.readEfCom w efcom
+unfolding readEfCom fromVersion fromUnicode fromTagList tested.readEfCom
+efcom-same w efcom = simp tags-same
+
+-- ---- stage 4
+
+-- of entries that were read
+entries-same : (s : List ℕ) (from at : ℕ) (es : List GroupHash) → entries s from ≡ value es
+    → tested.entriesCheck es at ≡ entriesCheck es at
+unfolding tested.entriesCheck entriesCheck
+entries-same s from at es read =
+    let once = numbersOnce [] es in
+    let least = unless (leb 2 (count es)) 12 at in
+    orElse-assoc once least _
+    ∙ orElse-idle once least _
+    (λ o m. kept-unless _ 12 at (le-leb (count es) _ (omega (arith, sixteen-read s from es read o))))
+
+pub object-same : (w : List ℕ) (o : Stretch) → readObject w o ≡ tested.readObject w o
+unfolding readObject object.fromVersion fromAlgorithm fromEntryList tested.readObject
+object-same w o =
+    let s = take (o .to) w in
+    then-same (element s (o .from) Tag.integer) _ _ (λ version a.
+    ap (checked _) (then-same (element s (version .to) Tag.sequence) _ _ (λ algorithm b.
+    ap (checked _) (then-same (element s (algorithm .to) Tag.sequence) _ _ (λ list c.
+    then-same (entries (take (list .to) s) (list .from)) _ _ (λ es read.
+    ap (λ x. checked x (checked (endCheck s (list .to)) (value es)))
+    (sym (entries-same (take (list .to) s) (list .from) (algorithm .to) es read))))))))
+
+-- ---- all stages
+
+pub presentation-same : (w : List ℕ) → readPresentation w ≡ tested.readPresentation w
+unfolding readPresentation readStages decided tested.readPresentation
+presentation-same w = simp (efcom-same, object-same)
