@@ -4,14 +4,14 @@ use mathlib.Core.Bool.{true}
 use Rattle.refusal.specs.Outcome.{passed}
 use Rattle.zone.specs.Alphabet.{isDigit, isLetter, isFiller, isCharacter, isForeign, every, first, firstForeign}
 use Rattle.zone.specs.Part.{rank, same}
-use Rattle.zone.specs.Form.{layout, partOf, parts, start, startIn, width, widthIn, total, formOf, field, line, covers, pieceOf}
-use Rattle.zone.specs.Form.{pieces, cut, joinedCuts, covered, longest}
+use Rattle.zone.specs.Form.{row, forms, partOf, parts, start, startIn, width, widthIn, firstForm, formOf, field, pieceOf}
+use Rattle.zone.specs.Form.{pieces, cut, joinedCuts, covered}
 use Rattle.zone.specs.Record.{trimmed, trimmedLength, padded}
 use Rattle.zone.specs.Codes.{codeOf}
 use Rattle.digit.specs.Check.{value, weight, sumFrom, checkOf, digitOf}
 use Rattle.field.specs.Date.{pairOf, yearOf, monthOf, dayOf, isLeap, isShort, daysIn, yearRule, monthRule, dayRule, birthRule}
 use Rattle.field.specs.Date.{isKnown, expiryRule}
-use Rattle.field.specs.Code.{isSecond, passportRule, codeRule}
+use Rattle.field.specs.Code.{isSecond, passportRule, kindRule, codeRule}
 use Rattle.field.specs.Letters.{lettersThenFillers, stateRule, sexRule, nameRule, isNameCharacter}
 use Rattle.text_digits.specs.Number.{isLong, spanOf, spanRule, numberRule, numberBy, checkedBy}
 use Rattle.text_digits.specs.Digits.{digitAt, numberDigit, furtherDigit, isLeftOut, personalDigit, digitCheck}
@@ -29,22 +29,22 @@ use Rattle.demands.specs.Examples.{told, isRead, isRefused, isPassed, is
 
 pub starred : allRight examples ≡ true
 unfolding allRight examples isRight isPassed isDigitAt T3 octets checkOf sumFrom value weight isDigit isLetter isFiller birthRule
-    pairOf yearOf monthOf dayOf isLeap isShort daysIn yearRule monthRule dayRule layout start startIn width widthIn field line
-    covers pieceOf pieces cut joinedCuts covered rank same recordBy spanOf isLong longest numberBy trimmed trimmedLength
+    pairOf yearOf monthOf dayOf isLeap isShort daysIn yearRule monthRule dayRule row forms firstForm start startIn width
+    widthIn field pieceOf pieces cut joinedCuts covered rank same recordBy spanOf isLong numberBy trimmed trimmedLength
     padded entryOf bits.octets gathered put puts putKey putRest codeOf formCode sexCode alike told isRead isRefused element
     tagAt tagWidth sizeAt sizeOf sized endsWithin
-    readText readBy answered formOf total verdictBy characters firstForeign first isForeign isCharacter inOrder parts partOf
-    fieldCheck codeRule stateRule numberRule spanRule sexRule nameRule isNameCharacter every expiryRule
+    readText readBy answered formOf verdictBy characters firstForeign first isForeign isCharacter inOrder parts partOf
+    fieldCheck codeRule kindRule stateRule numberRule spanRule sexRule nameRule isNameCharacter every expiryRule
     digitCheck numberDigit furtherDigit personalDigit isLeftOut digitAt digitOf checkedBy passportRule isSecond
     lettersThenFillers isKnown
 starred = refl
 
 -- and by itself: T3 is accepted
 pub T3-accepted : readText (octets T3) .outcome ≡ passed
-unfolding T3 octets readText readBy answered formOf total verdictBy characters firstForeign first isForeign isCharacter isDigit
-    isLetter isFiller inOrder parts partOf layout start startIn width widthIn rank same field fieldCheck codeRule passportRule
-    isSecond stateRule lettersThenFillers numberRule spanRule sexRule nameRule isNameCharacter every birthRule expiryRule isKnown
-    pairOf yearOf monthOf dayOf isLeap isShort daysIn yearRule monthRule dayRule spanOf isLong longest
+unfolding T3 octets readText readBy answered formOf verdictBy characters firstForeign first isForeign isCharacter isDigit
+    isLetter isFiller inOrder parts partOf row forms firstForm start startIn width widthIn rank same field fieldCheck
+    codeRule kindRule passportRule isSecond stateRule lettersThenFillers numberRule spanRule sexRule nameRule isNameCharacter every birthRule expiryRule isKnown
+    pairOf yearOf monthOf dayOf isLeap isShort daysIn yearRule monthRule dayRule spanOf isLong
     digitCheck numberDigit furtherDigit personalDigit isLeftOut digitAt digitOf checkedBy checkOf sumFrom value weight
-    covered covers pieceOf pieces line cut joinedCuts
+    covered pieceOf pieces cut joinedCuts
 T3-accepted = refl

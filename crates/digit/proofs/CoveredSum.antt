@@ -1,62 +1,114 @@
--- The sum over what the composite covers, part by part: pieces that stand one behind another, of which any may be cut in two.
-use Prim.Native.Nat.{ℕ, zero, suc, _+_, _*_, _≤_}
-use mathlib.Core.Path.{_≡_, refl, sym, _∙_}
-use mathlib.Core.Bool.{Bool, true, false, _&&_}
+-- The sum over what the composite covers is that over its parts: both are sums with a weight for each place of the text, and the
+-- weights are the same.
+use Prim.Native.Nat.{ℕ, zero, suc, _+_, _*_, _≤_, _%_}
+use mathlib.Core.Path.{_≡_, refl, ap, sym, _∙_}
+use mathlib.Core.Bool.{Bool, true, false, cond, _&&_}
 use mathlib.Core.List.{List, [], _∷_, _++_}
-use native.Mathlib.Nat.{zero-mul, add-zero, zero-add}
+use native.Mathlib.Nat.{zero-mul, mul-zero, add-zero, zero-add, mul-add}
 use native.Mathlib.Omega.{arith}
+use borrow.Author.Needs.{needs}
 use borrow.Author.Tests.{leb-true, leb-false}
 use lib.Dec.{leb}
 use lib.ListN.{length, take, drop, getD, length-take, length-drop, drop-of-length-le}
-use lib.Seq.{take-nil, drop-drop, getD-drop}
+use lib.Seq.{take-nil, getD-drop}
 use Rattle.lent.proofs.Bools.{and-both}
 use Rattle.zone.specs.Alphabet.{isDigit, isLetter}
-use Rattle.zone.specs.Part.{number, optional, birth, expiry, rank, same}
-use Rattle.zone.proofs.Widths.{fixed}
+use Rattle.zone.specs.Part.{Part, number, numberCheck, optional, optional2, birth, birthCheck, expiry, expiryCheck, personal}
+use Rattle.zone.specs.Part.{personalCheck, composite, rank, same}
+use Rattle.zone.proofs.AllForms.{all-forms}
+use Rattle.zone.proofs.Widths.{fixed, ones}
 use Rattle.zone.specs.Rooms.{nine}
-use Rattle.zone.specs.Form.{layout, start, startIn, width, widthIn, field, line}
-use Rattle.zone.specs.Form.{covers, pieceOf, pieces, cut, joinedCuts, covered}
+use Rattle.zone.specs.Form.{row, forms, start, startIn, width, widthIn, field, has}
+use Rattle.zone.specs.Form.{Piece, pieceOf, pieces, cut, joinedCuts, covered}
+use Rattle.zone.specs.Inner.Places.{before}
 use Rattle.zone.specs.declared.form.Form.{Form}
-use Rattle.zone.specs.declared.form.Form.the-variants.{Td1, Td2, Td3}
-use Rattle.zone.specs.declared.form.Piece.{Piece}
-use Rattle.digit.specs.Check.{value, weight, sumFrom}
-use Rattle.digit.specs.Inner.Covered.{besideSum, othersSum}
-use Rattle.digit.proofs.Sums.{sum-append, sum-mod}
+use Rattle.digit.specs.Check.{value, weight, sumFrom, checkOf, digitOf}
+use Rattle.digit.specs.Inner.Thirds.{asDigit}
+use Rattle.digit.specs.Inner.Covered.{besideSum, othersSum, sumsOf, compositeSum}
+use Rattle.digit.proofs.ByThirds.{weighed-sum}
+use Rattle.digit.proofs.Sums.{sum-append}
 
--- a piece cut in two
-sum-take : (place a b : ℕ) (t : List ℕ)
-    → sumFrom place (take (a + b) t) ≡ sumFrom place (take a t) + sumFrom (place + a) (take b (drop a t))
-unfolding sumFrom
-sum-take place zero b t = rw (zero-add b, add-zero place) (omega arith)
-sum-take place (suc a) b [] = rw (take-nil (suc a + b), take-nil b) (omega arith)
-sum-take place (suc a) b (c ∷ t) =
-    let more = sum-take (suc place) a b t in
-    let k : suc place + a ≡ place + suc a = omega arith in
-    let long : suc a + b ≡ suc (a + b) = omega arith in
-    rw long (omega (arith, rw k at more))
+-- ---- a weight for each place of the text
 
-sum-cut : (place s a b : ℕ) (t : List ℕ)
-    → sumFrom place (take (a + b) (drop s t)) ≡ sumFrom place (take a (drop s t)) + sumFrom (place + a) (take b (drop (s + a) t))
-sum-cut place s a b t = rw (← drop-drop a s t) (sum-take place a b (drop s t))
+weigh : List ℕ → List ℕ → ℕ
+weigh [] t = 0
+weigh (w ∷ ws) [] = 0
+weigh (w ∷ ws) (c ∷ t) = value c * w + weigh ws t
 
--- a piece of one character
-sum-first : (place : ℕ) (t : List ℕ) → sumFrom place (take 1 t) ≡ value (getD t 0 0) * weight place
-unfolding sumFrom value isDigit isLetter
-sum-first place [] = sym (zero-mul (weight place))
-sum-first place (c ∷ t) = add-zero (value c * weight place)
+-- those of n characters, the first of which has the weight of a place
+weightsFrom : (place n : ℕ) → List ℕ
+weightsFrom place zero = []
+weightsFrom place (suc n) = weight place ∷ weightsFrom (suc place) n
 
-sum-one : (place i : ℕ) (t : List ℕ) → sumFrom place (take 1 (drop i t)) ≡ value (getD t i 0) * weight place
-sum-one place i t = let k : i + 0 ≡ i = add-zero i in sum-first place (drop i t) ∙ rw (getD-drop i t 0 0, k)
+-- where so many characters stand before them
+behind : ℕ → List ℕ → List ℕ
+behind n [] = []
+behind zero (w ∷ ws) = w ∷ ws
+behind (suc n) (w ∷ ws) = 0 ∷ behind n (w ∷ ws)
+
+-- two sums in one
+both : List ℕ → List ℕ → List ℕ
+both [] b = b
+both (w ∷ ws) [] = w ∷ ws
+both (w ∷ ws) (v ∷ vs) = (w + v) ∷ both ws vs
+
+weigh-from : (place n : ℕ) (t : List ℕ) → sumFrom place (take n t) ≡ weigh (weightsFrom place n) t
+unfolding sumFrom weigh weightsFrom
+weigh-from place zero t = refl
+weigh-from place (suc n) [] = refl
+weigh-from place (suc n) (c ∷ t) = ap (λ m. value c * weight place + m) (weigh-from (suc place) n t)
+
+weigh-behind : (n : ℕ) (ws t : List ℕ) → weigh ws (drop n t) ≡ weigh (behind n ws) t
+unfolding weigh behind
+weigh-behind n [] t = refl
+weigh-behind zero (w ∷ ws) t = refl
+weigh-behind (suc n) (w ∷ ws) [] = refl
+weigh-behind (suc n) (w ∷ ws) (c ∷ t) =
+    weigh-behind n (w ∷ ws) t ∙ sym (rw (mul-zero (value c), zero-add (weigh (behind n (w ∷ ws)) t)))
+
+weigh-both : (a b t : List ℕ) → weigh (both a b) t ≡ weigh a t + weigh b t
+unfolding weigh both
+weigh-both [] b t = sym (zero-add (weigh b t))
+weigh-both (w ∷ ws) [] t = sym (add-zero (weigh (w ∷ ws) t))
+weigh-both (w ∷ ws) (v ∷ vs) [] = refl
+weigh-both (w ∷ ws) (v ∷ vs) (c ∷ t) = rw (weigh-both ws vs t, mul-add (value c) w v) (omega arith)
+
+-- ---- a part of the text, with weights that start at a place
+
+record Weighed : Type 0 where
+  place : ℕ
+  start : ℕ
+  width : ℕ
+
+sumOver : List ℕ → List Weighed → ℕ
+sumOver t [] = 0
+sumOver t (p ∷ ps) = sumFrom (p .place) (take (p .width) (drop (p .start) t)) + sumOver t ps
+
+weightsOver : List Weighed → List ℕ
+weightsOver [] = []
+weightsOver (p ∷ ps) = both (behind (p .start) (weightsFrom (p .place) (p .width))) (weightsOver ps)
+
+weigh-over : (t : List ℕ) (ps : List Weighed) → sumOver t ps ≡ weigh (weightsOver ps) t
+unfolding sumOver weightsOver weigh
+weigh-over t [] = refl
+weigh-over t (p ∷ ps) =
+    rw (
+      weigh-from (p .place) (p .width) (drop (p .start) t),
+      weigh-behind (p .start) (weightsFrom (p .place) (p .width)) t,
+      weigh-over t ps,
+    )
+    (sym (weigh-both (behind (p .start) (weightsFrom (p .place) (p .width))) (weightsOver ps) t))
+
+-- ---- pieces, each with the weights that it has if those before it are whole
+
+inTurn : ℕ → List Piece → List Weighed
+inTurn place [] = []
+inTurn place (s ∷ ss) = record { place = place; start = s .start; width = s .width } ∷ inTurn (place + s .width) ss
 
 -- each piece begins at a place or behind it, and the next where it ends or behind
 isRising : ℕ → List Piece → Bool
 isRising from [] = true
 isRising from (s ∷ ss) = leb from (s .start) && isRising (s .start + s .width) ss
-
--- the sum over each with the weights that it has if those before it are whole
-sumEach : ℕ → List ℕ → List Piece → ℕ
-sumEach place t [] = 0
-sumEach place t (s ∷ ss) = sumFrom place (cut t s) + sumEach (place + s .width) t ss
 
 -- where a text ends, no piece behind it has a character
 none-behind : (t : List ℕ) (from : ℕ) (ss : List Piece) → isRising from ss ≡ true → length t ≤ from → joinedCuts t ss ≡ []
@@ -74,8 +126,8 @@ none-behind t from (s ∷ ss) e h =
 
 -- so that a piece that is not whole is the last one
 sum-each : (place from : ℕ) (t : List ℕ) (ss : List Piece) → isRising from ss ≡ true
-    → sumFrom place (joinedCuts t ss) ≡ sumEach place t ss
-unfolding isRising joinedCuts sumEach cut sumFrom
+    → sumFrom place (joinedCuts t ss) ≡ sumOver t (inTurn place ss)
+unfolding isRising joinedCuts sumOver inTurn cut sumFrom
 sum-each place from t [] e = refl
 sum-each place from t (s ∷ ss) e =
     let behind = and-both (leb from (s .start)) (isRising (s .start + s .width) ss) e .1 in
@@ -83,10 +135,10 @@ sum-each place from t (s ∷ ss) e =
     ∙ go behind (sum-each (place + s .width) (s .start + s .width) t ss behind) (leb (s .start + s .width) (length t)) refl
   where
     go : isRising (s .start + s .width) ss ≡ true
-        → sumFrom (place + s .width) (joinedCuts t ss) ≡ sumEach (place + s .width) t ss
+        → sumFrom (place + s .width) (joinedCuts t ss) ≡ sumOver t (inTurn (place + s .width) ss)
         → (b : Bool) → leb (s .start + s .width) (length t) ≡ b
         → sumFrom place (cut t s) + sumFrom (place + length (cut t s)) (joinedCuts t ss)
-        ≡ sumFrom place (cut t s) + sumEach (place + s .width) t ss
+        ≡ sumFrom place (cut t s) + sumOver t (inTurn (place + s .width) ss)
     go r e true h =
         let l = leb-true (s .start + s .width) (length t) h in
         let whole : length (take (s .width) (drop (s .start) t)) ≡ s .width = rw (length-take, length-drop) (omega arith) in
@@ -96,54 +148,78 @@ sum-each place from t (s ∷ ss) e =
         let none = none-behind t (s .start + s .width) ss r (omega arith) in
         rw (← e, none)
 
--- the number, birth and expiry with their digits stand one behind another in every form, and what else is covered among them
-pub covered-sum : (f : Form) (t : List ℕ)
-    → sumFrom 0 (field f number t) + sumFrom 10 (field f birth t) + sumFrom 17 (field f expiry t) + othersSum f t
-    ≡ sumFrom 0 (covered f t)
-unfolding covered covers line pieceOf pieces isRising sumEach othersSum besideSum cut
-    field width widthIn start startIn layout rank same weight
-covered-sum Td1 t = omega (
-  arith,
-  sum-each 0 0 t (pieces Td1) refl,
-  sum-cut 0 5 9 16 t,
-  sum-cut 9 14 1 15 t,
-  sum-cut 25 30 6 1 t,
-  sum-cut 32 38 6 1 t,
-  sum-one 9 14 t,
-  sum-one 31 36 t,
-  sum-one 38 44 t,
-  sum-mod 25 10 (take 6 (drop 30 t)) refl,
-  sum-mod 32 17 (take 6 (drop 38 t)) refl,
-)
-covered-sum Td2 t = omega (
-  arith,
-  sum-each 0 0 t (pieces Td2) refl,
-  sum-cut 0 36 9 1 t,
-  sum-cut 10 49 6 1 t,
-  sum-cut 17 57 6 8 t,
-  sum-cut 23 63 1 7 t,
-  sum-one 9 45 t,
-  sum-one 16 55 t,
-  sum-one 23 63 t,
-)
-covered-sum Td3 t = omega (
-  arith,
-  sum-each 0 0 t (pieces Td3) refl,
-  sum-cut 0 44 9 1 t,
-  sum-cut 10 57 6 1 t,
-  sum-cut 17 65 6 16 t,
-  sum-cut 23 71 1 15 t,
-  sum-one 9 53 t,
-  sum-one 16 63 t,
-  sum-one 23 71 t,
-)
+rising : (f : Form) → isRising 0 (pieces f) ≡ true
+unfolding isRising pieces pieceOf row forms
+rising = all-forms (λ f. isRising 0 (pieces f) ≡ true) (search needs)
+
+-- ---- the parts of a text that the composite covers
+
+abbrev part : Form → ℕ → Part → Weighed
+part f place x = record { place = place; start = start f x; width = width f x }
+
+coveredParts : Form → List Weighed
+coveredParts f =
+    part f 0 number ∷ part f 10 birth ∷ part f 17 expiry ∷ part f 24 personal
+    ∷ part f 9 numberCheck ∷ part f 16 birthCheck ∷ part f 23 expiryCheck
+    ∷ part f (before (start f optional) (pieces f)) optional ∷ part f 39 optional2 ∷ part f 38 personalCheck ∷ []
+
+same-weights : (f : Form)
+    → cond (has f composite) (weightsOver (coveredParts f) ≡ weightsOver (inTurn 0 (pieces f))) Unit
+unfolding weightsOver both behind weightsFrom coveredParts inTurn before pieces pieceOf weight
+    width widthIn start startIn row rank same forms
+same-weights = all-forms
+    (λ f. cond (has f composite) (weightsOver (coveredParts f) ≡ weightsOver (inTurn 0 (pieces f))) Unit) (search needs)
+
+-- one character
+sum-first : (place : ℕ) (t : List ℕ) → sumFrom place (take 1 t) ≡ value (getD t 0 0) * weight place
+unfolding sumFrom value isDigit isLetter
+sum-first place [] = sym (zero-mul (weight place))
+sum-first place (c ∷ t) = add-zero (value c * weight place)
+
+sum-one : (f : Form) (x : Part) (place : ℕ) (t : List ℕ) → width f x ≡ 1
+    → sumFrom place (take (width f x) (drop (start f x) t)) ≡ value (getD t (start f x) 0) * weight place
+sum-one f x place t w =
+    let i = start f x in
+    let k : i + 0 ≡ i = add-zero i in
+    rw w (sum-first place (drop i t) ∙ rw (getD-drop i t 0 0, k))
+
+covered-sum : (f : Form) (t : List ℕ) → has f composite ≡ true → sumOver t (coveredParts f) ≡ sumFrom 0 (covered f t)
+unfolding covered
+covered-sum f t h =
+    weigh-over t (coveredParts f)
+    ∙ (ap (λ ws. weigh ws t) (rw h at (same-weights f))
+    ∙ (sym (weigh-over t (inTurn 0 (pieces f))) ∙ sym (sum-each 0 0 t (pieces f) (rising f))))
+
+parts-sum : (f : Form) (t : List ℕ)
+    → sumOver t (coveredParts f)
+    ≡ sumFrom 0 (field f number t) + (sumFrom 10 (field f birth t) + sumFrom 17 (field f expiry t))
+    + sumFrom 24 (field f personal t) + othersSum f t
+unfolding sumOver coveredParts field othersSum besideSum
+parts-sum f t =
+    let one = ones f in
+    omega (
+      arith,
+      sum-one f numberCheck 9 t (one .number-check-one),
+      sum-one f birthCheck 16 t (one .birth-check-one),
+      sum-one f expiryCheck 23 t (one .expiry-check-one),
+    )
+
+-- the digit by the sums of a text is that of everything covered, in forms that have a composite
+pub composite-digit : (f : Form) (t : List ℕ) → has f composite ≡ true → asDigit (compositeSum (sumsOf f t)) ≡ digitOf (covered f t)
+unfolding asDigit digitOf checkOf sumsOf compositeSum
+composite-digit f t h =
+    rw (
+      weighed-sum 0 (field f number t),
+      weighed-sum 10 (field f birth t),
+      weighed-sum 17 (field f expiry t),
+      weighed-sum 24 (field f personal t),
+    )
+    (omega (arith, covered-sum f t h, parts-sum f t))
 
 -- a long number: its further characters stand behind the nine
 number-before : (f : Form) → start f number + nine ≤ start f optional
-unfolding start startIn layout rank same
-number-before Td1 = omega arith
-number-before Td2 = omega arith
-number-before Td3 = omega arith
+unfolding start startIn row rank same forms
+number-before = all-forms (λ f. start f number + nine ≤ start f optional) (search needs)
 
 pub long-sum : (f : Form) (t : List ℕ) (n : ℕ)
     → sumFrom 0 (field f number t ++ take n (field f optional t))

@@ -2,18 +2,15 @@
 ghost use mathlib.Core.Path.{_≡_};
 ghost use mathlib.Core.List.{List};
 ghost use Prim.Native.Nat.{ℕ, _*_, _%_, _<_, _^_};
-ghost use lib.ListN.{getD};
-ghost use Rattle.zone.specs.Form.{cut, covered};
-ghost use Rattle.zone.specs.declared.form.Form.{Form};
-ghost use Rattle.digit.specs.Check.{weight, digitOf};
-ghost use Rattle.digit.specs.Inner.Thirds.{thirdsIn, weighed, Counts};
-ghost use Rattle.digit.specs.Inner.Covered.{sumsOf, besideSum, othersSum};
+ghost use lib.ListN.{getD, take, drop};
+ghost use Rattle.digit.specs.Check.{weight};
+ghost use Rattle.digit.specs.Inner.Thirds.{thirdsIn, weighed, Counts, asDigit};
+ghost use Rattle.digit.specs.Inner.Covered.{sumsOf, besideSum, othersSum, compositeSum};
 use crate::as_digit;
 use crate::thirds::Thirds;
 use crate::thirds::counts;
 use crate::weight;
 use zone::form::Form;
-use zone::form::Piece;
 
 // The fields that have a check digit, each gone over once; and what the composite covers beside number and dates, modulo 10.
 pub struct Sums {
@@ -31,21 +28,22 @@ fn one(counts: &[u8], at: usize, before: usize) -> usize
     (lent::octet(counts, at) as usize) * weight(before)
 }
 
-// What a piece adds.
-fn some(counts: &[u8], s: Piece, before: usize) -> usize
-    ensures { λ r. ⌜ (r ≡ weighed (thirdsIn (cut (now (counts .entry)) s)) before) × (r < 2 ^ 37) ⌝ }
+// What so many characters add.
+fn some(counts: &[u8], at: usize, width: usize, before: usize) -> usize
+    requires { ⌜ width < 256 ⌝ }
+    ensures { λ r. ⌜ (r ≡ weighed (thirdsIn (take width (drop at (now (counts .entry))))) before) × (r < 2 ^ 37) ⌝ }
 {
-    Thirds::counted(counts, s.start, s.width).weighed(before)
+    Thirds::counted(counts, at, width as u8).weighed(before)
 }
 
+// The optional fields and the personal number's digit. A form that lacks one of them has no character there.
 fn beside(form: Form, counts: &[u8]) -> usize
-    ensures { λ r. ⌜ ((t : List ℕ) → Counts t (now (counts .entry)) → r ≡ besideSum form t) × (r < 2 ^ 38) ⌝ }
+    ensures { λ r. ⌜ ((t : List ℕ) → Counts t (now (counts .entry)) → r ≡ besideSum form t) × (r < 2 ^ 39) ⌝ }
 {
-    match form {
-        Form::Td1 => some(counts, Form::TD1_BESIDE, 10) + some(counts, Form::TD1_BESIDE_TOO, 39),
-        Form::Td2 => some(counts, Form::TD2_BESIDE, 24),
-        Form::Td3 => some(counts, Form::TD3_BESIDE, 24),
-    }
+    let at = form.places();
+    some(counts, at.optional, at.optional_width, at.optional_before)
+        + some(counts, at.optional2, at.optional2_width, 39)
+        + some(counts, at.personal_check, at.personal_check_width, 38)
 }
 
 // What all else comes to: the three digits, and what is beside.
@@ -67,8 +65,7 @@ impl Sums {
         let number = Thirds::counted(counts, at.number, Form::NINE as u8);
         let birth = Thirds::counted(counts, at.birth, Form::DATE as u8);
         let expiry = Thirds::counted(counts, at.expiry, Form::DATE as u8);
-        let wide = form.personal_width();
-        let personal = Thirds::counted(counts, at.personal, wide as u8);
+        let personal = Thirds::counted(counts, at.personal, at.personal_width as u8);
         let others = others(form, counts);
         Sums {
             number,
@@ -87,20 +84,17 @@ impl Sums {
     }
 }
 
-// The digit of everything that the composite covers, from the sums of a text. In every form the number stands first, birth and
-// its digit behind ten characters or 25, expiry and its digit behind seven more: weights start again after three.
+// The digit of everything that the composite covers, from the sums of a text. In every form that has one the number stands first,
+// birth and its digit behind ten characters or 25, expiry and its digit behind seven more, and the personal number behind 24:
+// weights start again after three.
 pub fn digit_by(sums: Sums) -> u8
-    ensures { λ r. ⌜ ((form : Form) (t : List ℕ) → sums ≡ sumsOf form t → r ≡ digitOf (covered form t)) ⌝ }
+    ensures { λ r. ⌜ r ≡ asDigit (compositeSum sums) ⌝ }
 {
     let number = sums.number;
     let birth = sums.birth;
     let expiry = sums.expiry;
-    let fields = number.weighed(0) + birth.weighed(10) + expiry.weighed(17);
+    let personal = sums.personal;
+    let dates = birth.weighed(10) + expiry.weighed(17);
+    let fields = number.weighed(0) + dates + personal.weighed(24);
     as_digit(fields + sums.others as usize)
-}
-
-pub fn covered_digit(form: Form, text: &[u8]) -> u8
-    ensures { λ r. ⌜ r ≡ digitOf (covered form (now (text .entry))) ⌝ }
-{
-    digit_by(Sums::of(form, text))
 }

@@ -12,8 +12,10 @@ use Prim.Native.Char.{code}
 use Rattle.lent.proofs.Bools.{and-both, or-either}
 use Rattle.zone.specs.Alphabet.{isDigit, isLetter, isFiller, isCharacter, every}
 use Rattle.zone.specs.declared.form.Form.{Form}
-use Rattle.zone.specs.declared.form.Form.the-variants.{Td1, Td2, Td3}
-use Rattle.field.specs.Code.{codeRule, cardRule, passportRule, isCardLetter, isSecond}
+use Rattle.zone.specs.declared.form.Kind.{Kind}
+use Rattle.zone.specs.declared.form.Kind.the-variants.{Card, Passport}
+use Rattle.zone.specs.Form.{row}
+use Rattle.field.specs.Code.{codeRule, kindRule, cardRule, passportRule, isCardLetter, isSecond}
 use Rattle.field.specs.Letters.{stateRule, lettersThenFillers, sexRule, isNameCharacter}
 use Rattle.field.specs.declared.date.Pair.{Pair}
 use Rattle.field.specs.declared.date.Pair.the-variants.{Known, Unknown, Neither}
@@ -87,11 +89,14 @@ passport-pure s l e =
     let both = and-both (eqb a (code "P")) (isLetter b || isFiller b) e in
     two s l (one-of a (code "P") refl (both .0)) (either-in b (both .1))
 
+kind-pure : (k : Kind) (s : List ℕ) → length s ≡ 2 → kindRule k (getD s 0 0) (getD s 1 0) ≡ true → every isCharacter s ≡ true
+unfolding kindRule
+kind-pure Card s l e = card-pure s l e
+kind-pure Passport s l e = passport-pure s l e
+
 pub code-pure : (f : Form) (s : List ℕ) → length s ≡ 2 → codeRule f s ≡ true → every isCharacter s ≡ true
 unfolding codeRule
-code-pure Td1 s l e = card-pure s l e
-code-pure Td2 s l e = card-pure s l e
-code-pure Td3 s l e = passport-pure s l e
+code-pure f s l e = kind-pure (row f .kind) s l e
 
 pub state-pure : (s : List ℕ) → length s ≡ 3 → stateRule s ≡ true → every isCharacter s ≡ true
 unfolding stateRule lettersThenFillers

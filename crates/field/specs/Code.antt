@@ -7,7 +7,9 @@ use lib.ListN.{getD}
 use lib.Dec.{eqb}
 use Rattle.zone.specs.Alphabet.{isLetter, isFiller}
 use Rattle.zone.specs.declared.form.Form.{Form}
-use Rattle.zone.specs.declared.form.Form.the-variants.{Td1, Td2, Td3}
+use Rattle.zone.specs.declared.form.Kind.{Kind}
+use Rattle.zone.specs.declared.form.Kind.the-variants.{Card, Passport}
+use Rattle.zone.specs.Form.{row}
 
 -- A, C or I
 unfoldable pub isCardLetter : ℕ → Bool
@@ -25,7 +27,9 @@ cardRule a b = isCardLetter a && (isSecond b && (not (eqb b (code "V")) && not (
 unfoldable pub passportRule : ℕ → ℕ → Bool
 passportRule a b = eqb a (code "P") && isSecond b
 
+unfoldable pub kindRule : Kind → ℕ → ℕ → Bool
+kindRule Card a b = cardRule a b
+kindRule Passport a b = passportRule a b
+
 unfoldable pub codeRule : Form → List ℕ → Bool
-codeRule Td1 s = cardRule (getD s 0 0) (getD s 1 0)
-codeRule Td2 s = cardRule (getD s 0 0) (getD s 1 0)
-codeRule Td3 s = passportRule (getD s 0 0) (getD s 1 0)
+codeRule f s = kindRule (row f .kind) (getD s 0 0) (getD s 1 0)

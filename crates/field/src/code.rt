@@ -1,8 +1,9 @@
-// The document code: two characters, by form.
+// The document code: two characters, by the kind of document that the form is of.
 ghost use mathlib.Core.Path.{_≡_};
 ghost use Rattle.field.specs.Code.{codeRule, cardRule, passportRule, isCardLetter};
 use crate::letters::is_letter_or_filler;
 use zone::form::Form;
+use zone::form::Kind;
 
 // What a card's code may begin with.
 fn is_card_letter(a: u8) -> bool
@@ -28,9 +29,8 @@ pub fn is_code(form: Form, s: &[u8]) -> bool
 {
     let a = lent::octet(s, 0);
     let b = lent::octet(s, 1);
-    match form {
-        Form::Td1 => is_card(a, b),
-        Form::Td2 => is_card(a, b),
-        Form::Td3 => is_passport(a, b),
+    match form.kind() {
+        Kind::Card => is_card(a, b),
+        Kind::Passport => is_passport(a, b),
     }
 }

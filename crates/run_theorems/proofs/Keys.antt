@@ -26,7 +26,7 @@ use Rattle.sound.proofs.SoundRecord.{Sound, taken-apart}
 use Rattle.entry.proofs.EntryBits.{entryBits, key-followed, key-bits, length-key, length-entry-bits, entry-bits-bits}
 use Rattle.entry.proofs.EntryBits.{entry-filled}
 use Rattle.run_theorems.proofs.WrittenThenRead.{key-read}
-use Rattle.zone.proofs.FormByLength.{as-same}
+use Rattle.zone.proofs.FormTold.{as-same}
 
 -- ---- the thirty bytes are those of the key's bits
 

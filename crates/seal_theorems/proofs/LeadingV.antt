@@ -16,9 +16,9 @@ use Rattle.refusal.proofs.Outcomes.{kept-unless}
 use Rattle.zone.specs.Alphabet.{isDigit, isLetter, isFiller, isCharacter, isForeign, every, firstForeign, filler}
 use Rattle.zone.specs.declared.form.Form.the-variants.{Td2}
 use Rattle.zone.specs.Part.{rank, same}
-use Rattle.zone.specs.Form.{layout, partOf, parts, start, startIn, width, widthIn, field, total}
+use Rattle.zone.specs.Form.{row, partOf, parts, start, startIn, width, widthIn, field}
 use Rattle.zone.proofs.Every.{every-first}
-use Rattle.field.specs.Code.{isCardLetter, cardRule, codeRule}
+use Rattle.field.specs.Code.{isCardLetter, cardRule, kindRule, codeRule}
 use Rattle.text_digits.specs.Number.{spanOf}
 use Rattle.text_digits.specs.Digits.{inOrder}
 use Rattle.text.specs.Order.{characters, fieldCheck, verdictBy}
@@ -63,7 +63,7 @@ all-characters t e =
 
 -- TD2 knows no code that begins with V
 code-v : (u : List ℕ) → inOrder (fieldCheck Td2 (code "V" ∷ u) (spanOf Td2 (code "V" ∷ u))) (parts Td2) ≡ refused (by 3) 0
-unfolding inOrder parts partOf layout fieldCheck codeRule cardRule isCardLetter field start startIn width widthIn same rank
+unfolding inOrder parts partOf row fieldCheck codeRule kindRule cardRule isCardLetter field start startIn width widthIn same rank
 code-v u = refl
 
 filled-v : (t : List ℕ) → 0 < length t → getD t 0 0 ≡ code "V" → (u : List ℕ) × (filled t ≡ code "V" ∷ u)
@@ -73,7 +73,7 @@ filled-v (c ∷ t) h e = (filled t, rw e)
 
 pub text-leading-v : (t : List ℕ) → length t ≡ 72 → every isC40 t ≡ true → getD t 0 0 ≡ code "V"
     → readText (filled t) .outcome ≡ refused (by 3) 0
-unfolding verdictBy total
+unfolding verdictBy row
 text-leading-v t n p e =
     let l = filled t in
     let v = filled-v t (omega arith) e in

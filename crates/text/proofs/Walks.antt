@@ -2,13 +2,14 @@
 use Prim.Native.Nat.{ℕ}
 use mathlib.Core.Path.{_≡_}
 use mathlib.Core.List.{List}
+use borrow.Author.Needs.{needs}
 use lib.Dec.{ltb}
 use Rattle.refusal.specs.Outcome.{Outcome, orElse}
 use Rattle.refusal.proofs.Outcomes.{orElse-assoc, orElse-passed}
 use Rattle.zone.specs.declared.form.Form.{Form}
-use Rattle.zone.specs.declared.form.Form.the-variants.{Td1, Td2, Td3}
 use Rattle.zone.specs.Part.{Part, code, state, number, birth, sex, expiry, nationality, name, rank, same}
-use Rattle.zone.specs.Form.{layout, partOf, parts, start, startIn}
+use Rattle.zone.specs.Form.{row, forms, partOf, parts, start, startIn}
+use Rattle.zone.proofs.AllForms.{all-forms}
 use Rattle.text_digits.specs.Digits.{inOrder}
 use Rattle.text_digits.specs.Inner.Checks.{inTurn}
 use Rattle.text_digits.specs.declared.number.Span.{Span}
@@ -21,12 +22,15 @@ opening check = orElse (check code) (check state)
 abbrev person : (Part → Outcome) → Outcome
 person check = orElse (check birth) (orElse (check sex) (check expiry))
 
--- the name and the nationality stand before number and person, TD2 and TD3, or behind them, TD1
-pub fields-in-order : (f : Form) (t : List ℕ) (span : Span) → let check = fieldCheck f t span in
+-- as the code joins them
+abbrev joined : Form → List ℕ → Span → Outcome
+joined f t span =
+    let check = fieldCheck f t span in
     let ahead = ltb (start f name) (start f number) in
     orElse (opening check) (inTurn ahead (check name) (orElse (check number) (inTurn ahead (check nationality) (person check))))
-    ≡ inOrder check (parts f)
-unfolding inOrder inTurn fieldCheck parts partOf layout start startIn rank same
-fields-in-order Td1 t span = simp (orElse-assoc, orElse-passed)
-fields-in-order Td2 t span = simp (orElse-assoc, orElse-passed)
-fields-in-order Td3 t span = simp (orElse-assoc, orElse-passed)
+
+-- the name and the nationality stand before number and person, TD2 and TD3, or behind them, TD1
+pub fields-in-order : (f : Form) (t : List ℕ) (span : Span) → joined f t span ≡ inOrder (fieldCheck f t span) (parts f)
+unfolding inOrder inTurn fieldCheck parts partOf row forms start startIn rank same
+fields-in-order f t span =
+    all-forms (λ g. joined g t span ≡ inOrder (fieldCheck g t span) (parts g)) (simp (orElse-assoc, orElse-passed) (search needs)) f

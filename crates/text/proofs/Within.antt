@@ -16,7 +16,7 @@ use Rattle.zone.specs.Record.{blank}
 use Rattle.zone.specs.Part.{Part, numberCheck, optional, birthCheck, expiryCheck, composite, personalCheck}
 use Rattle.zone.specs.Form.{formOf, start, total}
 use Rattle.zone.proofs.First.{first-le}
-use Rattle.zone.proofs.FormByLength.{by-told}
+use Rattle.zone.proofs.FormTold.{by-told}
 use Rattle.zone.proofs.Widths.{within}
 use Rattle.digit.specs.Check.{checkOf, digitOf}
 use Rattle.text_digits.specs.declared.number.Span.{Span}

@@ -2,14 +2,15 @@
 use Prim.Native.Nat.{ℕ}
 use mathlib.Core.Path.{_≡_}
 use mathlib.Core.List.{List}
+use borrow.Author.Needs.{needs}
 use lib.Dec.{ltb}
 use Rattle.refusal.specs.Outcome.{Outcome, orElse}
 use Rattle.refusal.proofs.Outcomes.{orElse-assoc, orElse-passed}
 use Rattle.zone.specs.declared.form.Form.{Form}
-use Rattle.zone.specs.declared.form.Form.the-variants.{Td1, Td2, Td3}
 use Rattle.zone.specs.Part.{Part, numberCheck, optional, birth, birthCheck, expiryCheck, personal, personalCheck, composite}
 use Rattle.zone.specs.Part.{rank, same}
-use Rattle.zone.specs.Form.{layout, partOf, parts, start, startIn, width, widthIn}
+use Rattle.zone.specs.Form.{row, forms, partOf, parts, start, startIn, width, widthIn, has}
+use Rattle.zone.proofs.AllForms.{all-forms}
 use Rattle.text_digits.specs.Digits.{digitCheck, inOrder}
 use Rattle.text_digits.specs.Inner.Checks.{ifHas, inTurn}
 use Rattle.text_digits.specs.declared.number.Span.{Span}
@@ -19,14 +20,17 @@ abbrev dates : (Part → Outcome) → Outcome
 dates check = orElse (check birthCheck) (check expiryCheck)
 
 abbrev last : Form → (Part → Outcome) → Outcome
-last f check = orElse (ifHas f personal (check personalCheck)) (check composite)
+last f check = orElse (ifHas f personal (check personalCheck)) (ifHas f composite (check composite))
 
--- the optional field stands before birth, TD1, or behind expiry, or there is none
-pub digits-in-order : (f : Form) (t : List ℕ) (span : Span) → let check = digitCheck f t span in
+-- as the code joins them
+abbrev joined : Form → List ℕ → Span → Outcome
+joined f t span =
+    let check = digitCheck f t span in
     let further = ifHas f optional (check optional) in
     orElse (check numberCheck) (orElse (inTurn (ltb (start f optional) (start f birth)) further (dates check)) (last f check))
-    ≡ inOrder check (parts f)
-unfolding inOrder inTurn digitCheck ifHas parts partOf layout start startIn width widthIn rank same
-digits-in-order Td1 t span = simp (orElse-assoc, orElse-passed)
-digits-in-order Td2 t span = simp (orElse-assoc, orElse-passed)
-digits-in-order Td3 t span = simp (orElse-assoc, orElse-passed)
+
+-- the optional field stands before birth, TD1, or behind expiry, or there is none
+pub digits-in-order : (f : Form) (t : List ℕ) (span : Span) → joined f t span ≡ inOrder (digitCheck f t span) (parts f)
+unfolding inOrder inTurn digitCheck ifHas parts partOf row forms start startIn width widthIn rank same
+digits-in-order f t span =
+    all-forms (λ g. joined g t span ≡ inOrder (digitCheck g t span) (parts g)) (simp (orElse-assoc, orElse-passed) (search needs)) f

@@ -89,12 +89,18 @@ fn personal_digit(form: Form, text: &[u8], sums: Sums) -> Verdict
     }
 }
 
+// Nor have all of them a composite.
 fn composite_digit(form: Form, text: &[u8], sums: Sums) -> Verdict
     requires { ⌜ sums ≡ sumsOf form (now text) ⌝ }
-    ensures { λ r. ⌜ ((span : Span) → outcomeOf r ≡ digitCheck form (now (text .entry)) span composite) ⌝ }
+    ensures { λ r. ⌜ ((span : Span) → outcomeOf r ≡
+        ifHas form composite (digitCheck form (now (text .entry)) span composite)) ⌝ }
 {
     let at = form.places();
-    judged_digit(text, at.composite, digit_by(sums))
+    if 0 < form.composite_width() {
+        judged_digit(text, at.composite, digit_by(sums))
+    } else {
+        Verdict::Passed
+    }
 }
 
 // The check runs over the nine and the further characters, as if they stood together.

@@ -17,7 +17,8 @@ use Rattle.zone.specs.Alphabet.{isCharacter, isFiller, isForeign, firstForeign}
 use Rattle.zone.proofs.First.{first-none, none-first}
 use Rattle.zone.specs.Part.{Part, code, state, number, numberCheck, optional, birth, birthCheck, sex, expiry, expiryCheck}
 use Rattle.zone.specs.Part.{nationality, optional2, composite, name, personal, personalCheck}
-use Rattle.zone.specs.Form.{formOf, parts, start, width, total, field, covered}
+use Rattle.zone.specs.Form.{formOf, parts, start, width, has, total, field, covered}
+use Rattle.zone.proofs.Widths.{has-among}
 use Rattle.digit.specs.Check.{digitOf}
 use Rattle.field.specs.Code.{codeRule}
 use Rattle.field.specs.Letters.{stateRule, sexRule, nameRule}
@@ -27,10 +28,10 @@ use Rattle.text_digits.specs.Number.{isLong, spanOf, spanRule, numberRule, chec
 use Rattle.text_digits.specs.Digits.{numberDigit, furtherDigit, digitCheck, inOrder}
 use Rattle.text.specs.Order.{characters, fieldCheck, verdictBy}
 use Rattle.text.specs.Read.{readText, readBy, answered, recordBy}
-use Rattle.text_theorems.specs.Accepted.{Keeps, has, fillerAt}
+use Rattle.text_theorems.specs.Accepted.{Keeps, fillerAt}
 use Rattle.text.proofs.EachCheck.{answered-outcome}
-use Rattle.zone.proofs.FormByLength.{told-by, by-told}
-use Rattle.text_theorems.proofs.FormByLength.{common}
+use Rattle.zone.proofs.FormTold.{told-by, by-told}
+use Rattle.text_theorems.proofs.Common.{common}
 use Rattle.refusal.proofs.Outcomes.{refused-not-passed, both-passed, unless-kept, kept-unless}
 use Rattle.text_theorems.proofs.PartByPart.{digit-kept, kept-digit, personal-kept, kept-personal, walk-each, each-walk}
 use Rattle.text_theorems.proofs.NumberSpan.{short-span, long-span, span-ends, long-has}
@@ -60,12 +61,10 @@ module _ (f : Form) (t : List ℕ) (told : length t ≡ total f) (accepted : ver
       (one .0, two .0, two .1)
 
   field-passed : (x : Part) → has f x ≡ true → fieldCheck f t span x ≡ passed
-  unfolding has
-  field-passed x h = walk-each (fieldCheck f t span) (parts f) (stages .1) x h
+  field-passed x h = walk-each (fieldCheck f t span) (parts f) (stages .1) x (rw (has-among f x) at h)
 
   digit-passed : (x : Part) → has f x ≡ true → digitCheck f t span x ≡ passed
-  unfolding has
-  digit-passed x h = walk-each (digitCheck f t span) (parts f) (stages .2) x h
+  digit-passed x h = walk-each (digitCheck f t span) (parts f) (stages .2) x (rw (has-among f x) at h)
 
   number-kept : (isFiller (getD (field f number t) 0 0) ≡ false) × (spanRule span ≡ true)
   unfolding fieldCheck numberRule
@@ -119,7 +118,7 @@ module _ (f : Form) (t : List ℕ) (told : length t ≡ total f) (accepted : ver
     birth-digit = digit-kept t (start f birthCheck) (field f birth t) (digit-passed birthCheck (common f .has-birth-check));
     expiry-digit = digit-kept t (start f expiryCheck) (field f expiry t) (digit-passed expiryCheck (common f .has-expiry-check));
     personal-digit = λ h. personal-kept f t (digit-passed personalCheck h);
-    composite-digit = digit-kept t (start f composite) (covered f t) (digit-passed composite (common f .has-composite));
+    composite-digit = λ h. digit-kept t (start f composite) (covered f t) (digit-passed composite h);
   }
 
 -- ---- and back
@@ -178,18 +177,18 @@ module _ (f : Form) (t : List ℕ) (k : Keeps f t) where
   digits-pass expiryCheck h = kept-digit t (start f expiryCheck) (field f expiry t) (k .expiry-digit)
   digits-pass nationality h = refl
   digits-pass optional2 h = refl
-  digits-pass composite h = kept-digit t (start f composite) (covered f t) (k .composite-digit)
+  digits-pass composite h = kept-digit t (start f composite) (covered f t) (k .composite-digit h)
   digits-pass name h = refl
   digits-pass personal h = refl
   digits-pass personalCheck h = kept-personal f t (k .personal-digit h)
 
   pub passes : verdictBy f t (spanOf f t) ≡ passed
-  unfolding verdictBy has
+  unfolding verdictBy
   passes =
       rw (
         characters-pass,
-        each-walk (fieldCheck f t (spanOf f t)) (parts f) fields-pass,
-        each-walk (digitCheck f t (spanOf f t)) (parts f) digits-pass,
+        each-walk (fieldCheck f t (spanOf f t)) (parts f) (λ x m. fields-pass x (has-among f x ∙ m)),
+        each-walk (digitCheck f t (spanOf f t)) (parts f) (λ x m. digits-pass x (has-among f x ∙ m)),
       )
 
 -- a text of a form's length is read as that form

@@ -1,13 +1,14 @@
 -- DEMAND 2, the digit of a refusal 9 (document 02, 2026-07): it is the check of the characters that document 01 has its place run
 -- over, it is one digit, and it is not what stands there; and every refusal 9 carries one.
-use Prim.Native.Nat.{ℕ, _+_, _<_}
+use Prim.Native.Nat.{ℕ, _+_, _≤_, _<_}
 use mathlib.Core.Path.{_≡_, refl, ap, sym, _∙_}
 use mathlib.Core.Bool.{Bool, true, false}
 use mathlib.Core.List.{List}
 use mathlib.Core.Logic.{_↔_, _⊎_, inl, inr}
 use native.Mathlib.Nat.{mod-lt}
 use native.Mathlib.Omega.{arith}
-use borrow.Author.Tests.{ne-eqb, eqb-false}
+use borrow.Author.Needs.{needs}
+use borrow.Author.Tests.{ne-eqb, eqb-false, ltb-true}
 use lib.Dec.{eqb, lit<}
 use lib.ListN.{length, getD}
 use Rattle.refusal.specs.Numbers.{Why, by, expecting, numberOf}
@@ -16,15 +17,17 @@ use Rattle.refusal.specs.Outcome.{refused, refusedUnless}
 use Rattle.refusal.proofs.Readers.{not-plain}
 use Rattle.refusal.proofs.Each.{Each, each-passed, each-refused}
 use Rattle.zone.specs.declared.form.Form.{Form}
-use Rattle.zone.specs.declared.form.Form.the-variants.{Td1, Td2, Td3}
 use Rattle.zone.specs.declared.form.Recognised.{Recognised}
 use Rattle.zone.specs.declared.form.Recognised.the-variants.{As, Unknown}
 use Rattle.zone.specs.Alphabet.{isFiller, every}
 use Rattle.zone.specs.Record.{blank}
-use Rattle.zone.specs.Part.{numberCheck, optional, birth, birthCheck, expiry}
+use Rattle.zone.specs.Part.{Part, numberCheck, optional, birth, birthCheck, expiry}
 use Rattle.zone.specs.Part.{expiryCheck, composite, personal, personalCheck, rank, same}
-use Rattle.zone.specs.Form.{formOf, layout, start, startIn, width, widthIn, field, covered}
-use Rattle.zone.proofs.FormByLength.{as-same}
+use Rattle.zone.specs.Form.{row, forms, formOf, start, startIn, width, widthIn, has, total, field, pieces, joinedCuts, covered}
+use Rattle.zone.proofs.AllForms.{all-forms}
+use Rattle.zone.proofs.Widths.{within, here-or-end}
+use Rattle.zone.proofs.Parts.{apart}
+use Rattle.zone.proofs.FormTold.{as-same}
 use Rattle.digit.specs.Check.{sumFrom, checkOf, digitOf}
 use Rattle.digit.proofs.Written.{fillers-sum}
 use Rattle.text_digits.specs.declared.number.Span.{Span}
@@ -46,54 +49,38 @@ Tells f t (expecting d) p = Expected f t d p
 
 -- ---- what each check place runs over
 
-birth-covered : (f : Form) (t : List ℕ) → coveredAt f t (start f birthCheck) ≡ field f birth t
-unfolding coveredAt start startIn layout same rank
-birth-covered Td1 t = refl
-birth-covered Td2 t = refl
-birth-covered Td3 t = refl
+record Covers (t : List ℕ) (f : Form) : Type 0 where
+  of-birth : coveredAt f t (start f birthCheck) ≡ field f birth t
+  of-expiry : coveredAt f t (start f expiryCheck) ≡ field f expiry t
+  of-personal : coveredAt f t (start f personalCheck) ≡ field f personal t
+  of-all : coveredAt f t (start f composite) ≡ covered f t
+  of-short : coveredAt f t (start f numberCheck) ≡ checkedBy f t (spanOf f t)
 
-expiry-covered : (f : Form) (t : List ℕ) → coveredAt f t (start f expiryCheck) ≡ field f expiry t
-unfolding coveredAt start startIn layout same rank
-expiry-covered Td1 t = refl
-expiry-covered Td2 t = refl
-expiry-covered Td3 t = refl
+covers : (f : Form) (t : List ℕ) → Covers t f
+unfolding coveredAt field covered joinedCuts pieces row forms start startIn width widthIn same rank
+covers f t = all-forms (Covers t) (search needs) f
 
-personal-covered : (f : Form) (t : List ℕ) → coveredAt f t (start f personalCheck) ≡ field f personal t
-unfolding coveredAt start startIn layout same rank
-personal-covered Td1 t = refl
-personal-covered Td2 t = refl
-personal-covered Td3 t = refl
-
-composite-covered : (f : Form) (t : List ℕ) → coveredAt f t (start f composite) ≡ covered f t
-unfolding coveredAt start startIn layout same rank
-composite-covered Td1 t = refl
-composite-covered Td2 t = refl
-composite-covered Td3 t = refl
-
-short-covered : (f : Form) (t : List ℕ) → coveredAt f t (start f numberCheck) ≡ checkedBy f t (spanOf f t)
-unfolding coveredAt start startIn layout same rank
-short-covered Td1 t = refl
-short-covered Td2 t = refl
-short-covered Td3 t = refl
+-- a place of the optional field is not where another part begins
+elsewhere : (f : Form) (n : ℕ) → n < width f optional → (x : Part) → same x optional ≡ false
+    → eqb (start f optional + n) (start f x) ≡ false
+elsewhere f n h x other = ne-eqb (start f optional + n) (start f x) (λ e. go e (here-or-end f x) (apart f x optional other))
+  where
+    go : start f optional + n ≡ start f x → (has f x ≡ true) ⊎ ((width f x ≡ 0) × (start f x ≡ total f))
+        → (start f x + width f x ≤ start f optional) ⊎ (start f optional + width f optional ≤ start f x) → ⊥
+    go e (inl there) (inl ahead) = omega (arith, ltb-true 0 (width f x) there)
+    go e (inl there) (inr behind) = omega arith
+    go e (inr missing) side = omega (arith, missing .1, within f optional)
 
 long-covered : (f : Form) (t : List ℕ) (n : ℕ) → n < width f optional
     → coveredAt f t (start f optional + n) ≡ checkedBy f t (spanOf f t)
-unfolding coveredAt start startIn width widthIn layout same rank
-long-covered Td1 t n h =
+unfolding coveredAt same rank
+long-covered f t n h =
     rw (
-      ne-eqb (15 + n) 36 (λ e. omega arith),
-      ne-eqb (15 + n) 44 (λ e. omega arith),
-      ne-eqb (15 + n) 90 (λ e. omega arith),
-      ne-eqb (15 + n) 59 (λ e. omega arith),
+      elsewhere f n h birthCheck refl,
+      elsewhere f n h expiryCheck refl,
+      elsewhere f n h personalCheck refl,
+      elsewhere f n h composite refl,
     )
-long-covered Td2 t n h =
-    rw (
-      ne-eqb (64 + n) 55 (λ e. omega arith),
-      ne-eqb (64 + n) 63 (λ e. omega arith),
-      ne-eqb (64 + n) 72 (λ e. omega arith),
-      ne-eqb (64 + n) 71 (λ e. omega arith),
-    )
-long-covered Td3 t n h = absurd (omega (arith, h))
 
 -- ---- the checks
 
@@ -118,7 +105,7 @@ tells-number : (f : Form) (t : List ℕ) (span : Span) → spanOf f t ≡ span
     → Each (Tells f t) (numberDigit f t span) × Each (Tells f t) (furtherDigit f t span)
 unfolding numberDigit furtherDigit
 tells-number f t Short e = (
-  tells-digit f t (start f numberCheck) (checkedBy f t Short) (ap (checkedBy f t) (sym e) ∙ sym (short-covered f t)),
+  tells-digit f t (start f numberCheck) (checkedBy f t Short) (ap (checkedBy f t) (sym e) ∙ sym (covers f t .of-short)),
   each-passed (Tells f t),
 )
 tells-number f t (Long n) e = (
@@ -135,10 +122,10 @@ tells-verdict f t =
     (record {
       of-number = numbers .0;
       of-further = numbers .1;
-      of-birth = tells-digit f t (start f birthCheck) (field f birth t) (sym (birth-covered f t));
-      of-expiry = tells-digit f t (start f expiryCheck) (field f expiry t) (sym (expiry-covered f t));
-      of-personal = tells-digit f t (start f personalCheck) (field f personal t) (sym (personal-covered f t));
-      of-all = tells-digit f t (start f composite) (covered f t) (sym (composite-covered f t));
+      of-birth = tells-digit f t (start f birthCheck) (field f birth t) (sym (covers f t .of-birth));
+      of-expiry = tells-digit f t (start f expiryCheck) (field f expiry t) (sym (covers f t .of-expiry));
+      of-personal = tells-digit f t (start f personalCheck) (field f personal t) (sym (covers f t .of-personal));
+      of-all = tells-digit f t (start f composite) (covered f t) (sym (covers f t .of-all));
     })
 
 -- ---- the text
@@ -211,4 +198,4 @@ empty-expects-zero f t d e none r =
     let one : told .0 ≡ f = as-same (told .0) f (sym (told .1) ∙ e) in
     told .2 .worked-out
     ∙ (ap (λ (g : Form). checkOf (coveredAt g t (start f personalCheck))) one
-    ∙ (ap checkOf (personal-covered f t) ∙ rw (fillers-sum 0 (field f personal t) none)))
+    ∙ (ap checkOf (covers f t .of-personal) ∙ rw (fillers-sum 0 (field f personal t) none)))

@@ -7,6 +7,7 @@ use mathlib.Core.List.{List, [], _∷_, _++_, map}
 use mathlib.Core.Bool.{true}
 use lib.ListN.{length}
 use native.Mathlib.Omega.{arith}
+use borrow.Author.Needs.{needs}
 use Rattle.refusal.specs.Numbers.{Why, by}
 use Rattle.refusal.specs.Outcome.{Outcome, passed, refused, orElse}
 use Rattle.zone.specs.declared.form.Recognised.{Recognised}
@@ -14,8 +15,8 @@ use Rattle.zone.specs.declared.form.Recognised.the-variants.{As, Unknown}
 use Rattle.zone.specs.Part.{Part, optional, rank, same}
 use Rattle.zone.specs.Record.{blank}
 use Rattle.zone.specs.declared.form.Form.{Form}
-use Rattle.zone.specs.declared.form.Form.the-variants.{Td1, Td2, Td3}
-use Rattle.zone.specs.Form.{formOf, layout, partOf, parts, start, startIn, width}
+use Rattle.zone.specs.Form.{row, forms, formOf, partOf, parts, start, startIn, width}
+use Rattle.zone.proofs.AllForms.{all-forms}
 use Rattle.text_digits.specs.declared.number.Span.the-variants.{Long}
 use Rattle.text_digits.specs.Number.{spanOf}
 use Rattle.text_digits.proofs.Numbers.{span-within}
@@ -97,10 +98,8 @@ refused-exactly t n p =
 
 -- the order is by place: in the walk over a form's parts each part starts behind the one before
 pub in-text-order : (f : Form) → isRising (map (start f) (parts f)) ≡ true
-unfolding isRising parts partOf layout start startIn rank same
-in-text-order Td1 = refl
-in-text-order Td2 = refl
-in-text-order Td3 = refl
+unfolding isRising parts partOf row forms start startIn rank same
+in-text-order = all-forms (λ f. isRising (map (start f) (parts f)) ≡ true) (search needs)
 
 -- and a long number's digit stands within the optional field, which the walk looks at in its stead
 pub digit-within : (f : Form) (t : List ℕ) (n : ℕ) → spanOf f t ≡ Long n

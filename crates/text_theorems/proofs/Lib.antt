@@ -2,8 +2,8 @@
 pub mod PartByPart
 -- how a number stands: short, or long with so many further characters
 pub mod NumberSpan
--- the form that a length tells, and the parts that every form has
-pub mod FormByLength
+-- the parts that every form has
+pub mod Common
 -- DEMAND 2: the answer is the first failing check (`refused-exactly`); a refusal gives the blank record
 pub mod FirstFailing
 -- DEMAND 2: the digit that a refusal 9 carries (`expected-exactly`, `digit-told`, `nine-tells`)

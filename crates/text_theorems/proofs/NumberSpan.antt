@@ -1,18 +1,22 @@
--- How a number stands, from whether it is long and where the first fillerAt of the optional field is.
+-- How a number stands, from whether it is long and where the first filler of the optional field is.
 use Prim.Native.Nat.{ℕ, _-_, _≤_, _<_}
 use mathlib.Core.Path.{_≡_, refl}
 use mathlib.Core.Bool.{Bool, true, false, cond, _&&_, false≢true}
 use mathlib.Core.List.{List}
+use native.Mathlib.Omega.{arith}
 use borrow.Author.Tests.{le-leb, lt-ltb, leb-true, ltb-true}
 use lib.Dec.{leb, ltb}
+use lib.ListN.{getD}
 use Rattle.lent.proofs.Bools.{and-both}
 use Rattle.zone.specs.declared.form.Form.{Form}
-use Rattle.zone.specs.declared.form.Form.the-variants.{Td1, Td2, Td3}
-use Rattle.zone.specs.Part.{optional, rank, same}
-use Rattle.zone.specs.Form.{width, longest, parts, partOf, layout}
+use Rattle.zone.specs.Part.{numberCheck, optional}
+use Rattle.zone.specs.Alphabet.{isFiller}
+use Rattle.zone.specs.Form.{start, width, has, longest}
+use Rattle.zone.specs.Rooms.{nine}
+use Rattle.zone.proofs.Widths.{longest-number}
 use Rattle.text_digits.specs.declared.number.Span.the-variants.{Short, Long, Bad}
 use Rattle.text_digits.specs.Number.{isLong, cutAt, spanOf, spanRule}
-use Rattle.text_theorems.specs.Accepted.{fillerAt, has, among}
+use Rattle.text_theorems.specs.Accepted.{fillerAt}
 
 pub short-span : (f : Form) (t : List ℕ) → isLong f t ≡ false → spanOf f t ≡ Short
 unfolding spanOf
@@ -23,7 +27,7 @@ pub long-span : (f : Form) (t : List ℕ) → isLong f t ≡ true → 2 ≤ fill
 unfolding spanOf cutAt
 long-span f t e h k = rw (e, le-leb 2 (fillerAt f t) h, lt-ltb (fillerAt f t) (width f optional) k)
 
--- a long number that ends as it should has its fillerAt where it should
+-- a long number that ends as it should has its filler where it should
 pub span-ends : (f : Form) (t : List ℕ) → spanRule (spanOf f t) ≡ true → isLong f t ≡ true
     → (2 ≤ fillerAt f t) × (fillerAt f t < width f optional)
 unfolding spanOf cutAt spanRule
@@ -42,9 +46,12 @@ span-ends f t e long = go (leb 2 k && ltb k w) refl (rw long at e)
         bad : spanRule Bad ≡ true → ⊥
         bad r = false≢true r
 
--- a form with long numbers has an optional field
+-- a long number is of a form that has them, and so has an optional field
+pub long-form : (f : Form) (t : List ℕ) → isLong f t ≡ true → nine < longest f
+unfolding isLong
+long-form f t e = ltb-true nine (longest f) (and-both (ltb nine (longest f)) (isFiller (getD t (start f numberCheck) 0)) e .0)
+
 pub long-has : (f : Form) (t : List ℕ) → isLong f t ≡ true → has f optional ≡ true
-unfolding has among parts partOf layout same rank isLong longest
-long-has Td1 t e = refl
-long-has Td2 t e = refl
-long-has Td3 t e = absurd (false≢true e)
+long-has f t e =
+    let long = long-form f t e in
+    lt-ltb 0 (width f optional) (omega (arith, longest-number f .long-room long))

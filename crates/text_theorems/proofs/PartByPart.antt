@@ -11,11 +11,10 @@ use Rattle.refusal.specs.Numbers.{expecting}
 use Rattle.refusal.specs.Outcome.{Outcome, passed}
 use Rattle.refusal.proofs.Outcomes.{both-passed, rule-kept, kept-rule}
 use Rattle.zone.specs.declared.form.Form.{Form}
-use Rattle.zone.specs.Part.{Part, personal, personalCheck, same}
+use Rattle.zone.specs.Part.{Part, personal, personalCheck, same, among}
 use Rattle.zone.specs.Form.{start, field}
 use Rattle.text_digits.specs.Digits.{inOrder, digitAt, isLeftOut, personalDigit}
 use Rattle.digit.specs.Check.{checkOf, digitOf}
-use Rattle.text_theorems.specs.Accepted.{among}
 use Rattle.zone.proofs.Parts.{same-one, same-self}
 
 pub digit-kept : (t : List ℕ) (place : ℕ) (covers : List ℕ) → digitAt t place covers ≡ passed → getD t place 0 ≡ digitOf covers

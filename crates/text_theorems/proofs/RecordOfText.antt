@@ -10,12 +10,11 @@ use lib.Seq.{take-all, drop-at, getD-take}
 use Rattle.lent.proofs.Bools.{and-both, both-and}
 use Rattle.refusal.specs.Outcome.{passed}
 use Rattle.zone.specs.declared.form.Form.{Form}
-use Rattle.zone.specs.declared.form.Form.the-variants.{Td1, Td2, Td3}
 use Rattle.zone.specs.Alphabet.{isCharacter, isFiller, isLetter, isDigit, every, filler}
 use Rattle.zone.specs.Part.{Part, code, state, number, optional, birth, expiry, nationality, name, rank, same}
 use Rattle.zone.specs.Form.{start, width, widthIn, layout, total, longest, field}
 use Rattle.zone.specs.Record.{trimmedLength, trimmed, padded}
-use Rattle.zone.proofs.Widths.{within, fixed, name-room}
+use Rattle.zone.proofs.Widths.{within, fixed, name-room, some-name, longest-number}
 use Rattle.zone.proofs.Padded.{padded-exact, padded-spare, padded-trimmed, length-padded, take-padded, trimmed-le, trimmed-length}
 use Rattle.field.specs.Code.{codeRule}
 use Rattle.field.specs.Letters.{stateRule, nameRule, isNameCharacter}
@@ -25,8 +24,8 @@ use Rattle.text.specs.Read.{readText, answered, recordBy}
 use Rattle.sound.specs.Sound.{isShaped, isHeld, isSolid, isNumber, isDocument, isHolder, isSound}
 use Rattle.text_theorems.specs.Accepted.{Keeps, fillerAt}
 use Rattle.text_theorems.specs.Held.{Holds}
-use Rattle.zone.proofs.FormByLength.{by-told}
-use Rattle.text_theorems.proofs.NumberSpan.{short-span, long-span}
+use Rattle.zone.proofs.FormTold.{by-told}
+use Rattle.text_theorems.proofs.NumberSpan.{short-span, long-span, long-form}
 use Rattle.text_theorems.proofs.Acceptance.{keeps, accepted-form, read-as}
 use Rattle.zone.proofs.Trimmed.{trimmed-fillers, trimmed-twice, trimmed-some}
 use Rattle.sound.proofs.Solid.{ends-solid, solid-before}
@@ -35,26 +34,13 @@ use Rattle.zone.proofs.Every.{every-append, every-take, every-drop, every-repli
 
 -- ---- widths
 
-some-name : (f : Form) → 0 < width f name
-unfolding width widthIn layout rank same
-some-name Td1 = omega arith
-some-name Td2 = omega arith
-some-name Td3 = omega arith
-
--- nine and the further characters fit the longest number, which fits its room
-number-room : (f : Form) → (9 ≤ longest f) × (width f optional + 7 ≤ longest f) × (longest f ≤ 22)
-unfolding longest width widthIn layout rank same
-number-room Td1 = omega arith
-number-room Td2 = omega arith
-number-room Td3 = omega arith
-
 field-length : (f : Form) (x : Part) (t : List ℕ) → length t ≡ total f → length (field f x t) ≡ width f x
 unfolding field
 field-length f x t e = rw (length-take, length-drop) (omega (arith, within f x))
 
 -- ---- lists with fillers behind them
 
--- a list that ends in no fillerAt, with room to spare
+-- a list that ends in no filler, with room to spare
 held : (most n : ℕ) (s : List ℕ) → 1 ≤ length s → length s ≤ most → length s ≤ n → trimmedLength s ≡ length s
     → isHeld most (padded n s) (length s) ≡ true
 unfolding isHeld
@@ -116,7 +102,7 @@ module _ (f : Form) (t : List ℕ) (k : Keeps f t) where
       let some = trimmed-some s (omega (arith, nine)) (k .number-begins) in
       record {
         some = rw (trimmed-length s) some;
-        fits = rw (trimmed-length s) (omega (arith, trimmed-le s, nine, number-room f .0));
+        fits = rw (trimmed-length s) (omega (arith, trimmed-le s, nine, longest-number f .nine-fit));
         ends = trimmed-twice s ∙ sym (trimmed-length s);
         begins = rw (getD-take (trimmedLength s) s 0 0 some) (k .number-begins);
         pure = every-take isCharacter (trimmedLength s) s (pure-field number);
@@ -131,9 +117,10 @@ module _ (f : Form) (t : List ℕ) (k : Keeps f t) where
       let solid : every isSolid rest ≡ true = solid-before (fillerAt f t - 1) (field f optional t) (omega arith) in
       let some : length rest ≡ fillerAt f t - 1 = rw length-take (omega (arith, field-length f optional t (k .size), ends .1)) in
       let both : length (s ++ rest) ≡ length s + length rest = length-append s rest in
+      let most = longest-number f .long-room (long-form f t long) in
       record {
         some = omega (arith, nine);
-        fits = omega (arith, nine, number-room f .1, ends .1);
+        fits = omega (arith, nine, most, ends .1);
         ends = ends-solid s rest solid (omega (arith, ends .0));
         begins = rw (List·getD-append s rest 0 0 (omega (arith, nine))) (k .number-begins);
         pure = every-append isCharacter s rest (pure-field number)
@@ -155,7 +142,7 @@ module _ (f : Form) (t : List ℕ) (k : Keeps f t) where
   exact x n e = padded-exact n (field f x t) (field-length f x t (k .size) ∙ e)
 
   room : length (numberBy f t (spanOf f t)) ≤ 22
-  room = omega (arith, sure .fits, number-room f .2)
+  room = omega (arith, sure .fits, longest-number f .room-fits)
 
   name-length : length (field f name t) ≡ width f name
   name-length = field-length f name t (k .size)

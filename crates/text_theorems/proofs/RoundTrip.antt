@@ -13,14 +13,13 @@ use lib.Seq.{take-all, take-take, take-append-seam, getD-take, getD-append-seam}
 use Rattle.lent.proofs.Bools.{and-both}
 use Rattle.refusal.specs.Outcome.{passed}
 use Rattle.zone.specs.declared.form.Form.{Form}
-use Rattle.zone.specs.declared.form.Form.the-variants.{Td1, Td2, Td3}
 use Rattle.zone.specs.declared.record.Record.{Record}
 use Rattle.zone.specs.Alphabet.{isCharacter, isFiller, isLetter, firstFiller, every, filler}
 use Rattle.zone.specs.Part.{code, state, number, numberCheck, optional, birth, birthCheck, sex, expiry, expiryCheck, nationality}
 use Rattle.zone.specs.Part.{name, personal, personalCheck, rank, same}
-use Rattle.zone.specs.Form.{parts, partOf, layout, start, width, widthIn, total, longest, field}
+use Rattle.zone.specs.Form.{start, width, has, total, longest, field}
 use Rattle.zone.specs.Record.{trimmed, padded}
-use Rattle.zone.proofs.Widths.{fixed, name-room, ones}
+use Rattle.zone.proofs.Widths.{fixed, name-room, ones, has-one}
 use Rattle.zone.proofs.Padded.{padded-nil, padded-exact, padded-trimmed, trimmed-length, padded-behind}
 use Rattle.digit.specs.Check.{digitOf}
 use Rattle.field.specs.Code.{codeRule}
@@ -30,7 +29,7 @@ use Rattle.text_digits.specs.Number.{isLong, spanOf, numberBy}
 use Rattle.text.specs.Read.{Answer, readText, answered, recordBy}
 use Rattle.sound.specs.Sound.{isSolid, isSound}
 use Rattle.writing.specs.Text.{numberIn, furtherIn, isWide, textOf}
-use Rattle.text_theorems.specs.Accepted.{Keeps, fillerAt, has, among}
+use Rattle.text_theorems.specs.Accepted.{Keeps, fillerAt}
 use Rattle.text_theorems.proofs.NumberSpan.{short-span, long-span}
 use Rattle.text_theorems.proofs.Acceptance.{passes, read-as}
 use Rattle.zone.proofs.Every.{every-append, every-take, each-every}
@@ -49,12 +48,6 @@ and-false false = refl
 -- a list that fills its room is what its trimmed list is filled up to
 filled-again : (n : ℕ) (s : List ℕ) → length s ≡ n → padded n (trimmed s) ≡ s
 filled-again n s e = padded-trimmed n s ∙ padded-exact n s e
-
-personal-one : (f : Form) → has f personalCheck ≡ true → width f personalCheck ≡ 1
-unfolding has among parts partOf layout width widthIn same rank
-personal-one Td1 e = absurd (false≢true e)
-personal-one Td2 e = absurd (false≢true e)
-personal-one Td3 e = refl
 
 module _ (r : Record) (s : Sound r) where
   abbrev f : Form
@@ -193,7 +186,7 @@ module _ (r : Record) (s : Sound r) where
   personal-right : has f personalCheck ≡ true → getD t (start f personalCheck) 0 ≡ digitOf (field f personal t)
   unfolding given same rank
   personal-right h =
-      one-shown r s personalCheck 0x30 refl (personal-one f h) refl
+      one-shown r s personalCheck 0x30 refl (has-one f personalCheck (ones f .personal-check-most) h) refl
       ∙ sym (ap digitOf (shown r s personal refl ∙ padded-nil (width f personal)) ∙ fillers-digit (width f personal))
 
   pub text-keeps : Keeps f t

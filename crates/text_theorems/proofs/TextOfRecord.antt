@@ -9,24 +9,22 @@ use borrow.Author.Tests.{ltb-true}
 use lib.ListN.{length, take, drop, replicate, getD, length-take, length-drop, length-replicate}
 use lib.Seq.{take-all}
 use Rattle.zone.specs.declared.form.Form.{Form}
-use Rattle.zone.specs.declared.form.Form.the-variants.{Td1, Td2, Td3}
 use Rattle.zone.specs.declared.record.Record.{Record}
 use Rattle.zone.specs.Part.{Part, code, state, number, numberCheck, optional, birth, birthCheck, sex, expiry, expiryCheck}
-use Rattle.zone.specs.Part.{nationality, optional2, composite, name, personal, personalCheck, rank, same}
+use Rattle.zone.specs.Part.{nationality, optional2, composite, name, personal, personalCheck, rank, same, among}
 use Rattle.zone.specs.Alphabet.{isDigit, isLetter, isFiller, isCharacter, every, filler}
-use Rattle.zone.specs.Form.{layout, start, width, widthIn, total, longest, field, covered}
+use Rattle.zone.specs.Form.{start, width, has, total, longest, field, covered}
 use Rattle.zone.specs.Record.{padded}
-use Rattle.zone.proofs.Widths.{fixed, within, ones}
+use Rattle.zone.proofs.Widths.{fixed, within, ones, has-one, longest-number}
 use Rattle.zone.proofs.Padded.{padded-nil, padded-exact, trimmed-le, padded-full, cut-fillers}
 use Rattle.digit.specs.Check.{digitOf}
 use Rattle.writing.specs.Text.{put, mark, putOpening, numberIn, furtherIn, isWide, putShort, putLong, putNumber, putDates}
 use Rattle.writing.specs.Text.{putPerson, putLast, putAll, textOf}
-use Rattle.text_theorems.specs.Accepted.{among}
 use Rattle.sound.proofs.SoundRecord.{Sound}
 use Rattle.digit.proofs.Written.{digit-character}
 use Rattle.zone.proofs.Every.{every-append, every-take, every-drop, every-replicate}
 use Rattle.writing.proofs.AfterPut.{put-none, put-more, put-filled, put-other, every-put}
-use Rattle.writing.proofs.OneMarked.{put-length, single, mark-put, personal-single}
+use Rattle.writing.proofs.OneMarked.{put-length, single, mark-put, mark-none, Single, single-or-none}
 use Rattle.zone.proofs.Fields.{one-there}
 use Rattle.writing.proofs.CompositePlace.{covered-clear}
 use Rattle.lent.proofs.Bools.{or-neither}
@@ -170,7 +168,7 @@ module _ (r : Record) where
 
     personal-zero : mark r personalCheck 0x30 t ≡ written (personalCheck ∷ []) t
     unfolding written given
-    personal-zero = mark-put r personalCheck 0x30 t e (personal-single r)
+    personal-zero = mark-put r personalCheck 0x30 t e (single-or-none r personalCheck (ones (r .form) .personal-check-most))
 
     -- short, or long where the further characters and their digit have room
     number-put : (isWide r ≡ true → length (furtherIn r) < width (r .form) optional)
@@ -222,16 +220,18 @@ module _ (r : Record) where
     unfolding textOf putAll putLast lastDigit blanks
     text-before =
         rw (length-replicate {A = ℕ} (total (r .form)) filler, steps)
-        (mark-put r composite lastDigit before length-before (single (ones (r .form) .composite-one)))
+        (go (has (r .form) composite) refl ∙ mark-put r composite lastDigit before length-before alone)
+      where
+        alone : Single r composite
+        alone = single-or-none r composite (ones (r .form) .composite-most)
+
+        go : (b : Bool) → has (r .form) composite ≡ b
+            → cond b (mark r composite (digitOf (covered (r .form) before)) before) before
+            ≡ mark r composite (digitOf (covered (r .form) before)) before
+        go true e = refl
+        go false e = sym (mark-none r composite (digitOf (covered (r .form) before)) before length-before e)
 
 -- ---- the text of a sound record
-
--- the longest number's further characters and digit leave a place of the optional field free
-optional-room : (f : Form) → 9 < longest f → longest f < width f optional + 8
-unfolding longest width widthIn layout rank same
-optional-room Td1 h = omega arith
-optional-room Td2 h = omega arith
-optional-room Td3 h = absurd (omega arith)
 
 module _ (r : Record) (s : Sound r) where
   pub is-wide : isWide r ≡ true → 9 < r .«number_len»
@@ -257,7 +257,7 @@ module _ (r : Record) (s : Sound r) where
   further-fits e =
       let h = is-wide e in
       let k : 9 < longest (r .form) = omega (arith, s .number-most) in
-      (rw further-length (omega arith), rw further-length (omega (arith, optional-room (r .form) k, s .number-most)))
+      (rw further-length (omega arith), rw further-length (omega (arith, longest-number (r .form) .long-room k, s .number-most)))
 
   in-order : textOf r ≡ put r composite (lastDigit r ∷ []) (before r)
   in-order = text-before r (λ e. omega (arith, further-fits e .1))
@@ -269,15 +269,16 @@ module _ (r : Record) (s : Sound r) where
   pub shown : (x : Part) → same x composite ≡ false → field (r .form) x (textOf r) ≡ padded (width (r .form) x) (given r x)
   shown x n = rw in-order (put-other r composite (lastDigit r ∷ []) (before r) (length-before r) x n ∙ shown-before r x)
 
-  pub last-shown : getD (textOf r) (start (r .form) composite) 0 ≡ digitOf (covered (r .form) (textOf r))
+  pub last-shown : has (r .form) composite ≡ true
+      → getD (textOf r) (start (r .form) composite) 0 ≡ digitOf (covered (r .form) (textOf r))
   unfolding lastDigit given
-  last-shown =
+  last-shown has-it =
       let f = r .form in
       let d = lastDigit r in
       let blank = shown-before r composite ∙ padded-nil (width f composite) in
       let there = put-filled r composite (d ∷ []) (before r) (length-before r) blank in
-      rw in-order (one-there f composite (put r composite (d ∷ []) (before r)) d (ones f .composite-one) there ∙ ap digitOf
-      (sym (covered-clear r d (before r) (length-before r))))
+      rw in-order (one-there f composite (put r composite (d ∷ []) (before r)) d (has-one f composite (ones f .composite-most) has-it) there ∙ ap digitOf
+      (sym (covered-clear r d (before r) has-it (length-before r))))
 
   -- a check digit, or the sex
   pub one-shown : (x : Part) (c : ℕ) → same x composite ≡ false → width (r .form) x ≡ 1 → given r x ≡ c ∷ []

@@ -2,28 +2,20 @@
 -- document 01, "The text".
 use Prim.Native.Nat.{ℕ, _+_, _-_, _≤_, _<_}
 use mathlib.Core.Path.{_≡_}
-use mathlib.Core.Bool.{Bool, true, false, _||_}
-use mathlib.Core.List.{List, [], _∷_, _++_}
+use mathlib.Core.Bool.{true, false}
+use mathlib.Core.List.{List, _++_}
 use lib.ListN.{length, take, getD}
 use Rattle.zone.specs.declared.form.Form.{Form}
 use Rattle.zone.specs.Alphabet.{isCharacter, isFiller, firstFiller}
-use Rattle.zone.specs.Part.{Part, code, state, number, numberCheck, optional, birth, birthCheck, sex, expiry, expiryCheck}
-use Rattle.zone.specs.Part.{nationality, composite, name, personal, personalCheck, same}
-use Rattle.zone.specs.Form.{parts, start, width, total, field, covered}
+use Rattle.zone.specs.Part.{code, state, number, numberCheck, optional, birth, birthCheck, sex, expiry, expiryCheck}
+use Rattle.zone.specs.Part.{nationality, composite, name, personal, personalCheck}
+use Rattle.zone.specs.Form.{start, width, has, total, field, covered}
 use Rattle.digit.specs.Check.{digitOf}
 use Rattle.field.specs.Code.{codeRule}
 use Rattle.field.specs.Letters.{stateRule, sexRule, nameRule}
 use Rattle.field.specs.Date.{birthRule, expiryRule}
 use Rattle.text_digits.specs.Number.{isLong}
 use Rattle.text_digits.specs.Digits.{isLeftOut}
-
--- whether a form has a part
-unfoldable pub among : Part → List Part → Bool
-among x [] = false
-among x (y ∷ ys) = same x y || among x ys
-
-unfoldable pub has : Form → Part → Bool
-has f x = among x (parts f)
 
 -- the first `<` of the optional field
 abbrev pub fillerAt : Form → List ℕ → ℕ
@@ -49,4 +41,4 @@ pub record Keeps (f : Form) (t : List ℕ) : Type 0 where
   pub expiry-digit : getD t (start f expiryCheck) 0 ≡ digitOf (field f expiry t)
   pub personal-digit : has f personalCheck ≡ true → isLeftOut f t ≡ false
       → getD t (start f personalCheck) 0 ≡ digitOf (field f personal t)
-  pub composite-digit : getD t (start f composite) 0 ≡ digitOf (covered f t)
+  pub composite-digit : has f composite ≡ true → getD t (start f composite) 0 ≡ digitOf (covered f t)

@@ -5,18 +5,18 @@ use mathlib.Core.Bool.{Bool, true, _&&_, _||_}
 use mathlib.Core.Logic.{_⊎_, inl, inr}
 use mathlib.Core.List.{List, [], _∷_}
 use native.Mathlib.Omega.{arith}
+use borrow.Author.Needs.{needs}
 use borrow.Author.Tests.{leb-true, ltb-true}
 use lib.Dec.{leb, ltb}
 use lib.ListN.{length, take, drop}
 use Rattle.lent.specs.Copied.{copiedAt}
 use Rattle.lent.proofs.Bools.{and-both, or-either}
 use Rattle.zone.specs.declared.form.Form.{Form}
-use Rattle.zone.specs.declared.form.Form.the-variants.{Td1, Td2, Td3}
-use Rattle.zone.specs.declared.form.Piece.{Piece}
 use Rattle.zone.specs.declared.record.Record.{Record}
 use Rattle.zone.specs.Part.{composite, rank, same}
-use Rattle.zone.specs.Form.{layout, start, startIn, total, covers, line, pieceOf, pieces, cut, joinedCuts, covered}
-use Rattle.zone.proofs.Widths.{within, ones}
+use Rattle.zone.specs.Form.{row, forms, start, startIn, has, total, Piece, pieceOf, pieces, cut, joinedCuts, covered}
+use Rattle.zone.proofs.AllForms.{all-forms}
+use Rattle.zone.proofs.Widths.{within, ones, has-one}
 use Rattle.writing.specs.Text.{put}
 use Rattle.lent.proofs.Copies.{before-copied, behind-copied}
 
@@ -28,10 +28,8 @@ areClear p [] = true
 areClear p (s ∷ ss) = isClear p s && areClear p ss
 
 composite-clear : (f : Form) → areClear (start f composite) (pieces f) ≡ true
-unfolding areClear isClear layout start startIn rank same covers line pieceOf pieces
-composite-clear Td1 = refl
-composite-clear Td2 = refl
-composite-clear Td3 = refl
+unfolding areClear isClear row forms start startIn rank same pieceOf pieces
+composite-clear = all-forms (λ f. areClear (start f composite) (pieces f) ≡ true) (search needs)
 
 module _ (t : List ℕ) (p c : ℕ) (h : p + 1 ≤ length t) where
   cut-clear : (s : Piece) → isClear p s ≡ true → cut (copiedAt t p (c ∷ [])) s ≡ cut t s
@@ -50,10 +48,11 @@ module _ (t : List ℕ) (p c : ℕ) (h : p + 1 ≤ length t) where
       let both = and-both (isClear p s) (areClear p ss) e in
       rw (cut-clear s (both .0), joined-clear ss (both .1))
 
-pub covered-clear : (r : Record) (c : ℕ) (t : List ℕ) → length t ≡ total (r .form)
+pub covered-clear : (r : Record) (c : ℕ) (t : List ℕ) → has (r .form) composite ≡ true → length t ≡ total (r .form)
     → covered (r .form) (put r composite (c ∷ []) t) ≡ covered (r .form) t
 unfolding put covered
-covered-clear r c t e =
+covered-clear r c t there e =
     let f = r .form in
-    let h : start f composite + 1 ≤ length t = omega (arith, within f composite, ones f .composite-one) in
-    rw (ones f .composite-one) (joined-clear t (start f composite) c h (pieces f) (composite-clear f))
+    let w = has-one f composite (ones f .composite-most) there in
+    let h : start f composite + 1 ≤ length t = omega (arith, within f composite, w) in
+    rw w (joined-clear t (start f composite) c h (pieces f) (composite-clear f))

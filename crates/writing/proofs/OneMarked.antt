@@ -1,17 +1,18 @@
 -- A part put into a text fits there; one character marked is a part of one character put.
 use Prim.Native.Nat.{ℕ, suc, _+_, _≤_}
 use mathlib.Core.Path.{_≡_, sym, _∙_}
+use mathlib.Core.Bool.{true, false, false≢true}
 use mathlib.Core.List.{List, [], _∷_}
 use native.Mathlib.Nat.{add-zero}
 use native.Mathlib.Numerals.{add-one}
 use native.Mathlib.Omega.{arith}
-use lib.ListN.{length, take, length-take, take-append-drop}
+use lib.ListN.{length, set, take, length-take, take-append-drop}
 use lib.Seq.{set-split, set-out}
 use mathlib.Core.Logic.{_⊎_, inl, inr}
 use Rattle.zone.specs.declared.record.Record.{Record}
-use Rattle.zone.specs.Part.{Part, personalCheck}
-use Rattle.zone.specs.Form.{start, width, total}
-use Rattle.zone.proofs.Widths.{within, one-or-missing}
+use Rattle.zone.specs.Part.{Part}
+use Rattle.zone.specs.Form.{start, width, has, total}
+use Rattle.zone.proofs.Widths.{within, here-or-end, has-one}
 use Rattle.writing.specs.Text.{put, mark}
 use Rattle.lent.proofs.Copies.{copied-there, length-copied}
 
@@ -43,10 +44,19 @@ module _ (r : Record) where
       rw (w, k) (set-out t (total (r .form)) c (omega arith) ∙ sym
       (rw z at (copied-there t (total (r .form)) [] h) ∙ take-append-drop (total (r .form)) t))
 
-pub personal-single : (r : Record) → Single r personalCheck
-personal-single r = go (one-or-missing (r .form))
-  where
-    go : (width (r .form) personalCheck ≡ 1)
-        ⊎ ((width (r .form) personalCheck ≡ 0) × (start (r .form) personalCheck ≡ total (r .form))) → Single r personalCheck
-    go (inl w) = single w
-    go (inr m) = missing (m .0) (m .1)
+  -- a part that the form does not have is not marked
+  pub mark-none : (x : Part) (c : ℕ) (t : List ℕ) → length t ≡ total (r .form) → has (r .form) x ≡ false → mark r x c t ≡ t
+  unfolding mark
+  mark-none x c t e none = go (here-or-end (r .form) x)
+    where
+      go : (has (r .form) x ≡ true) ⊎ ((width (r .form) x ≡ 0) × (start (r .form) x ≡ total (r .form)))
+          → set t (start (r .form) x) c ≡ t
+      go (inl there) = absurd (false≢true (sym none ∙ there))
+      go (inr end) = rw (end .1) (set-out t (total (r .form)) c (omega arith))
+
+  pub single-or-none : (x : Part) → width (r .form) x ≤ 1 → Single x
+  single-or-none x most = go (here-or-end (r .form) x)
+    where
+      go : (has (r .form) x ≡ true) ⊎ ((width (r .form) x ≡ 0) × (start (r .form) x ≡ total (r .form))) → Single x
+      go (inl there) = single (has-one (r .form) x most there)
+      go (inr none) = missing (none .0) (none .1)

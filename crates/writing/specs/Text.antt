@@ -10,7 +10,7 @@ use Rattle.zone.specs.Part.{Part, code, state, number, numberCheck, optional, b
 use Rattle.zone.specs.Part.{nationality, composite, name, personalCheck}
 use Rattle.zone.specs.Alphabet.{filler}
 use Rattle.zone.specs.Rooms.{dateRoom, nine, further}
-use Rattle.zone.specs.Form.{start, width, total, covered}
+use Rattle.zone.specs.Form.{start, width, has, total, covered}
 use Rattle.zone.specs.declared.record.Record.{Record}
 use Rattle.digit.specs.Check.{digitOf}
 
@@ -62,11 +62,11 @@ putDates r t = putDate r expiry expiryCheck (r .expiry) (putDate r birth birthCh
 unfoldable pub putPerson : Record → List ℕ → List ℕ
 putPerson r t = put r name (r .name) (mark r sex (r .sex) (put r nationality (r .nationality) t))
 
--- 0 as TD3's personal check, and the composite digit over everything that it covers
+-- 0 as TD3's personal check, and the composite digit, where the form has one, over everything that it covers
 unfoldable pub putLast : Record → List ℕ → List ℕ
 putLast r t =
     let told = mark r personalCheck (char.code "0") t in
-    mark r composite (digitOf (covered (r .form) told)) told
+    cond (has (r .form) composite) (mark r composite (digitOf (covered (r .form) told)) told) told
 
 unfoldable pub putAll : Record → List ℕ → List ℕ
 putAll r t = putLast r (putPerson r (putDates r (putNumber r (putOpening r (replicate (length t) filler)))))

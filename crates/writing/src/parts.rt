@@ -5,7 +5,8 @@ use crate::fields::put_code;
 use crate::fields::put_date;
 use crate::fields::put_name;
 use crate::fields::put_state;
-use digit::composite::covered_digit;
+use digit::composite::Sums;
+use digit::composite::digit_by;
 use zone::record::Record;
 
 // Code and issuing state.
@@ -45,13 +46,15 @@ pub fn put_person(text: &mut [u8], r: Record)
     put_name(text, at.name, form.name_width(), name);
 }
 
-// The personal check, where the form has one, and the composite digit, which covers all the rest.
+// The personal check and the composite digit, which covers all the rest, where the form has them.
 pub fn put_last(text: &mut [u8], r: Record)
     ensures { λ _. ⌜ now (text .exit) ≡ putLast r (now (text .entry)) ⌝ }
 {
     let form = r.form;
     let at = form.places();
     lent::put(text, at.personal_check, b'0');
-    let d = covered_digit(form, text);
-    lent::put(text, at.composite, d);
+    if 0 < form.composite_width() {
+        let d = digit_by(Sums::of(form, text));
+        lent::put(text, at.composite, d);
+    }
 }

@@ -1,6 +1,7 @@
 -- The parts of a text that document 01 names under "The text", Layouts.
 use Prim.Native.Nat.{ℕ}
-use mathlib.Core.Bool.{Bool}
+use mathlib.Core.Bool.{Bool, false, _||_}
+use mathlib.Core.List.{List, [], _∷_}
 use lib.Dec.{eqb}
 
 pub data Part : Type 0 where
@@ -28,3 +29,7 @@ rank personalCheck = 15
 
 unfoldable pub same : Part → Part → Bool
 same x y = eqb (rank x) (rank y)
+
+unfoldable pub among : Part → List Part → Bool
+among x [] = false
+among x (y ∷ ys) = same x y || among x ys

@@ -1,9 +1,9 @@
 // The three forms of document 01, "The text": which length tells which, and where everything stands in each. A form is a row of
 // constants here; what reads and writes a text goes by these and by nothing else of the form.
 ghost use mathlib.Core.Path.{_≡_};
-ghost use Rattle.zone.specs.Form.{formOf, width, longest, total};
+ghost use Rattle.zone.specs.Form.{row, formOf, formBy, width, longest, total};
 ghost use Rattle.zone.specs.Inner.Places.{placesOf};
-ghost use Rattle.zone.specs.Part.{name, optional, personal};
+ghost use Rattle.zone.specs.Part.{name, optional, personal, composite};
 
 pub enum Form {
     Td1,
@@ -11,19 +11,36 @@ pub enum Form {
     Td3,
 }
 
-// What a length tells.
+// What a document is, which its code tells.
+pub enum Kind {
+    Card,
+    Passport,
+}
+
+// What a length tells, or a number in an entry.
 pub enum Recognised {
     As(Form),
     Unknown,
 }
 
-// Where each part of a text begins. A part that the form does not have begins at the text's end.
+// The row of constants of a form: where each part of a text begins, how wide it is where forms differ, and what else they differ
+// in. A part that the form does not have begins at the text's end and has no width.
 pub struct Places {
+    pub kind: Kind,
+    // The form's number in an entry.
+    pub entered: u8,
+    pub text_length: usize,
     pub code: usize,
     pub state: usize,
     pub number: usize,
+    pub number_longest: usize,
     pub number_check: usize,
     pub optional: usize,
+    pub optional_width: usize,
+    // How many characters that the composite covers stand before it.
+    pub optional_before: usize,
+    pub optional2: usize,
+    pub optional2_width: usize,
     pub nationality: usize,
     pub birth: usize,
     pub birth_check: usize,
@@ -31,15 +48,13 @@ pub struct Places {
     pub expiry: usize,
     pub expiry_check: usize,
     pub personal: usize,
+    pub personal_width: usize,
     pub personal_check: usize,
+    pub personal_check_width: usize,
     pub composite: usize,
+    pub composite_width: usize,
     pub name: usize,
-}
-
-// A run of characters of a text.
-pub struct Piece {
-    pub start: usize,
-    pub width: u8,
+    pub name_width: usize,
 }
 
 impl Form {
@@ -75,34 +90,6 @@ impl Form {
 
     pub const TD3_NAME: usize = 39;
 
-    pub const TD1_OPTIONAL: usize = 15;
-
-    pub const TD2_OPTIONAL: usize = 7;
-
-    pub const TD3_PERSONAL: usize = 14;
-
-    // What the composite digit covers beside the number, the dates and their digits: optional fields, or the personal number with
-    // its digit.
-    pub const TD1_BESIDE: Piece = Piece {
-        start: 15,
-        width: 15,
-    };
-
-    pub const TD1_BESIDE_TOO: Piece = Piece {
-        start: 48,
-        width: 11,
-    };
-
-    pub const TD2_BESIDE: Piece = Piece {
-        start: 64,
-        width: 7,
-    };
-
-    pub const TD3_BESIDE: Piece = Piece {
-        start: 72,
-        width: 15,
-    };
-
     // The room that a record has: the most of any form.
     pub const NUMBER: usize = 22;
 
@@ -120,56 +107,67 @@ impl Form {
         }
     }
 
+    // Which form a number in an entry is.
+    pub fn entered_as(n: u32) -> Recognised
+        ensures { λ r. ⌜ r ≡ formBy n ⌝ }
+    {
+        match n {
+            0 => Recognised::As(Form::Td1),
+            1 => Recognised::As(Form::Td2),
+            2 => Recognised::As(Form::Td3),
+            _ => Recognised::Unknown,
+        }
+    }
+
+    pub fn entered(self) -> u8
+        ensures { λ r. ⌜ r ≡ row self .entered ⌝ }
+    {
+        self.places().entered
+    }
+
+    pub fn kind(self) -> Kind
+        ensures { λ r. ⌜ r ≡ row self .kind ⌝ }
+    {
+        self.places().kind
+    }
+
     pub fn text_length(self) -> usize
         ensures { λ r. ⌜ r ≡ total self ⌝ }
     {
-        match self {
-            Form::Td1 => Form::TD1_TEXT,
-            Form::Td2 => Form::TD2_TEXT,
-            Form::Td3 => Form::TD3_TEXT,
-        }
+        self.places().text_length
     }
 
     pub fn longest_number(self) -> usize
         ensures { λ r. ⌜ r ≡ longest self ⌝ }
     {
-        match self {
-            Form::Td1 => Form::TD1_NUMBER,
-            Form::Td2 => Form::TD2_NUMBER,
-            Form::Td3 => Form::TD3_NUMBER,
-        }
+        self.places().number_longest
     }
 
     pub fn name_width(self) -> usize
         ensures { λ r. ⌜ r ≡ width self name ⌝ }
     {
-        match self {
-            Form::Td1 => Form::TD1_NAME,
-            Form::Td2 => Form::TD2_NAME,
-            Form::Td3 => Form::TD3_NAME,
-        }
+        self.places().name_width
     }
 
     // The field that a long number runs into, 0 in forms without one.
     pub fn optional_width(self) -> usize
         ensures { λ r. ⌜ r ≡ width self optional ⌝ }
     {
-        match self {
-            Form::Td1 => Form::TD1_OPTIONAL,
-            Form::Td2 => Form::TD2_OPTIONAL,
-            Form::Td3 => 0,
-        }
+        self.places().optional_width
     }
 
     // 0 in forms without a personal number.
     pub fn personal_width(self) -> usize
         ensures { λ r. ⌜ r ≡ width self personal ⌝ }
     {
-        match self {
-            Form::Td1 => 0,
-            Form::Td2 => 0,
-            Form::Td3 => Form::TD3_PERSONAL,
-        }
+        self.places().personal_width
+    }
+
+    // 0 in forms without a composite digit.
+    pub fn composite_width(self) -> usize
+        ensures { λ r. ⌜ r ≡ width self composite ⌝ }
+    {
+        self.places().composite_width
     }
 
     pub fn places(self) -> Places
@@ -188,21 +186,33 @@ fn td1_places() -> Places
     ensures { λ r. ⌜ r ≡ placesOf Form.Td1 ⌝ }
 {
     Places {
+        kind: Kind::Card,
+        entered: 0,
+        text_length: Form::TD1_TEXT,
         code: 0,
         state: 2,
         number: 5,
+        number_longest: Form::TD1_NUMBER,
         number_check: 14,
         optional: 15,
+        optional_width: 15,
+        optional_before: 10,
         birth: 30,
         birth_check: 36,
         sex: 37,
         expiry: 38,
         expiry_check: 44,
         nationality: 45,
+        optional2: 48,
+        optional2_width: 11,
         composite: 59,
+        composite_width: 1,
         name: 60,
+        name_width: Form::TD1_NAME,
         personal: Form::TD1_TEXT,
+        personal_width: 0,
         personal_check: Form::TD1_TEXT,
+        personal_check_width: 0,
     }
 }
 
@@ -210,10 +220,15 @@ fn td2_places() -> Places
     ensures { λ r. ⌜ r ≡ placesOf Form.Td2 ⌝ }
 {
     Places {
+        kind: Kind::Card,
+        entered: 1,
+        text_length: Form::TD2_TEXT,
         code: 0,
         state: 2,
         name: 5,
+        name_width: Form::TD2_NAME,
         number: 36,
+        number_longest: Form::TD2_NUMBER,
         number_check: 45,
         nationality: 46,
         birth: 49,
@@ -222,9 +237,16 @@ fn td2_places() -> Places
         expiry: 57,
         expiry_check: 63,
         optional: 64,
+        optional_width: 7,
+        optional_before: 24,
         composite: 71,
+        composite_width: 1,
+        optional2: Form::TD2_TEXT,
+        optional2_width: 0,
         personal: Form::TD2_TEXT,
+        personal_width: 0,
         personal_check: Form::TD2_TEXT,
+        personal_check_width: 0,
     }
 }
 
@@ -232,10 +254,15 @@ fn td3_places() -> Places
     ensures { λ r. ⌜ r ≡ placesOf Form.Td3 ⌝ }
 {
     Places {
+        kind: Kind::Passport,
+        entered: 2,
+        text_length: Form::TD3_TEXT,
         code: 0,
         state: 2,
         name: 5,
+        name_width: Form::TD3_NAME,
         number: 44,
+        number_longest: Form::TD3_NUMBER,
         number_check: 53,
         nationality: 54,
         birth: 57,
@@ -244,8 +271,15 @@ fn td3_places() -> Places
         expiry: 65,
         expiry_check: 71,
         personal: 72,
+        personal_width: 14,
         personal_check: 86,
+        personal_check_width: 1,
         composite: 87,
+        composite_width: 1,
         optional: Form::TD3_TEXT,
+        optional_width: 0,
+        optional_before: 39,
+        optional2: Form::TD3_TEXT,
+        optional2_width: 0,
     }
 }

@@ -2,22 +2,23 @@
 use Prim.Native.Nat.{ℕ, _+_, _*_, _%_}
 use mathlib.Core.List.{List}
 use lib.ListN.{getD}
-use Rattle.zone.specs.Part.{number, numberCheck, birth, birthCheck, expiry, expiryCheck, personal}
-use Rattle.zone.specs.Form.{start, field, cut}
+use Rattle.zone.specs.Part.{number, numberCheck, optional, optional2, birth, birthCheck, expiry, expiryCheck, personal}
+use Rattle.zone.specs.Part.{personalCheck}
+use Rattle.zone.specs.Form.{start, field, pieces}
+use Rattle.zone.specs.Inner.Places.{before}
 use Rattle.zone.specs.declared.form.Form.{Form}
-use Rattle.zone.specs.declared.form.Form.the-variants.{Td1, Td2, Td3}
 use Rattle.digit.specs.Check.{value, weight, sumFrom}
-use Rattle.digit.specs.Inner.Thirds.{thirdsOf}
+use Rattle.digit.specs.Inner.Thirds.{thirdsOf, weighed}
 use Rattle.digit.specs.declared.composite.Sums.{Sums}
 
--- what it covers beside number, dates and their digits, each with the weights where it stands
+-- what it covers beside the fields that have a digit of their own, each with the weights where it stands: the optional fields and
+-- the personal number's digit,
 unfoldable pub besideSum : Form → List ℕ → ℕ
-besideSum Td1 t =
-    sumFrom 10 (cut t (record { start = 15; width = 15 })) + sumFrom 39 (cut t (record { start = 48; width = 11 }))
-besideSum Td2 t = sumFrom 24 (cut t (record { start = 64; width = 7 }))
-besideSum Td3 t = sumFrom 24 (cut t (record { start = 72; width = 15 }))
+besideSum f t =
+    sumFrom (before (start f optional) (pieces f)) (field f optional t)
+    + sumFrom 39 (field f optional2 t) + sumFrom 38 (field f personalCheck t)
 
--- with the digits of number and dates
+-- and the digits of number and dates
 unfoldable pub othersSum : Form → List ℕ → ℕ
 othersSum f t =
     value (getD t (start f numberCheck) 0) * weight 9 + value (getD t (start f birthCheck) 0) * weight 16
@@ -31,3 +32,8 @@ sumsOf f t = record {
   personal = thirdsOf (field f personal t);
   others = othersSum f t % 10;
 }
+
+-- all of it
+unfoldable pub compositeSum : Sums → ℕ
+compositeSum s =
+    weighed (s .number) 0 + (weighed (s .birth) 10 + weighed (s .expiry) 17) + weighed (s .personal) 24 + s .others

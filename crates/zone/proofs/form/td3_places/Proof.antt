@@ -1,12 +1,12 @@
--- The starts that the layout's widths add up to.
+-- The starts that the layout's widths add up to, and the widths.
 use mathlib.Core.Path.{refl}
-use Rattle.zone.specs.Form.{layout, start, startIn}
-use Rattle.zone.specs.Inner.Places.{placesOf}
+use Rattle.zone.specs.Form.{row, start, startIn, width, widthIn, pieceOf, pieces}
+use Rattle.zone.specs.Inner.Places.{before, placesOf}
 use Rattle.zone.specs.Part.{rank, same}
 use Rattle.zone.proofs.form.td3_places.Statement.{statement}
 use Rattle.zone.proofs.form.td3_places.Tie as tie
 
 pub td3-places-spec : {M : Type 1} → statement M
-unfolding placesOf layout start startIn rank same
+unfolding placesOf before row start startIn width widthIn pieceOf pieces rank same
 td3-places-spec = tie.close (tie.spec
     (λ c. refl))

@@ -24,7 +24,6 @@ returns c =
     rw (
       c .others .ensures t e,
       c .before .counted4 .ensures,
-      c .before .before .personal-width .ensures,
       early .counted3 .ensures,
       early .before .counted2 .ensures,
       early .before .before .counted .ensures,
@@ -39,9 +38,10 @@ returns c =
     )
 
 cast-counted-4 : tie.Need-cast-counted-4
+unfolding placesOf
 cast-counted-4 c =
     let f = c .before .before .before .before .before .before .args .form in
-    omega (arith, c .personal-width .ensures, within f personal, total-le f)
+    rw (c .before .before .before .before .places .ensures) (omega (arith, within f personal, total-le f))
 
 pub by-spec : {M : Type 1} → statement M
 by-spec =
@@ -53,7 +53,6 @@ by-spec =
     (λ c. search needs)
     (λ c κs. search needs)
     (λ c. search needs)
-    (λ c κs. search needs)
     (λ c κs. search needs)
     cast-counted-4
     (λ c κs. search needs)
