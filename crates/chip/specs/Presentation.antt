@@ -6,6 +6,7 @@ use lib.Dec.{eqb}
 use lib.ListN.{length, take, getD}
 use Rattle.refusal.specs.Numbers.{by}
 use Rattle.refusal.specs.Outcome as outcome
+use Rattle.zone.specs.declared.form.Source.the-variants.{GroupOne}
 use Rattle.zone.specs.Record.{blank}
 use Rattle.zone.specs.declared.record.Record.{Record}
 use Rattle.text.specs.Read.{Answer, readText}
@@ -36,7 +37,7 @@ moved at a = checked (movedTo at (a .outcome)) (value (a .kept))
 
 -- inside group 1: 5F1F and the text, exactly filling 61
 unfoldable pub textAt : List ℕ → ℕ → Read Record
-textAt s at = andThen (element s at Tag.text) (λ v. checked (endCheck s (v .to)) (moved (v .from) (readText (cut s v))))
+textAt s at = andThen (element s at Tag.text) (λ v. checked (endCheck s (v .to)) (moved (v .from) (readText GroupOne (cut s v))))
 
 -- stage 6
 unfoldable pub groupOne : List ℕ → List File → Read Record

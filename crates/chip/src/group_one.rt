@@ -19,6 +19,7 @@ use tlv::Taken;
 use tlv::cut::cut;
 use tlv::cut::end_check;
 use tlv::tags;
+use zone::form::Source;
 use zone::record::Record;
 
 // Every refusal gives the blank record.
@@ -58,7 +59,7 @@ fn text_at(s: &[u8], at: usize) -> Reading
 {
     match tlv::element(s, at, tags::TEXT) {
         Taken::Value(v) => match end_check(s, v.to) {
-            Verdict::Passed => move_by(v.from, text::read::read(cut(s, v))),
+            Verdict::Passed => move_by(v.from, text::read::read(Source::GroupOne, cut(s, v))),
             Verdict::Refused(why) => refuse(why),
         },
         Taken::Refused(why) => refuse(why),

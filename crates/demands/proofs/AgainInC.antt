@@ -9,6 +9,7 @@ use borrow.Author.Tests.{eq-eqb}
 use lib.ListN.{length, take, drop}
 use lib.Seq.{take-append-seam}
 use Rattle.refusal.specs.Outcome.{passed}
+use Rattle.zone.specs.declared.form.Source.the-variants.{Alone}
 use Rattle.zone.specs.declared.record.Record.{Record}
 use Rattle.zone.specs.Octets.{areOctets}
 use Rattle.sound.specs.Sound.{isSound}
@@ -29,7 +30,7 @@ use Rattle.demands.proofs.WriteInC.{alone, write-text-leaves, write-tex
 module _ (out back : List ℕ) where
   -- the octets that writing an entry reports, read
   abbrev readAgain : List ℕ → Answer
-  readAgain e = readText (take (inC (writtenAnswer e out) .value) (writtenOut e out))
+  readAgain e = readText Alone (take (inC (writtenAnswer e out) .value) (writtenOut e out))
 
   -- reading them under a house answers 0 and leaves the entry
   abbrev Again : (house : ℕ) (e : List ℕ) → Type 0

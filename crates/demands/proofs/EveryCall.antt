@@ -16,6 +16,7 @@ use Rattle.refusal.proofs.Outcomes.{refused-not-written}
 use Rattle.refusal.proofs.Each.{each-unless}
 use Rattle.refusal.proofs.Readers.{of-tables}
 use Rattle.refusal.proofs.Output.{write-answers}
+use Rattle.zone.specs.declared.form.Source.the-variants.{Alone}
 use Rattle.zone.specs.Record.{blank}
 use Rattle.text.specs.Read.{readText}
 use Rattle.text.proofs.Within.{text-within}
@@ -40,9 +41,9 @@ use Rattle.demands.proofs.NumbersInC.{number-in-c, value-in-c}
 
 -- ---- the readers
 
-pub text-reads : (t : List ℕ) → Reads (length t) (readText t)
+pub text-reads : (t : List ℕ) → Reads (length t) (readText Alone t)
 text-reads t = record {
-  when-refused = λ why p e. (of-tables why (text-numbered t why p e), text-within t why p e, refused-blank t why p e);
+  when-refused = λ why p e. (of-tables why (text-numbered Alone t why p e), text-within Alone t why p e, refused-blank Alone t why p e);
 }
 
 pub presentation-reads : (w : List ℕ) → Reads (length w) (readPresentation w)
@@ -81,10 +82,10 @@ in-c-answers end out l after h = rw (number-in-c l, value-in-c l) (answers-in-c 
 
 module _ (house : ℕ) (t out : List ℕ) where
   pub read-text-answers : AnswersInC (length t) out (inText house t out .number) (inText house t out .value)
-      (readOut house (readText t) out)
+      (readOut house (readText Alone t) out)
   unfolding readAnswer readOut
   read-text-answers = in-c-answers (length t) out _ _
-      (entered-answers (length t) house (readText t .kept) out (readText t .outcome)
+      (entered-answers (length t) house (readText Alone t .kept) out (readText Alone t .outcome)
       (λ why p e. let r = text-reads t .when-refused why p e in (r .0, r .1)))
 
 module _ (house : ℕ) (w out : List ℕ) where

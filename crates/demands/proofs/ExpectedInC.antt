@@ -3,6 +3,7 @@ use Prim.Native.Nat.{ℕ}
 use mathlib.Core.Path.{_≡_, refl}
 use mathlib.Core.List.{List}
 use native.Mathlib.Omega.{arith}
+use Rattle.zone.specs.declared.form.Source.the-variants.{Alone}
 use Rattle.refusal.specs.Numbers.{Why, by, expecting}
 use Rattle.refusal.specs.Outcome.{Outcome}
 use Rattle.refusal.specs.Length as told
@@ -31,10 +32,10 @@ in-c-told o (told.written n) h = h
 in-c-told o (told.refused why p) h = h
 
 module _ (house : ℕ) (t out : List ℕ) where
-  pub text-digit-told : DigitTold (readText t .outcome) (inText house t out .number) (inText house t out .expected) (inText house t out .value)
+  pub text-digit-told : DigitTold (readText Alone t .outcome) (inText house t out .number) (inText house t out .expected) (inText house t out .value)
   unfolding readAnswer
-  text-digit-told = in-c-told (readText t .outcome) _
-      (entered-told house (readText t .kept) out (readText t .outcome) (nine-tells t))
+  text-digit-told = in-c-told (readText Alone t .outcome) _
+      (entered-told house (readText Alone t .kept) out (readText Alone t .outcome) (nine-tells Alone t))
 
 module _ (house : ℕ) (w out : List ℕ) where
   pub presentation-digit-told : DigitTold (readPresentation w .outcome) (inPresentation house w out .number) (inPresentation house w out .expected)

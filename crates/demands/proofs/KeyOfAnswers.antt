@@ -8,6 +8,7 @@ use mathlib.Core.Bool.{true}
 use mathlib.Core.List.{List, []}
 use lib.ListN.{take}
 use Rattle.refusal.specs.Outcome.{passed}
+use Rattle.zone.specs.declared.form.Source.the-variants.{Alone, GroupOne}
 use Rattle.zone.specs.declared.record.Record.{Record}
 use Rattle.text.specs.declared.read.Reading.{Reading}
 use Rattle.text.specs.Read.{Answer, answerOf, readText}
@@ -34,26 +35,26 @@ use Rattle.presentation_theorems.proofs.Acceptance.{from-files, from-object, fr
 
 -- a record that is read is that of an accepted text
 text-held : (s : List ℕ) (at : ℕ) (r : Record) → textAt s at ≡ value r
-    → (t : List ℕ) × (readText t .outcome ≡ passed) × (readText t .kept ≡ r)
+    → (t : List ℕ) × (readText GroupOne t .outcome ≡ passed) × (readText GroupOne t .kept ≡ r)
 unfolding textAt
 text-held s at r e =
     let a = first-value (element s at 0x5F1F)
-    (λ (u : Stretch). checked (endCheck s (u .to)) (moved (u .from) (readText (cut s u)))) r e in
+    (λ (u : Stretch). checked (endCheck s (u .to)) (moved (u .from) (readText GroupOne (cut s u)))) r e in
     let v = a .0 in
     let t = cut s v in
-    let b = checked-value (endCheck s (v .to)) (moved (v .from) (readText t)) r (a .2) in
-    let m = passed-moved (v .from) (readText t .outcome) (readText t .kept) r (b .1) in
+    let b = checked-value (endCheck s (v .to)) (moved (v .from) (readText GroupOne t)) r (a .2) in
+    let m = passed-moved (v .from) (readText GroupOne t .outcome) (readText GroupOne t .kept) r (b .1) in
     (t, m .0, m .1)
 
 group-held : (w : List ℕ) (fs : List File) (r : Record) → groupOne w fs ≡ value r
-    → (t : List ℕ) × (readText t .outcome ≡ passed) × (readText t .kept ≡ r)
+    → (t : List ℕ) × (readText GroupOne t .outcome ≡ passed) × (readText GroupOne t .kept ≡ r)
 unfolding groupOne
 group-held w fs r e =
     let a = first-value (firstFile w 1 fs) (λ (f : File). textAt (take (f .held .to) w) (f .held .from)) r e in
     text-held (take (a .0 .held .to) w) (a .0 .held .from) r (a .2)
 
 decided-held : (w : List ℕ) (o : Outer) (r : Record) → decided w o ≡ value r
-    → (t : List ℕ) × (readText t .outcome ≡ passed) × (readText t .kept ≡ r)
+    → (t : List ℕ) × (readText GroupOne t .outcome ≡ passed) × (readText GroupOne t .kept ≡ r)
 unfolding decided
 decided-held w o r e =
     let a = first-value (readEfCom w (o .efcom)) (from-common w o) r e in
@@ -64,7 +65,7 @@ decided-held w o r e =
 
 -- the record of an accepted presentation is that of an accepted text
 pub presentation-held : (w : List ℕ) → readPresentation w .outcome ≡ passed
-    → (t : List ℕ) × (readText t .outcome ≡ passed) × (readPresentation w .kept ≡ readText t .kept)
+    → (t : List ℕ) × (readText GroupOne t .outcome ≡ passed) × (readPresentation w .kept ≡ readText GroupOne t .kept)
 unfolding readPresentation readStages
 presentation-held w e =
     let a = passed-value (readStages w) e in
@@ -75,13 +76,13 @@ presentation-held w e =
 -- so it is sound
 pub accepted-sound : (a : Answer) → Accepted a → isSound (a .kept) ≡ true
 accepted-sound a (of-text t e p) =
-    let read : readText t .outcome ≡ passed = ap (λ (x : Answer). x .outcome) e ∙ p in
-    subst (λ (x : Answer). isSound (x .kept) ≡ true) e (kept-and-sound t read .3)
+    let read : readText Alone t .outcome ≡ passed = ap (λ (x : Answer). x .outcome) e ∙ p in
+    subst (λ (x : Answer). isSound (x .kept) ≡ true) e (kept-and-sound Alone t read .3)
 accepted-sound a (of-presentation w e p) =
     let read : readPresentation w .outcome ≡ passed = ap (λ (x : Answer). x .outcome) e ∙ p in
     let h = presentation-held w read in
-    let same : readText (h .0) .kept ≡ a .kept = sym (h .2) ∙ ap (λ (x : Answer). x .kept) e in
-    subst (λ (r : Record). isSound r ≡ true) same (kept-and-sound (h .0) (h .1) .3)
+    let same : readText GroupOne (h .0) .kept ≡ a .kept = sym (h .2) ∙ ap (λ (x : Answer). x .kept) e in
+    subst (λ (r : Record). isSound r ≡ true) same (kept-and-sound GroupOne (h .0) (h .1) .3)
 
 -- two accepted answers, each kept under a house
 pub accepted-key : (h k : ℕ) (a b : Answer) → isHouse h ≡ true → isHouse k ≡ true → Accepted a → Accepted b

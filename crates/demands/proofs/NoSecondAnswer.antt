@@ -7,6 +7,7 @@ use Rattle.refusal.specs.Outcome.{Outcome, passed, refused}
 use Rattle.refusal.specs.declared.Written.{Written}
 use Rattle.refusal.proofs.Numbers.{refused-tells, outcome-tells, length-tells}
 use Rattle.sha256.specs.Answer.{Digests}
+use Rattle.zone.specs.declared.form.Source.the-variants.{Alone}
 use Rattle.zone.specs.declared.record.Record.{Record}
 use Rattle.text.specs.declared.read.Reading.{Reading}
 use Rattle.text.specs.Read.{Answer, answerOf, readText}
@@ -28,7 +29,7 @@ answer-tells r s e =
 pub only-digest : (input out a b : List ℕ) (r s : Written) → Digests input out a r → Digests input out b s → (r ≡ s) × (a ≡ b)
 only-digest input out a b r s p q = (length-tells r s (p .answer ∙ sym (q .answer)), p .output ∙ sym (q .output))
 
-pub only-reading : (t : List ℕ) (r s : Reading) → answerOf r ≡ readText t → answerOf s ≡ readText t → r ≡ s
+pub only-reading : (t : List ℕ) (r s : Reading) → answerOf r ≡ readText Alone t → answerOf s ≡ readText Alone t → r ≡ s
 only-reading t r s p q = answer-tells r s (p ∙ sym q)
 
 -- ---- what writes a text or an entry

@@ -2,6 +2,7 @@
 -- presentation around it is accepted with that record.
 use mathlib.Core.Path.{_≡_, ap, _∙_}
 use mathlib.Core.Bool.{true}
+use Rattle.zone.specs.declared.form.Source.the-variants.{Alone, GroupOne}
 use Rattle.lent.specs.Octets.{octets}
 use Rattle.refusal.specs.Outcome.{passed}
 use Rattle.sound.specs.Sound.{isSound}
@@ -13,11 +14,11 @@ use Rattle.presentation_theorems.proofs.TextsCarried.{every-text-carried}
 use Rattle.demands.specs.Examples.{T3}
 use Rattle.demands.proofs.Starred.{T3-accepted}
 
-pub T3-sound : isSound (readText (octets T3) .kept) ≡ true
-T3-sound = kept-and-sound (octets T3) T3-accepted .3
+pub T3-sound : isSound (readText Alone (octets T3) .kept) ≡ true
+T3-sound = kept-and-sound Alone (octets T3) (T3-accepted Alone) .3
 
-pub T3-carried : readPresentation (octetsOf (around (octets T3))) ≡ readText (octets T3)
-T3-carried = every-text-carried (octets T3) T3-accepted .1
+pub T3-carried : readPresentation (octetsOf (around (octets T3))) ≡ readText GroupOne (octets T3)
+T3-carried = every-text-carried (octets T3) (T3-accepted GroupOne) .1
 
 pub T3-carried-accepted : readPresentation (octetsOf (around (octets T3))) .outcome ≡ passed
-T3-carried-accepted = ap (λ (a : Answer). a .outcome) T3-carried ∙ T3-accepted
+T3-carried-accepted = ap (λ (a : Answer). a .outcome) T3-carried ∙ T3-accepted GroupOne

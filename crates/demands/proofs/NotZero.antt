@@ -6,6 +6,7 @@ use mathlib.Core.Bool.{Bool, true, false}
 use mathlib.Core.List.{List}
 use native.Mathlib.Omega.{arith}
 use lib.ListN.{length}
+use Rattle.zone.specs.declared.form.Source.the-variants.{Alone}
 use Rattle.refusal.specs.Numbers.{Why, by}
 use Rattle.refusal.specs.Length.{Length, written, refused}
 use Rattle.refusal.proofs.Outcomes.{refused-not-written}
@@ -29,11 +30,11 @@ NotZero l = (why : Why) (p : ℕ) → l ≡ refused why p → inC l .number ≡ 
 
 -- ---- the calls that read
 
-pub read-text-not-zero : (house : ℕ) (t out : List ℕ) → NotZero (readAnswer house (readText t) out)
+pub read-text-not-zero : (house : ℕ) (t out : List ℕ) → NotZero (readAnswer house (readText Alone t) out)
 unfolding readAnswer
 read-text-not-zero house t out why p denied zero =
-    zero-no-refusal house (readText t .kept) out (readText t .outcome) (text-numbered t) (text-sound t) why p denied
-    (sym (number-in-c (readAnswer house (readText t) out)) ∙ zero)
+    zero-no-refusal house (readText Alone t .kept) out (readText Alone t .outcome) (text-numbered Alone t) (text-sound t) why p denied
+    (sym (number-in-c (readAnswer house (readText Alone t) out)) ∙ zero)
 
 pub read-presentation-not-zero : (house : ℕ) (w out : List ℕ) → NotZero (readAnswer house (readPresentation w) out)
 unfolding readAnswer

@@ -7,6 +7,8 @@ use mathlib.Core.Logic.{_↔_}
 use mathlib.Core.Bool.{true, false}
 use mathlib.Core.List.{List}
 use Rattle.refusal.specs.Outcome.{passed}
+use Rattle.zone.specs.declared.form.Source.the-variants.{Alone}
+use Rattle.zone.specs.Form.{mayStand}
 use Rattle.zone.specs.declared.form.Form.{Form}
 use Rattle.zone.specs.Octets.{areOctets}
 use Rattle.sound.specs.Sound.{isSound}
@@ -28,31 +30,31 @@ use Rattle.demands.specs.InC.{inText, inPresentation}
 use Rattle.demands.proofs.KeyOfAnswers.{accepted-sound}
 use Rattle.demands.proofs.NumbersInC.{number-in-c, value-in-c}
 
-pub text-sound : (t : List ℕ) → readText t .outcome ≡ passed → isSound (readText t .kept) ≡ true
-text-sound t e = kept-and-sound t e .3
+pub text-sound : (t : List ℕ) → readText Alone t .outcome ≡ passed → isSound (readText Alone t .kept) ≡ true
+text-sound t e = kept-and-sound Alone t e .3
 
 pub presentation-sound : (w : List ℕ) → readPresentation w .outcome ≡ passed → isSound (readPresentation w .kept) ≡ true
 presentation-sound w e = accepted-sound (readPresentation w) (of-presentation w refl e)
 
 module _ (house : ℕ) (t out : List ℕ) where
-  pub read-text-exactly : (inText house t out .number ≡ 0) ↔ Allowed ((f : Form) × Keeps f t) house (readText t .kept) out
+  pub read-text-exactly : (inText house t out .number ≡ 0) ↔ Allowed ((f : Form) × (mayStand Alone f ≡ true) × Keeps f t) house (readText Alone t .kept) out
   unfolding readAnswer
   read-text-exactly =
-      rw (number-in-c (readAnswer house (readText t) out))
-      (zero-allowed house (readText t .kept) out (readText t .outcome) (text-numbered t) (text-sound t) _ (accepted-exactly t))
+      rw (number-in-c (readAnswer house (readText Alone t) out))
+      (zero-allowed house (readText Alone t .kept) out (readText Alone t .outcome) (text-numbered Alone t) (text-sound t) _ (accepted-exactly Alone t))
 
   pub read-text-leaves : inText house t out .number ≡ 0
-      → Leaves (entryOf house (readText t .kept)) out (inText house t out .value) (readOut house (readText t) out)
+      → Leaves (entryOf house (readText Alone t .kept)) out (inText house t out .value) (readOut house (readText Alone t) out)
   unfolding readAnswer readOut
   read-text-leaves =
-      rw (number-in-c (readAnswer house (readText t) out), value-in-c (readAnswer house (readText t) out))
-      (zero-leaves house (readText t .kept) out (readText t .outcome) (text-numbered t) (text-sound t))
+      rw (number-in-c (readAnswer house (readText Alone t) out), value-in-c (readAnswer house (readText Alone t) out))
+      (zero-leaves house (readText Alone t .kept) out (readText Alone t .outcome) (text-numbered Alone t) (text-sound t))
 
-  pub read-text-house : (inText house t out .number ≡ 17) ↔ ((readText t .outcome ≡ passed) × (isHouse house ≡ false))
+  pub read-text-house : (inText house t out .number ≡ 17) ↔ ((readText Alone t .outcome ≡ passed) × (isHouse house ≡ false))
   unfolding readAnswer
   read-text-house =
-      rw (number-in-c (readAnswer house (readText t) out))
-      (seventeen-exactly house (readText t .kept) out (readText t .outcome) (text-numbered t) (text-sound t))
+      rw (number-in-c (readAnswer house (readText Alone t) out))
+      (seventeen-exactly house (readText Alone t .kept) out (readText Alone t .outcome) (text-numbered Alone t) (text-sound t))
 
 module _ (house : ℕ) (w out : List ℕ) where
   pub read-presentation-exactly : areOctets w

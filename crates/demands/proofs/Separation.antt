@@ -6,6 +6,7 @@ use mathlib.Core.Path.{_≡_, sym, _∙_, subst}
 use mathlib.Core.List.{List}
 use mathlib.Core.Logic.{_↔_}
 use lib.ListN.{take}
+use Rattle.zone.specs.declared.form.Source.the-variants.{Alone}
 use Rattle.text.specs.Read.{Answer, readText}
 use Rattle.chip.specs.Presentation.{readPresentation}
 use Rattle.entry.proofs.Entered.{Enters}
@@ -25,8 +26,8 @@ enters : (h : ℕ) (a : Answer) (out : List ℕ) → Read a → inC (readAnswer 
 unfolding readAnswer
 enters h a out (of-text t e) zero =
     subst (λ (x : Answer). inC (readAnswer h x out) .number ≡ 0 → Enters (x .outcome) h (x .kept) out) e
-    (λ z. zero-enters h (readText t .kept) out (readText t .outcome) (text-numbered t) (text-sound t)
-    (sym (number-in-c (readAnswer h (readText t) out)) ∙ z)) zero
+    (λ z. zero-enters h (readText Alone t .kept) out (readText Alone t .outcome) (text-numbered Alone t) (text-sound t)
+    (sym (number-in-c (readAnswer h (readText Alone t) out)) ∙ z)) zero
 enters h a out (of-presentation w e) zero =
     subst (λ (x : Answer). inC (readAnswer h x out) .number ≡ 0 → Enters (x .outcome) h (x .kept) out) e
     (λ z. zero-enters h (readPresentation w .kept) out (readPresentation w .outcome) (presentation-numbered w)

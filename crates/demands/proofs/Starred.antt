@@ -2,9 +2,11 @@
 use mathlib.Core.Path.{_≡_, refl}
 use mathlib.Core.Bool.{true}
 use Rattle.refusal.specs.Outcome.{passed}
+use Rattle.zone.specs.declared.form.Source.{Source}
+use Rattle.zone.specs.declared.form.Source.the-variants.{Alone, GroupOne, Seal}
 use Rattle.zone.specs.Alphabet.{isDigit, isLetter, isFiller, isCharacter, isForeign, every, first, firstForeign}
 use Rattle.zone.specs.Part.{rank, same}
-use Rattle.zone.specs.Form.{row, forms, partOf, parts, start, startIn, width, widthIn, firstForm, formOf, field, pieceOf}
+use Rattle.zone.specs.Form.{row, forms, partOf, parts, start, startIn, width, widthIn, firstForm, mayStand, isOf, formOf, field, pieceOf}
 use Rattle.zone.specs.Form.{pieces, cut, joinedCuts, covered}
 use Rattle.zone.specs.Record.{trimmed, trimmedLength, padded}
 use Rattle.zone.specs.Codes.{codeOf}
@@ -33,18 +35,20 @@ unfolding allRight examples isRight isPassed isDigitAt T3 octets checkOf sumFrom
     widthIn field pieceOf pieces cut joinedCuts covered rank same recordBy spanOf isLong numberBy trimmed trimmedLength
     padded entryOf bits.octets gathered put puts putKey putRest codeOf formCode sexCode alike told isRead isRefused element
     tagAt tagWidth sizeAt sizeOf sized endsWithin
-    readText readBy answered formOf verdictBy characters firstForeign first isForeign isCharacter inOrder parts partOf
+    readText readBy answered mayStand isOf formOf verdictBy characters firstForeign first isForeign isCharacter inOrder parts partOf
     fieldCheck codeRule kindRule stateRule numberRule spanRule sexRule nameRule isNameCharacter every expiryRule
     digitCheck numberDigit furtherDigit personalDigit isLeftOut digitAt digitOf checkedBy passportRule isSecond
     lettersThenFillers isKnown
 starred = refl
 
 -- and by itself: T3 is accepted
-pub T3-accepted : readText (octets T3) .outcome ≡ passed
-unfolding T3 octets readText readBy answered formOf verdictBy characters firstForeign first isForeign isCharacter isDigit
+pub T3-accepted : (source : Source) → readText source (octets T3) .outcome ≡ passed
+unfolding T3 octets readText readBy answered mayStand isOf formOf verdictBy characters firstForeign first isForeign isCharacter isDigit
     isLetter isFiller inOrder parts partOf row forms firstForm start startIn width widthIn rank same field fieldCheck
     codeRule kindRule passportRule isSecond stateRule lettersThenFillers numberRule spanRule sexRule nameRule isNameCharacter every birthRule expiryRule isKnown
     pairOf yearOf monthOf dayOf isLeap isShort daysIn yearRule monthRule dayRule spanOf isLong
     digitCheck numberDigit furtherDigit personalDigit isLeftOut digitAt digitOf checkedBy checkOf sumFrom value weight
     covered pieceOf pieces cut joinedCuts
-T3-accepted = refl
+T3-accepted Alone = refl
+T3-accepted GroupOne = refl
+T3-accepted Seal = refl

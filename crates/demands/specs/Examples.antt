@@ -6,6 +6,7 @@ use mathlib.Core.Bool.{Bool, true, false, not, _&&_}
 use mathlib.Core.List.{List, [], _∷_, _++_}
 use lib.Dec.{eqb}
 use lib.ListN.{length, take, getD, replicate}
+use Rattle.zone.specs.declared.form.Source.the-variants.{Alone}
 use Rattle.zone.specs.declared.form.Form.the-variants.{Td3}
 use Rattle.zone.specs.Part.{Part, number, numberCheck, birth, birthCheck, expiry, expiryCheck, composite}
 use Rattle.zone.specs.Form.{start, field, covered}
@@ -67,9 +68,9 @@ isRight (digits s n b e c) =
 isRight (lengthRead l n) = isRead (told l n)
 isRight (lengthRefused l n) = isRefused 10 (told l n)
 isRight (entry s house n front) =
-    isPassed (readText (octets s) .outcome)
-    && (eqb (length (entryOf house (readText (octets s) .kept))) n
-    && alike (take (length front) (entryOf house (readText (octets s) .kept))) front)
+    isPassed (readText Alone (octets s) .outcome)
+    && (eqb (length (entryOf house (readText Alone (octets s) .kept))) n
+    && alike (take (length front) (entryOf house (readText Alone (octets s) .kept))) front)
 
 -- `P<UTONORD<<ELIN`, fillers to 44, then the second line
 unfoldable pub T3 : String

@@ -2,6 +2,7 @@
 use Prim.Native.Nat.{ℕ}
 use mathlib.Core.Path.{_≡_}
 use mathlib.Core.List.{List}
+use Rattle.zone.specs.declared.form.Source.the-variants.{Alone}
 use Rattle.text.specs.Read.{Answer, readText}
 use Rattle.chip.specs.Presentation.{readPresentation}
 use Rattle.lamphudet.specs.declared.AnswerInC.{AnswerInC}
@@ -10,7 +11,7 @@ use Rattle.lamphudet.specs.Calls.{readAnswer}
 
 -- `lamphudet_read_text`
 abbrev pub inText : (house : ℕ) (t out : List ℕ) → AnswerInC
-inText house t out = inC (readAnswer house (readText t) out)
+inText house t out = inC (readAnswer house (readText Alone t) out)
 
 -- `lamphudet_read_presentation`
 abbrev pub inPresentation : (house : ℕ) (w out : List ℕ) → AnswerInC
@@ -18,5 +19,5 @@ inPresentation house w out = inC (readAnswer house (readPresentation w) out)
 
 -- what either of them reads
 pub data Read (a : Answer) : Type 0 where
-  of-text : (t : List ℕ) → readText t ≡ a → Read a
+  of-text : (t : List ℕ) → readText Alone t ≡ a → Read a
   of-presentation : (w : List ℕ) → readPresentation w ≡ a → Read a

@@ -1,6 +1,7 @@
 // The calls that a C host makes. A call here decides nothing: it hands the lent ranges on and tells the answer in numbers,
 // or a record in its fields.
 ghost use mathlib.Core.Path.{_≡_};
+ghost use Rattle.zone.specs.declared.form.Source.the-variants.{Alone};
 ghost use Rattle.text.specs.Read.{readText};
 ghost use Rattle.chip.specs.Presentation.{readPresentation, groupStretch};
 ghost use Rattle.sha256.specs.Answer.{digestAnswer, digestOut};
@@ -12,6 +13,7 @@ use crate::border::in_c;
 use crate::border::next_in_c;
 use crate::border::stretch_in_c;
 use zone::form::Form;
+use zone::form::Source;
 
 mod as_entry;
 mod border;
@@ -53,10 +55,10 @@ pub struct RecordInC {
 // A text is read, and its record entered under a house.
 #[no_mangle]
 pub extern "C" fn lamphudet_read_text(house: u32, text: &[u8], entry: &mut [u8]) -> AnswerInC
-    ensures { λ r. ⌜ r ≡ inC (readAnswer house (readText (now (text .entry))) (now (entry .entry))) ⌝ }
-    ensures { λ _. ⌜ now (entry .exit) ≡ readOut house (readText (now (text .entry))) (now (entry .entry)) ⌝ }
+    ensures { λ r. ⌜ r ≡ inC (readAnswer house (readText Alone (now (text .entry))) (now (entry .entry))) ⌝ }
+    ensures { λ _. ⌜ now (entry .exit) ≡ readOut house (readText Alone (now (text .entry))) (now (entry .entry)) ⌝ }
 {
-    let reading = text::read::read(text);
+    let reading = text::read::read(Source::Alone, text);
     let verdict = reading.verdict;
     let record = reading.kept;
     in_c(entry::enter::enter(verdict, record, house, entry))

@@ -8,6 +8,7 @@ use mathlib.Core.List.{List, [], _++_}
 use lib.ListN.{length, drop}
 use Rattle.refusal.specs.Numbers.{Why}
 use Rattle.refusal.specs.Outcome.{passed, refused}
+use Rattle.zone.specs.declared.form.Source.the-variants.{GroupOne}
 use Rattle.zone.specs.declared.record.Record.{Record}
 use Rattle.zone.specs.Record.{blank}
 use Rattle.text.specs.Read.{Answer, readText}
@@ -57,7 +58,7 @@ module _ (w : List ℕ) (small : areOctets w) (r : Record) where
   -- what was decided, of what was walked
   decided-read : (o : Outer) (fs : List File) → Walked w (cut w (o .efcom)) (cut w (o .object)) o fs → length w ≤ 65535
       → w ≡ tlv 0x60 (cut w (o .efcom)) ++ (tlv 0x30 (cut w (o .object)) ++ allLent (lentIn w fs)) → decided w o ≡ value r
-      → (p : Contents) × (w ≡ octetsOf p) × Presented p × (readText (p .text) .kept ≡ r)
+      → (p : Contents) × (w ≡ octetsOf p) × Presented p × (readText GroupOne (p .text) .kept ≡ r)
   unfolding decided octetsOf commonOf objectOf
   decided-read o fs h most there e =
       let c = cut w (o .efcom) in
@@ -103,12 +104,12 @@ module _ (w : List ℕ) (small : areOctets w) (r : Record) where
           file-kept = file-kept (cut w tags) (signedIn w es) (lentIn w fs) (h .files-group) (k .1);
           lent-once = once-none (tagsOf (lentIn w fs)) (k .0);
           group-one = t .1;
-          text-kept = accepted-exactly (t .0) .0 (t .2);
+          text-kept = accepted-exactly GroupOne (t .0) .0 (t .2);
         },
         t .3,
       )
 
-  stages-read : readStages w ≡ value r → (p : Contents) × (w ≡ octetsOf p) × Presented p × (readText (p .text) .kept ≡ r)
+  stages-read : readStages w ≡ value r → (p : Contents) × (w ≡ octetsOf p) × Presented p × (readText GroupOne (p .text) .kept ≡ r)
   unfolding readStages
   stages-read e =
       let a = first-value (walked w) (λ (o : Outer). decided w o) r e in
@@ -125,14 +126,14 @@ each-backed : (p : Contents) → Presented p → EachBacked (p .tags) (p .entrie
 unfolding EachBacked
 each-backed p k l m = record { is-listed = k .file-kept l m .listed; is-signed = k .file-kept l m .signed }
 
-read-stages : (p : Contents) → Presented p → readStages (octetsOf p) ≡ value (readText (p .text) .kept)
+read-stages : (p : Contents) → Presented p → readStages (octetsOf p) ≡ value (readText GroupOne (p .text) .kept)
 unfolding readStages decided octetsOf commonOf objectOf
 read-stages p k =
     let w = octetsOf p in
     let most = k .size in
     let c = commonInside (p .digits) (p .tags) in
     let d = objectInside (p .followed) (p .entries) in
-    let r = readText (p .text) .kept in
+    let r = readText GroupOne (p .text) .kept in
     let a = parts-walked w most c d (p .lent) (each-group p k) refl in
     let o = a .0 in
     let fs = a .1 in
@@ -155,7 +156,7 @@ read-stages p k =
     (none-once (tagsOf (lentIn w fs)) tags-once) backed in
     let one = subst (λ (q : List Lent). isIn (record { tag = 0x61; content = tlv 0x5F1F (p .text) }) q) (sym lent)
     (k .group-one) in
-    let text = read-one w fs (h .files-stand) most (p .text) tags-once one (accepted-exactly (p .text) .1 (k .text-kept)) in
+    let text = read-one w fs (h .files-stand) most (p .text) tags-once one (accepted-exactly GroupOne (p .text) .1 (k .text-kept)) in
     value-then (walked w) (λ (q : Outer). decided w q) o (value r) (a .2)
     (value-then (readEfCom w (o .efcom)) (from-common w o) tags (value r) (l .1)
     (value-then (readObject w (o .object)) (from-object w o tags) es (value r) (s .1)
@@ -180,15 +181,15 @@ presentation-blank w n p e = go (readStages w) e
     go (refusal a b) h = refl
 
 -- the answer to the bytes of contents that belong together is the answer to their text
-pub presented-text : (p : Contents) → Presented p → readPresentation (octetsOf p) ≡ readText (p .text)
+pub presented-text : (p : Contents) → Presented p → readPresentation (octetsOf p) ≡ readText GroupOne (p .text)
 unfolding readPresentation answerBy
 presented-text p k =
-    let good : readText (p .text) .outcome ≡ passed = accepted-exactly (p .text) .1 (k .text-kept) in
-    ap answerBy (read-stages p k) ∙ (λ i. record { outcome = sym good i; kept = readText (p .text) .kept })
+    let good : readText GroupOne (p .text) .outcome ≡ passed = accepted-exactly GroupOne (p .text) .1 (k .text-kept) in
+    ap answerBy (read-stages p k) ∙ (λ i. record { outcome = sym good i; kept = readText GroupOne (p .text) .kept })
 
 -- accepted bytes are those of contents that belong together, and their record is that of the text
 pub presented-contents : (w : List ℕ) → areOctets w → readPresentation w .outcome ≡ passed
-    → (p : Contents) × (w ≡ octetsOf p) × Presented p × (readPresentation w .kept ≡ readText (p .text) .kept)
+    → (p : Contents) × (w ≡ octetsOf p) × Presented p × (readPresentation w .kept ≡ readText GroupOne (p .text) .kept)
 unfolding readPresentation
 presented-contents w small e =
     let a = passed-value (readStages w) e in
@@ -201,5 +202,5 @@ pub presented-exactly : (w : List ℕ) → areOctets w
 presented-exactly w small = (
   λ e. let a = presented-contents w small e in (a .0, a .1, a .2),
   λ h. ap (λ (v : List ℕ). readPresentation v .outcome) (h .1) ∙ ap (λ (x : Answer). x .outcome) (presented-text (h .0) (h .2))
-      ∙ accepted-exactly (h .0 .text) .1 (h .2 .text-kept),
+      ∙ accepted-exactly GroupOne (h .0 .text) .1 (h .2 .text-kept),
 )

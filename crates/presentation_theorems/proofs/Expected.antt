@@ -13,6 +13,7 @@ use Rattle.refusal.specs.Readers.{isPlain, isOfReader}
 use Rattle.refusal.specs.Outcome.{Outcome, passed, refused}
 use Rattle.refusal.proofs.Readers.{not-plain}
 use Rattle.refusal.proofs.Each.{Each}
+use Rattle.zone.specs.declared.form.Source.the-variants.{GroupOne}
 use Rattle.zone.specs.declared.record.Record.{Record}
 use Rattle.text.specs.Read.{readText}
 use Rattle.text.proofs.Within.{text-within}
@@ -33,16 +34,16 @@ Carries w (by n) q = (isPlain n ≡ true) × (q ≤ length w)
 Carries w (expecting d) q = FromText w d q × (q ≤ length w)
 
 -- the text's own refusals stand where the text does
-carries : (w : List ℕ) (v : Stretch) → textStretch w ≡ value v → (n : Why) (p : ℕ) → readText (cut w v) .outcome ≡ refused n p
+carries : (w : List ℕ) (v : Stretch) → textStretch w ≡ value v → (n : Why) (p : ℕ) → readText GroupOne (cut w v) .outcome ≡ refused n p
     → Carries w n (v .from + p)
 carries w v at n p e =
     let stood = text-stands w v at in
     let held = cut-within w v (le-trans (stood .0) (stood .1)) in
-    go n e (omega (arith, held, text-within (cut w v) n p e))
+    go n e (omega (arith, held, text-within GroupOne (cut w v) n p e))
   where
-    go : (n : Why) → readText (cut w v) .outcome ≡ refused n p → v .from + p ≤ length w → Carries w n (v .from + p)
+    go : (n : Why) → readText GroupOne (cut w v) .outcome ≡ refused n p → v .from + p ≤ length w → Carries w n (v .from + p)
     go (expecting d) e h = (record { held = v; stands = at; own = p; text-refused = e; there = refl }, h)
-    go (by n) e h = (text-numbered (cut w v) (by n) p e, h)
+    go (by n) e h = (text-numbered GroupOne (cut w v) (by n) p e, h)
 
 moved-each : (P : Why → ℕ → Type 0) (at : ℕ) (o : Outcome) (r : Record)
     → ((n : Why) (p : ℕ) → o ≡ refused n p → P n (at + p))
@@ -66,7 +67,7 @@ module _ (w : List ℕ) where
   presentation-carries n q e =
       each-then (Carries w) (textStretch w) (onwards w)
       (before-text (Carries w) (length w) (λ n q h k. (h, k)) w (le-refl (length w)))
-      (λ v at. moved-each (Carries w) (v .from) (readText (cut w v) .outcome) (readText (cut w v) .kept) (carries w v at))
+      (λ v at. moved-each (Carries w) (v .from) (readText GroupOne (cut w v) .outcome) (readText GroupOne (cut w v) .kept) (carries w v at))
       n q (sym outcome-through ∙ e)
 
   -- refused by 9 with a digit, at a place: exactly where its text is refused by 9 with that digit, there
@@ -77,7 +78,7 @@ module _ (w : List ℕ) where
     λ t.
         outcome-through
         ∙ (ap (λ (m : Read Stretch). outcomeIn (andThen m (onwards w))) (t .stands)
-        ∙ (ap (λ (o : Outcome). outcomeIn (moved (t .held .from) (record { outcome = o; kept = readText (cut w (t .held)) .kept })))
+        ∙ (ap (λ (o : Outcome). outcomeIn (moved (t .held .from) (record { outcome = o; kept = readText GroupOne (cut w (t .held)) .kept })))
         (t .text-refused)
         ∙ ap (refused (expecting d)) (sym (t .there)))),
   )

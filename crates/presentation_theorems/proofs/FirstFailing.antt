@@ -9,6 +9,7 @@ use lib.ListN.{length, take}
 use Rattle.refusal.specs.Numbers.{Why}
 use Rattle.refusal.specs.Outcome.{Outcome, passed, refused, unless}
 use Rattle.refusal.proofs.Outcomes.{both-passed}
+use Rattle.zone.specs.declared.form.Source.the-variants.{GroupOne}
 use Rattle.zone.specs.declared.record.Record.{Record}
 use Rattle.lent.specs.Octets.{stands}
 use Rattle.text.specs.Read.{readText}
@@ -82,7 +83,7 @@ module _ (w : List ℕ) where
   hashes = entriesIn security (entriesPlace security (object w .from))
 
   abbrev kept : Read Record
-  kept = value (readText (textIn w filesAt) .kept)
+  kept = value (readText GroupOne (textIn w filesAt) .kept)
 
   entered : (g : ℕ) → ltb 0 (digestFor g hashes) ≡ stands g (map (λ e. e .group) hashes)
   unfolding entriesIn
@@ -121,7 +122,7 @@ module _ (w : List ℕ) where
   unfolding readPresentation
   presentation-first =
       answer-outcome (readStages w) ∙ ap (λ (m : Read Record). outcomeIn m) stages-rows
-      ∙ under-outcome (presentationChecks w) (readText (textIn w filesAt) .kept)
+      ∙ under-outcome (presentationChecks w) (readText GroupOne (textIn w filesAt) .kept)
 
 pub presentation-refused-exactly : (w : List ℕ) (n : Why) (p : ℕ)
     → (readPresentation w .outcome ≡ refused n p) ↔ FirstFailing (presentationChecks w) n p

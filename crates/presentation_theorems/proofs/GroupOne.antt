@@ -11,6 +11,7 @@ use lib.Dec.{eqb, leb}
 use lib.ListN.{length, take, drop, getD}
 use Rattle.lent.proofs.Bools.{and-both}
 use Rattle.refusal.specs.Outcome.{Outcome, passed, refused}
+use Rattle.zone.specs.declared.form.Source.the-variants.{GroupOne}
 use Rattle.zone.specs.declared.record.Record.{Record}
 use Rattle.text.specs.Read.{readText}
 use Rattle.tlv.specs.declared.Stretch.{Stretch}
@@ -67,36 +68,36 @@ moved-passed at o k e = rw e
 
 module _ (s : List ℕ) (at : ℕ) where
   text-read : areOctets s → (r : Record) → textAt s at ≡ value r
-      → (t : List ℕ) × (drop at s ≡ tlv 0x5F1F t) × (readText t .outcome ≡ passed) × (readText t .kept ≡ r)
+      → (t : List ℕ) × (drop at s ≡ tlv 0x5F1F t) × (readText GroupOne t .outcome ≡ passed) × (readText GroupOne t .kept ≡ r)
   unfolding textAt
   text-read small r e =
       let a = first-value (element s at 0x5F1F)
-      (λ (u : Stretch). checked (endCheck s (u .to)) (moved (u .from) (readText (cut s u)))) r e in
+      (λ (u : Stretch). checked (endCheck s (u .to)) (moved (u .from) (readText GroupOne (cut s u)))) r e in
       let v = a .0 in
-      let b = checked-value (endCheck s (v .to)) (moved (v .from) (readText (cut s v))) r (a .2) in
+      let b = checked-value (endCheck s (v .to)) (moved (v .from) (readText GroupOne (cut s v))) r (a .2) in
       let h = read-element s at 0x5F1F small v (a .1) in
       let t = cut s v in
-      let m = passed-moved (v .from) (readText t .outcome) (readText t .kept) r (b .1) in (
+      let m = passed-moved (v .from) (readText GroupOne t .outcome) (readText GroupOne t .kept) r (b .1) in (
         t,
         h .octets-there ∙ ap (λ (l : List ℕ). tlv 0x5F1F t ++ l) (nothing-left s (v .to) (b .0)) ∙ append-nil (tlv 0x5F1F t),
         m .0,
         m .1,
       )
 
-  read-text : length s ≤ 65535 → (t : List ℕ) → drop at s ≡ tlv 0x5F1F t → readText t .outcome ≡ passed
-      → textAt s at ≡ value (readText t .kept)
+  read-text : length s ≤ 65535 → (t : List ℕ) → drop at s ≡ tlv 0x5F1F t → readText GroupOne t .outcome ≡ passed
+      → textAt s at ≡ value (readText GroupOne t .kept)
   unfolding textAt
   read-text most t e k =
       let a = last-read s at 0x5F1F most t e in
       let v = a .0 in
       let places = place-behind s at 0x5F1F t [] v (a .2) in
       let there : cut s v ≡ t = cut-there s at 0x5F1F t [] v (a .2) in
-      let r = readText t .kept in
-      let read : moved (v .from) (readText (cut s v)) ≡ value r = ap (λ (x : List ℕ). moved (v .from) (readText x)) there
-      ∙ moved-passed (v .from) (readText t .outcome) r k in
-      value-then (element s at 0x5F1F) (λ (u : Stretch). checked (endCheck s (u .to)) (moved (u .from) (readText (cut s u)))) v
+      let r = readText GroupOne t .kept in
+      let read : moved (v .from) (readText GroupOne (cut s v)) ≡ value r = ap (λ (x : List ℕ). moved (v .from) (readText GroupOne x)) there
+      ∙ moved-passed (v .from) (readText GroupOne t .outcome) r k in
+      value-then (element s at 0x5F1F) (λ (u : Stretch). checked (endCheck s (u .to)) (moved (u .from) (readText GroupOne (cut s u)))) v
       (value r) (a .1)
-      (value-checked (endCheck s (v .to)) (moved (v .from) (readText (cut s v))) (value r)
+      (value-checked (endCheck s (v .to)) (moved (v .from) (readText GroupOne (cut s v))) (value r)
       (left-nothing s (v .to) (places .2) (a .2 .rest-there)) read)
 
 -- ---- the first file of a group
@@ -149,8 +150,8 @@ found-first w c (x ∷ fs) once (inr m) =
 
 module _ (w : List ℕ) (fs : List File) (each : EachStands w fs) where
   pub one-read : areOctets w → (r : Record) → groupOne w fs ≡ value r
-      → (t : List ℕ) × isIn (record { tag = 0x61; content = tlv 0x5F1F t }) (lentIn w fs) × (readText t .outcome ≡ passed)
-      × (readText t .kept ≡ r)
+      → (t : List ℕ) × isIn (record { tag = 0x61; content = tlv 0x5F1F t }) (lentIn w fs) × (readText GroupOne t .outcome ≡ passed)
+      × (readText GroupOne t .kept ≡ r)
   unfolding groupOne EachStands FileStands lentAt
   one-read small r e =
       let a = first-value (firstFile w 1 fs) (λ (f : File). textAt (take (f .held .to) w) (f .held .from)) r e in
@@ -169,7 +170,7 @@ module _ (w : List ℕ) (fs : List File) (each : EachStands w fs) where
 
   pub read-one : length w ≤ 65535 → (t : List ℕ) → isOnce (tagsOf (lentIn w fs)) ≡ true
       → isIn (record { tag = 0x61; content = tlv 0x5F1F t }) (lentIn w fs)
-      → readText t .outcome ≡ passed → groupOne w fs ≡ value (readText t .kept)
+      → readText GroupOne t .outcome ≡ passed → groupOne w fs ≡ value (readText GroupOne t .kept)
   unfolding groupOne EachStands FileStands
   read-one most t once k p =
       let a = found-first w (tlv 0x5F1F t) fs once k in
@@ -177,6 +178,6 @@ module _ (w : List ℕ) (fs : List File) (each : EachStands w fs) where
       let n = getD w (f .start) 0 in
       let h = each f (a .2) in
       let there = inside w (f .start) n (cut w (f .held)) (drop (f .held .to) w) (f .held) h ∙ a .3 in
-      value-then (firstFile w 1 fs) (λ (x : File). textAt (take (x .held .to) w) (x .held .from)) f (value (readText t .kept))
+      value-then (firstFile w 1 fs) (λ (x : File). textAt (take (x .held .to) w) (x .held .from)) f (value (readText GroupOne t .kept))
       (a .1)
       (read-text (take (f .held .to) w) (f .held .from) (take-most (f .held .to) 65535 w most) t there p)

@@ -7,6 +7,7 @@ use mathlib.Core.List.{List, [], _∷_, map}
 use lib.Dec.{eqb}
 use lib.ListN.{length, take, getD}
 use Rattle.refusal.specs.Outcome.{Outcome, passed, refused, unless}
+use Rattle.zone.specs.declared.form.Source.the-variants.{GroupOne}
 use Rattle.zone.specs.declared.record.Record.{Record}
 use Rattle.lent.specs.Octets.{stands}
 use Rattle.text.specs.Read.{readText}
@@ -31,15 +32,15 @@ first-moved at [] = refl
 first-moved at (passed ∷ os) = first-moved at os
 first-moved at (refused n p ∷ os) = refl
 
-moved-rows : (at : ℕ) (t : List ℕ) → moved at (readText t) ≡ under (map (movedTo at) (checksOf t)) (value (readText t .kept))
+moved-rows : (at : ℕ) (t : List ℕ) → moved at (readText GroupOne t) ≡ under (map (movedTo at) (checksOf GroupOne t)) (value (readText GroupOne t .kept))
 unfolding moved
 moved-rows at t =
-    let r : Read Record = value (readText t .kept) in
-    ap (λ (o : Outcome). checked o r) (ap (movedTo at) (read-first t) ∙ first-moved at (checksOf t))
-    ∙ under-first (map (movedTo at) (checksOf t)) r
+    let r : Read Record = value (readText GroupOne t .kept) in
+    ap (λ (o : Outcome). checked o r) (ap (movedTo at) (read-first GroupOne t) ∙ first-moved at (checksOf GroupOne t))
+    ∙ under-first (map (movedTo at) (checksOf GroupOne t)) r
 
 text-rows : (s : List ℕ) (at : ℕ)
-    → textAt s at ≡ under (textChecks s at) (value (readText (cut s (stretchAt s at Tag.text)) .kept))
+    → textAt s at ≡ under (textChecks s at) (value (readText GroupOne (cut s (stretchAt s at Tag.text)) .kept))
 unfolding textAt textChecks under
 text-rows s at =
     let v = stretchAt s at Tag.text in
@@ -74,7 +75,7 @@ textIn w ps =
     cut (take (one .to) w) (stretchAt (take (one .to) w) (one .from) Tag.text)
 
 pub group-one-rows : (w ps : List ℕ)
-    → groupOne w (map (lentFile w) ps) ≡ under (groupOneChecks w ps) (value (readText (textIn w ps) .kept))
+    → groupOne w (map (lentFile w) ps) ≡ under (groupOneChecks w ps) (value (readText GroupOne (textIn w ps) .kept))
 unfolding groupOne groupOneChecks under
 group-one-rows w ps =
     let one = lentFile w (groupOnePlace w ps) in

@@ -3,10 +3,13 @@
 use Prim.Native.Nat.{ℕ, _+_, _≤_}
 use mathlib.Core.Path.{_≡_, refl, sym, subst}
 use mathlib.Core.Logic.{inl, inr}
+use mathlib.Core.Bool.{true}
 use mathlib.Core.List.{List, [], _∷_, _++_}
 use native.Mathlib.Omega.{arith}
 use lib.ListN.{length, length-append, replicate}
 use Rattle.refusal.specs.Outcome.{passed}
+use Rattle.zone.specs.declared.form.Source.the-variants.{GroupOne}
+use Rattle.zone.specs.Form.{mayStand}
 use Rattle.zone.specs.declared.form.Form.{Form}
 use Rattle.zone.specs.Alphabet.{isDigit, every}
 use Rattle.text.specs.Read.{readText}
@@ -92,9 +95,9 @@ files-kept t f (inl h) = subst (FileKept (around t .tags) (around t .entries)) (
     (record { of-group = refl; listed = refl; signed = inl refl })
 files-kept t f (inr k) = absurd k
 
-around-presented : (t : List ℕ) → length t ≤ 90 → (f : Form) → Keeps f t → Presented (around t)
+around-presented : (t : List ℕ) → length t ≤ 90 → (f : Form) × (mayStand GroupOne f ≡ true) × Keeps f t → Presented (around t)
 unfolding around isIn isOnce numbers tagsOf stands isGroup groupOf every isDigit
-around-presented t small f k = record {
+around-presented t small k = record {
   size = most-octets t small;
   digits-six = refl;
   digits-only = refl;
@@ -106,14 +109,14 @@ around-presented t small f k = record {
   file-kept = files-kept t;
   lent-once = refl;
   group-one = inl refl;
-  text-kept = (f, k);
+  text-kept = k;
 }
 
-pub every-text-carried : (t : List ℕ) → readText t .outcome ≡ passed
-    → Presented (around t) × (readPresentation (octetsOf (around t)) ≡ readText t)
+pub every-text-carried : (t : List ℕ) → readText GroupOne t .outcome ≡ passed
+    → Presented (around t) × (readPresentation (octetsOf (around t)) ≡ readText GroupOne t)
 unfolding around
 every-text-carried t e =
-    let k = accepted-exactly t .0 e in
-    let small : length t ≤ 90 = omega (arith, k .1 .size, total-le (k .0)) in
-    let p = around-presented t small (k .0) (k .1) in
+    let k = accepted-exactly GroupOne t .0 e in
+    let small : length t ≤ 90 = omega (arith, k .2 .size, total-le (k .0)) in
+    let p = around-presented t small k in
     (p, presented-text (around t) p)

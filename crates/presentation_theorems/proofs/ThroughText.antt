@@ -6,6 +6,7 @@ use mathlib.Core.List.{List, []}
 use native.Mathlib.Omega.{arith}
 use lib.ListN.{length, take, length-take}
 use Rattle.refusal.specs.Outcome.{Outcome, passed, refused}
+use Rattle.zone.specs.declared.form.Source.the-variants.{GroupOne}
 use Rattle.zone.specs.declared.record.Record.{Record}
 use Rattle.text.specs.Read.{readText}
 use Rattle.tlv.specs.declared.Stretch.{Stretch}
@@ -42,7 +43,7 @@ checked-behind (refused n p) m g k e = refl
 
 module _ (w : List ℕ) where
   unfoldable pub onwards : Stretch → Read Record
-  onwards v = moved (v .from) (readText (cut w v))
+  onwards v = moved (v .from) (readText GroupOne (cut w v))
 
   text-behind : (k at : ℕ)
       → textAt (take k w) at
@@ -51,7 +52,7 @@ module _ (w : List ℕ) where
   text-behind k at = then-behind (element (take k w) at Tag.text) _ onwards _ (λ v e.
       let in-s = value-within (take k w) at Tag.text v e in
       checked-behind (endCheck (take k w) (v .to)) (value v) onwards _
-      (ap (λ (t : List ℕ). moved (v .from) (readText t)) (cut-same w k v (omega (arith, in-s .2, length-take k w)) (in-s .1))))
+      (ap (λ (t : List ℕ). moved (v .from) (readText GroupOne t)) (cut-same w k v (omega (arith, in-s .2, length-take k w)) (in-s .1))))
 
   pub through-text : readStages w ≡ andThen (textStretch w) onwards
   unfolding textStretch readStages decided groupOne

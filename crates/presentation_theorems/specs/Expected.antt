@@ -4,6 +4,7 @@ use Prim.Native.Nat.{ℕ, _+_}
 use mathlib.Core.Path.{_≡_}
 use mathlib.Core.List.{List, []}
 use lib.ListN.{take}
+use Rattle.zone.specs.declared.form.Source.the-variants.{GroupOne}
 use Rattle.refusal.specs.Numbers.{expecting}
 use Rattle.refusal.specs.Outcome.{refused}
 use Rattle.text.specs.Read.{readText}
@@ -35,5 +36,5 @@ pub record FromText (w : List ℕ) (d place : ℕ) : Type 0 where
   pub held : Stretch
   pub stands : textStretch w ≡ value held
   pub own : ℕ
-  pub text-refused : readText (cut w held) .outcome ≡ refused (expecting d) own
+  pub text-refused : readText GroupOne (cut w held) .outcome ≡ refused (expecting d) own
   pub there : place ≡ held .from + own

@@ -6,6 +6,7 @@ use mathlib.Core.Bool.{cond, not}
 use mathlib.Core.List.{List, [], _∷_, _++_, map}
 use lib.Dec.{eqb, leb}
 use lib.ListN.{length, take, getD}
+use Rattle.zone.specs.declared.form.Source.the-variants.{GroupOne}
 use Rattle.refusal.specs.Outcome.{Outcome, unless}
 use Rattle.lent.specs.Octets.{stands}
 use Rattle.tlv.specs.declared.Stretch.{Stretch}
@@ -69,7 +70,7 @@ filesChecks w tags before es (at ∷ ps) = fileChecks w tags before es at ++ fil
 unfoldable pub textChecks : List ℕ → ℕ → List Outcome
 textChecks s at =
     let v = stretchAt s at Tag.text in
-    coded s at Tag.text ∷ endCheck s (v .to) ∷ map (movedTo (v .from)) (checksOf (cut s v))
+    coded s at Tag.text ∷ endCheck s (v .to) ∷ map (movedTo (v .from)) (checksOf GroupOne (cut s v))
 
 -- where the first file with tag 61 stands
 unfoldable pub groupOnePlace : List ℕ → List ℕ → ℕ

@@ -6,6 +6,8 @@ use mathlib.Core.Logic.{_⊎_}
 use mathlib.Core.Bool.{Bool, true, false, cond, not, _&&_}
 use mathlib.Core.List.{List, [], _∷_, _++_}
 use lib.ListN.{length, replicate}
+use Rattle.zone.specs.declared.form.Source.the-variants.{GroupOne}
+use Rattle.zone.specs.Form.{mayStand}
 use Rattle.zone.specs.declared.form.Form.{Form}
 use Rattle.zone.specs.Alphabet.{isDigit, every}
 use Rattle.sha256.specs.Hash.{sha256}
@@ -142,7 +144,7 @@ pub record Presented (p : Contents) : Type 0 where
   pub lent-once : isOnce (tagsOf (p .lent)) ≡ true
   -- "Inside group 1: 5F1F and the text, exactly filling 61", and the text keeps every rule
   pub group-one : isIn (record { tag = Tag.group1; content = tlv Tag.text (p .text) }) (p .lent)
-  pub text-kept : (f : Form) × Keeps f (p .text)
+  pub text-kept : (f : Form) × (mayStand GroupOne f ≡ true) × Keeps f (p .text)
 
 -- ---- the file of a group
 

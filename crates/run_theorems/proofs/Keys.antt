@@ -9,6 +9,7 @@ use native.Mathlib.Omega.{arith}
 use lib.ListN.{length, take}
 use lib.Seq.{take-at}
 use Rattle.refusal.specs.Outcome.{passed}
+use Rattle.zone.specs.declared.form.Source.the-variants.{Alone}
 use Rattle.zone.specs.declared.record.Record.{Record}
 use Rattle.zone.specs.Record.{trimmedLength, trimmed, padded}
 use Rattle.zone.proofs.Padded.{padded-exact, padded-trimmed}
@@ -94,8 +95,8 @@ module _ (h k : ℕ) (r q : Record) (house : isHouse h ≡ true) (sound : isSoun
   key-exactly = (agreeing, agreed)
 
 -- for two accepted texts, each kept under a house
-pub texts-key : (h k : ℕ) (t u : List ℕ) → isHouse h ≡ true → isHouse k ≡ true → readText t .outcome ≡ passed
-    → readText u .outcome ≡ passed
-    → (keyOf h (readText t .kept) ≡ keyOf k (readText u .kept)) ↔ SameKey h (readText t .kept) k (readText u .kept)
+pub texts-key : (h k : ℕ) (t u : List ℕ) → isHouse h ≡ true → isHouse k ≡ true → readText Alone t .outcome ≡ passed
+    → readText Alone u .outcome ≡ passed
+    → (keyOf h (readText Alone t .kept) ≡ keyOf k (readText Alone u .kept)) ↔ SameKey h (readText Alone t .kept) k (readText Alone u .kept)
 texts-key h k t u house house′ e f =
-    key-exactly h k (readText t .kept) (readText u .kept) house (kept-and-sound t e .3) house′ (kept-and-sound u f .3)
+    key-exactly h k (readText Alone t .kept) (readText Alone u .kept) house (kept-and-sound Alone t e .3) house′ (kept-and-sound Alone u f .3)

@@ -8,6 +8,7 @@ use lib.Dec.{eqb, leb}
 use lib.ListN.{length, take, drop}
 use Rattle.refusal.specs.Outcome as outcome
 use Rattle.refusal.specs.Outcome.{unless, outcomeOf}
+use Rattle.zone.specs.declared.form.Source.the-variants as source
 use Rattle.zone.specs.Record.{blank}
 use Rattle.zone.specs.declared.record.Record.{Record}
 use Rattle.text.specs.Read.{Answer, readText}
@@ -46,7 +47,7 @@ withText h at a v = checked (placed at (a .outcome)) (value (record { header = h
 
 -- 27, then the text
 unfoldable pub withImage : List ℕ → Header → Features → (t : List ℕ) → Read Said
-withImage s h f t = andThen (signatureAt s (f .end)) (λ v. withText h (f .text) (readText (filled t)) v)
+withImage s h f t = andThen (signatureAt s (f .end)) (λ v. withText h (f .text) (readText source.Seal (filled t)) v)
 
 -- feature 02 absent, 25 at FF or the end; then 26, its C40 bad or not 72 characters, at the feature
 unfoldable pub withFeatures : List ℕ → Header → Features → Read Said

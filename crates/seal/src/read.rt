@@ -18,6 +18,7 @@ use tlv::Stretch;
 use tlv::Taken;
 use zone::alphabet::FILLER;
 use zone::form::Form;
+use zone::form::Source;
 use zone::record::Record;
 
 // What a seal was read as. Header, record and signature are blank wherever the verdict is a refusal.
@@ -70,7 +71,7 @@ fn with_image(s: &[u8], header: Header, found: Features, image: [u8; Form::TD2_T
         Taken::Value(v) => {
             let mut text = image;
             to_fillers(&mut text);
-            with_text(header, found.text, text::read::read(&text), v)
+            with_text(header, found.text, text::read::read(Source::Seal, &text), v)
         }
         Taken::Refused(why) => refuse(why),
     }

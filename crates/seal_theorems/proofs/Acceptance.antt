@@ -14,6 +14,7 @@ use lib.Seq.{drop-at}
 use Rattle.lent.proofs.Bools.{not-so}
 use Rattle.refusal.specs.Outcome.{passed, unless}
 use Rattle.refusal.proofs.Outcomes.{kept-unless}
+use Rattle.zone.specs.declared.form.Source.the-variants.{Seal}
 use Rattle.zone.specs.Octets.{areOctets}
 use Rattle.text.specs.Read.{readText}
 use Rattle.tlv.specs.Read.{checked}
@@ -85,7 +86,7 @@ stages-sealed s small c k =
               text-length = text .0;
               text-c40 = text .1;
             };
-            text-kept = accepted-exactly (filled (textIn s f)) .0 (k .text-stage);
+            text-kept = accepted-exactly Seal (filled (textIn s f)) .0 (k .text-stage);
           },
           whole,
         )
@@ -95,7 +96,7 @@ stages-sealed s small c k =
 module _ (p : Contents) (k : Shaped p) where
   -- what is read of contents that keep every rule but those of the text, and where the signature stands
   shaped-read : (saidIn (octetsOf p)
-      ≡ withText (headerIn (p .head)) (featurePlace p) (readText (filled (p .text))) (signatureIn p))
+      ≡ withText (headerIn (p .head)) (featurePlace p) (readText Seal (filled (p .text))) (signatureIn p))
       × (cut (octetsOf p) (signatureIn p) ≡ p .signature)
   unfolding saidIn withHeader withFeatures withImage octetsOf featurePlace signatureIn
   shaped-read =
@@ -115,11 +116,11 @@ module _ (p : Contents) (k : Shaped p) where
       let i = inside-image s f c last n (a .3) (p .text) (k .text-length) (k .text-c40) refl in
       let v = read-signature s (f .end) g most (a .4) in
       let stretch = signatureIn p in
-      let r = withText (headerIn (p .head)) (featurePlace p) (readText (filled (p .text))) stretch in
+      let r = withText (headerIn (p .head)) (featurePlace p) (readText Seal (filled (p .text))) stretch in
       let place : f .text ≡ featurePlace p = a .2 ∙ ap (λ (m : ℕ). m + length (joined (p .before))) (h .head-end) in
       let some : eqb (f .text) 0 ≡ false = ne-eqb (f .text) 0 (λ q. omega (arith, a .2, some-header s)) in
       let text : from-signature s (headerOf s) f stretch ≡ r =
-      λ m. withText (h .head-read m) (place m) (readText (filled (i .1 m))) stretch in (
+      λ m. withText (h .head-read m) (place m) (readText Seal (filled (i .1 m))) stretch in (
         value-checked (unless (leb (length s) 65535) 1 0) (checked (headerCheck s) (withHeader s (headerOf s) end)) r
             (kept-unless (leb (length s) 65535) 1 0 (le-leb (length s) 65535 most))
             (value-checked (headerCheck s) (withHeader s (headerOf s) end) r (h .head-passed)
@@ -141,16 +142,16 @@ sealed-signature p k = shaped-read p k .1
 
 -- where every rule is kept but those of the text, the text decides, at the feature's first octet
 pub shaped-answer : (p : Contents) → Shaped p
-    → saidIn (octetsOf p) ≡ withText (headerIn (p .head)) (featurePlace p) (readText (filled (p .text))) (signatureIn p)
+    → saidIn (octetsOf p) ≡ withText (headerIn (p .head)) (featurePlace p) (readText Seal (filled (p .text))) (signatureIn p)
 shaped-answer p k = shaped-read p k .0
 
 -- the answer to the octets of contents that keep every rule: header fields, the record of the text, and the signature
 pub sealed-answer : (p : Contents) → Sealed p → readSeal (octetsOf p) ≡ answerIn p
 unfolding readSeal answerBy answerIn
 sealed-answer p k =
-    let a = readText (filled (p .text)) in
+    let a = readText Seal (filled (p .text)) in
     ap answerBy (shaped-answer p (k .shaped) ∙ passed-text (headerIn (p .head)) (featurePlace p) a (signatureIn p)
-    (accepted-exactly (filled (p .text)) .1 (k .text-kept)))
+    (accepted-exactly Seal (filled (p .text)) .1 (k .text-kept)))
 
 -- octets are accepted exactly when they are those of contents that keep every rule
 pub sealed-exactly : (s : List ℕ) → areOctets s

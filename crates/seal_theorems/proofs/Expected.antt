@@ -7,6 +7,7 @@ use mathlib.Core.Bool.{true, not}
 use mathlib.Core.List.{List}
 use lib.Dec.{eqb, leb}
 use lib.ListN.{length}
+use Rattle.zone.specs.declared.form.Source.the-variants.{Seal}
 use Rattle.refusal.specs.Numbers.{Why, by, expecting, numberOf}
 use Rattle.refusal.specs.Readers.{isPlain, isOfReader}
 use Rattle.refusal.specs.Outcome.{Outcome, refused, unless}
@@ -42,9 +43,9 @@ Carries s (by n) q = (isPlain n ≡ true) × (q ≤ length s)
 Carries s (expecting d) q = FromFeature s d q × (q ≤ length s)
 
 carries : (s : List ℕ) (f : Features) → features s (headerEnd s) ≡ value f → f .text ≤ length s → (n : Why) (p : ℕ)
-    → readText (filled (textIn s f)) .outcome ≡ refused n p → Carries s n (f .text)
+    → readText Seal (filled (textIn s f)) .outcome ≡ refused n p → Carries s n (f .text)
 carries s f w h (expecting d) p e = (record { found = f; walked = w; own = p; text-refused = e; there = refl }, h)
-carries s f w h (by n) p e = (text-numbered (filled (textIn s f)) (by n) p e, h)
+carries s f w h (by n) p e = (text-numbered Seal (filled (textIn s f)) (by n) p e, h)
 
 said-each : (s : List ℕ) → EachRead (Carries s) (saidIn s)
 unfolding saidIn withHeader withFeatures withImage withText features
@@ -61,8 +62,8 @@ said-each s =
     (each-unless P (not (eqb (f .text) 0)) 25 (f .end) (refl, there .1))
     (each-checked P (unless image 26 (f .text)) _ (each-unless P image 26 (f .text) (refl, there .0))
     (each-then P (signatureAt s (f .end)) _ (signature-each s P p (f .end) (there .1)) (λ v i.
-    each-checked P (placed (f .text) (readText (filled (textIn s f)) .outcome)) _
-    (placed-each s P p (f .text) (readText (filled (textIn s f)) .outcome) (λ n q h. carries s f w (there .0) n q h))
+    each-checked P (placed (f .text) (readText Seal (filled (textIn s f)) .outcome)) _
+    (placed-each s P p (f .text) (readText Seal (filled (textIn s f)) .outcome) (λ n q h. carries s f w (there .0) n q h))
     (each-value P _)))))))
 
 seal-carries : (s : List ℕ) → Each (Carries s) (readSeal s .outcome)

@@ -8,6 +8,7 @@ use mathlib.Core.List.{List, [], _∷_, _++_, map}
 use native.Mathlib.Omega.{arith}
 use lib.Dec.{eqb, leb}
 use lib.ListN.{length, getD}
+use Rattle.zone.specs.declared.form.Source.the-variants.{Seal}
 use Rattle.refusal.specs.Numbers.{Why, by}
 use Rattle.refusal.specs.Outcome.{Outcome, passed, refused, orElse, unless}
 use Rattle.refusal.proofs.Outcomes.{orElse-assoc, orElse-passed, both-passed, unless-kept, kept-unless}
@@ -174,7 +175,7 @@ module _ (s : List ℕ) where
   abbrev said : Header → Features → Read Said
   said h f = value (record {
     header = h;
-    kept = readText (filled (textIn s f)) .kept;
+    kept = readText Seal (filled (textIn s f)) .kept;
     signature = stretchAt s (f .end) signatureTag;
   })
 
@@ -189,14 +190,14 @@ module _ (s : List ℕ) where
   unfolding withFeatures withImage withText checksBehind under isField
   behind-rows h f =
       let t = filled (textIn s f) in
-      let text : placed (f .text) (readText t .outcome) ≡ firstOf (map (placed (f .text)) (checksOf t)) =
-      ap (placed (f .text)) (read-first t) ∙ first-placed (f .text) (checksOf t) in
+      let text : placed (f .text) (readText Seal t .outcome) ≡ firstOf (map (placed (f .text)) (checksOf Seal t)) =
+      ap (placed (f .text)) (read-first Seal t) ∙ first-placed (f .text) (checksOf Seal t) in
       let image = imageAt (featureOctets s f) 2 72 in
       keep (unless (not (eqb (f .text) 0)) 25 (f .end)) (image-rows image 72 26 (f .text) _
       ∙ keep (unless (isImage image) 26 (f .text)) (keep (unless (isField (featureOctets s f) 2 72) 26 (f .text))
-      (step-then (signatureChecks s (f .end)) (map (placed (f .text)) (checksOf t)) (signatureAt s (f .end))
+      (step-then (signatureChecks s (f .end)) (map (placed (f .text)) (checksOf Seal t)) (signatureAt s (f .end))
       (stretchAt s (f .end) signatureTag) _ (said h f) (signature-rows (f .end))
-      (ap (λ (o : Outcome). checked o (said h f)) text ∙ under-first (map (placed (f .text)) (checksOf t)) (said h f)))))
+      (ap (λ (o : Outcome). checked o (said h f)) text ∙ under-first (map (placed (f .text)) (checksOf Seal t)) (said h f)))))
 
   -- ---- all of them
 

@@ -13,10 +13,11 @@ use Rattle.lent.proofs.Bools.{and-both, both-and}
 use Rattle.refusal.specs.Numbers.{by}
 use Rattle.refusal.specs.Outcome.{passed, refused}
 use Rattle.refusal.proofs.Outcomes.{kept-unless}
+use Rattle.zone.specs.declared.form.Source.the-variants.{Seal}
 use Rattle.zone.specs.Alphabet.{isDigit, isLetter, isFiller, isCharacter, isForeign, every, firstForeign, filler}
 use Rattle.zone.specs.declared.form.Form.the-variants.{Td2}
 use Rattle.zone.specs.Part.{rank, same}
-use Rattle.zone.specs.Form.{row, partOf, parts, start, startIn, width, widthIn, field}
+use Rattle.zone.specs.Form.{row, mayStand, partOf, parts, start, startIn, width, widthIn, field}
 use Rattle.zone.proofs.Every.{every-first}
 use Rattle.field.specs.Code.{isCardLetter, cardRule, kindRule, codeRule}
 use Rattle.text_digits.specs.Number.{spanOf}
@@ -72,15 +73,15 @@ filled-v [] h e = absurd (omega arith)
 filled-v (c ∷ t) h e = (filled t, rw e)
 
 pub text-leading-v : (t : List ℕ) → length t ≡ 72 → every isC40 t ≡ true → getD t 0 0 ≡ code "V"
-    → readText (filled t) .outcome ≡ refused (by 3) 0
-unfolding verdictBy row
+    → readText Seal (filled t) .outcome ≡ refused (by 3) 0
+unfolding verdictBy row mayStand
 text-leading-v t n p e =
     let l = filled t in
     let v = filled-v t (omega arith) e in
     let span = spanOf Td2 l in
     let first : inOrder (fieldCheck Td2 l span) (parts Td2) ≡ refused (by 3) 0 =
     ap (λ (m : List ℕ). inOrder (fieldCheck Td2 m (spanOf Td2 m)) (parts Td2)) (v .1) ∙ code-v (v .0) in
-    ap (λ (a : Answer). a .outcome) (read-as Td2 l (length-filled t ∙ n))
+    ap (λ (a : Answer). a .outcome) (read-as Seal Td2 l refl (length-filled t ∙ n))
     ∙ answered-outcome (verdictBy Td2 l span) (recordBy Td2 l span)
     ∙ rw (all-characters l (filled-characters t p), first)
 

@@ -5,6 +5,7 @@ use mathlib.Core.Path.{_≡_, ap, _∙_}
 use mathlib.Core.Logic.{_↔_}
 use mathlib.Core.Bool.{true}
 use mathlib.Core.List.{List}
+use Rattle.zone.specs.declared.form.Source.the-variants.{Alone, Seal}
 use Rattle.refusal.specs.Outcome.{passed}
 use Rattle.sound.specs.Sound.{isSound}
 use Rattle.text.specs.Read.{readText}
@@ -17,7 +18,7 @@ use Rattle.run_theorems.proofs.Keys.{key-exactly}
 use Rattle.seal_theorems.proofs.Stages.{taken-apart, passed-value}
 
 pub seal-held : (s : List ℕ) → readSeal s .outcome ≡ passed
-    → (t : List ℕ) × (readText t .outcome ≡ passed) × (readSeal s .kept ≡ readText t .kept)
+    → (t : List ℕ) × (readText Seal t .outcome ≡ passed) × (readSeal s .kept ≡ readText Seal t .kept)
 unfolding readSeal
 seal-held s e =
     let c = passed-value (saidIn s) e in
@@ -25,7 +26,7 @@ seal-held s e =
     (filled (textIn s (k .found)), k .text-stage, c .2 ∙ k .kept-stage)
 
 pub seal-sound : (s : List ℕ) → readSeal s .outcome ≡ passed → isSound (readSeal s .kept) ≡ true
-seal-sound s e = let t = seal-held s e in ap isSound (t .2) ∙ kept-and-sound (t .0) (t .1) .3
+seal-sound s e = let t = seal-held s e in ap isSound (t .2) ∙ kept-and-sound Seal (t .0) (t .1) .3
 
 -- the keys of two accepted seals, each kept under a house
 pub seal-key : (h k : ℕ) (s u : List ℕ) → isHouse h ≡ true → isHouse k ≡ true → readSeal s .outcome ≡ passed
@@ -36,7 +37,7 @@ seal-key h k s u house house′ e f =
 
 -- and of a seal and a text
 pub seal-text-key : (h k : ℕ) (s t : List ℕ) → isHouse h ≡ true → isHouse k ≡ true → readSeal s .outcome ≡ passed
-    → readText t .outcome ≡ passed
-    → (keyOf h (readSeal s .kept) ≡ keyOf k (readText t .kept)) ↔ SameKey h (readSeal s .kept) k (readText t .kept)
+    → readText Alone t .outcome ≡ passed
+    → (keyOf h (readSeal s .kept) ≡ keyOf k (readText Alone t .kept)) ↔ SameKey h (readSeal s .kept) k (readText Alone t .kept)
 seal-text-key h k s t house house′ e f =
-    key-exactly h k (readSeal s .kept) (readText t .kept) house (seal-sound s e) house′ (kept-and-sound t f .3)
+    key-exactly h k (readSeal s .kept) (readText Alone t .kept) house (seal-sound s e) house′ (kept-and-sound Alone t f .3)

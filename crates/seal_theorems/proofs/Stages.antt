@@ -7,6 +7,7 @@ use native.Mathlib.Omega.{arith}
 use borrow.Author.Tests.{leb-true}
 use lib.Dec.{eqb, leb}
 use lib.ListN.{length}
+use Rattle.zone.specs.declared.form.Source.the-variants.{Seal}
 use Rattle.refusal.specs.Outcome.{Outcome, passed, refused, unless}
 use Rattle.refusal.proofs.Outcomes.{refused-not-passed, unless-kept}
 use Rattle.text.specs.Read.{Answer, readText}
@@ -26,7 +27,7 @@ use Rattle.seal.specs.Seal.{textIn, placed, withText, withImage, withFeatures, 
 -- the steps from the header on
 module _ (s : List ℕ) (h : Header) where
   abbrev pub from-signature : Features → Stretch → Read seal.Said
-  from-signature f v = withText h (f .text) (readText (filled (textIn s f))) v
+  from-signature f v = withText h (f .text) (readText Seal (filled (textIn s f))) v
 
   abbrev pub from-image : Features → Read seal.Said
   from-image f = checked (unless (isField (seal.featureOctets s f) 2 72) 26 (f .text)) (withImage s h f (textIn s f))
@@ -55,8 +56,8 @@ pub record Stages (s : List ℕ) (c : seal.Said) : Type 0 where
   pub some-stage : not (eqb (found .text) 0) ≡ true
   pub field-stage : isField (seal.featureOctets s found) 2 72 ≡ true
   pub signature-stage : signatureAt s (found .end) ≡ value (c .signature)
-  pub text-stage : readText (filled (textIn s found)) .outcome ≡ passed
-  pub kept-stage : c .kept ≡ readText (filled (textIn s found)) .kept
+  pub text-stage : readText Seal (filled (textIn s found)) .outcome ≡ passed
+  pub kept-stage : c .kept ≡ readText Seal (filled (textIn s found)) .kept
 
 pub taken-apart : (s : List ℕ) (c : seal.Said) → saidIn s ≡ value c → Stages s c
 unfolding saidIn withHeader withFeatures withImage withText
@@ -72,7 +73,7 @@ taken-apart s c e =
     (x .1) in
     let b = first-value (signatureAt s (f .end)) (from-signature s h f) c (w .1) in
     let v = b .0 in
-    let t = readText (filled (textIn s f)) in
+    let t = readText Seal (filled (textIn s f)) in
     let last : seal.Said = record { header = h; kept = t .kept; signature = v } in
     let k = checked-value (placed (f .text) (t .outcome)) (value last) c (b .2) in
     let same : last ≡ c = same-value (k .1) in

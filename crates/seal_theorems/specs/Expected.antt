@@ -3,6 +3,7 @@
 use Prim.Native.Nat.{ℕ}
 use mathlib.Core.Path.{_≡_}
 use mathlib.Core.List.{List}
+use Rattle.zone.specs.declared.form.Source.the-variants.{Seal}
 use Rattle.refusal.specs.Numbers.{expecting}
 use Rattle.refusal.specs.Outcome.{refused}
 use Rattle.text.specs.Read.{readText}
@@ -18,5 +19,5 @@ pub record FromFeature (s : List ℕ) (d place : ℕ) : Type 0 where
   pub found : Features
   pub walked : features s (headerEnd s) ≡ value found
   pub own : ℕ
-  pub text-refused : readText (filled (textIn s found)) .outcome ≡ refused (expecting d) own
+  pub text-refused : readText Seal (filled (textIn s found)) .outcome ≡ refused (expecting d) own
   pub there : place ≡ found .text

@@ -6,6 +6,7 @@ use mathlib.Core.Bool.{Bool, true, false, cond, not, _||_}
 use mathlib.Core.List.{List, [], _∷_, _++_, map}
 use lib.Dec.{eqb, leb}
 use lib.ListN.{length, getD}
+use Rattle.zone.specs.declared.form.Source.the-variants.{Seal}
 use Rattle.refusal.specs.Outcome.{Outcome, unless}
 use Rattle.field.specs.Letters.{stateRule}
 use Rattle.tlv.specs.declared.Stretch.{Stretch}
@@ -89,7 +90,7 @@ checksBehind s f =
     unless (not (eqb (f .text) 0)) 25 (f .end)
     ∷ unless (isImage (imageAt (featureOctets s f) 2 72)) 26 (f .text)
     ∷ unless (isField (featureOctets s f) 2 72) 26 (f .text)
-    ∷ (signatureChecks s (f .end) ++ map (placed (f .text)) (checksOf (filled (textIn s f))))
+    ∷ (signatureChecks s (f .end) ++ map (placed (f .text)) (checksOf Seal (filled (textIn s f))))
 
 -- ---- all of them
 

@@ -10,6 +10,8 @@ use mathlib.Core.List.{List, [], _∷_, _++_, map}
 use lib.Dec.{eqb, leb, ltb}
 use lib.ListN.{length, take, drop}
 use Rattle.refusal.specs.Outcome.{passed}
+use Rattle.zone.specs.declared.form.Source.the-variants.{Seal}
+use Rattle.zone.specs.Form.{mayStand}
 use Rattle.zone.specs.declared.form.Form.{Form}
 use Rattle.zone.specs.Alphabet.{isLetter, every}
 use Rattle.zone.specs.Record.{padded}
@@ -145,7 +147,7 @@ pub record Shaped (p : Contents) : Type 0 where
 pub record Sealed (p : Contents) : Type 0 where
   pub shaped : Shaped p
   -- "spaces become fillers", and the text keeps every rule
-  pub text-kept : (f : Form) × Keeps f (filled (p .text))
+  pub text-kept : (f : Form) × (mayStand Seal f ≡ true) × Keeps f (filled (p .text))
 
 -- ---- what is answered of it
 
@@ -175,6 +177,6 @@ unfoldable pub answerIn : Contents → SealAnswer
 answerIn p = record {
   outcome = passed;
   header = headerIn (p .head);
-  kept = readText (filled (p .text)) .kept;
+  kept = readText Seal (filled (p .text)) .kept;
   signature = signatureIn p;
 }

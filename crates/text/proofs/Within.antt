@@ -9,6 +9,7 @@ use Rattle.refusal.specs.Numbers.{Why, by, expecting}
 use Rattle.refusal.specs.Outcome.{refused}
 use Rattle.refusal.proofs.Each.{Each, each-passed, each-refused, each-rule}
 use Rattle.zone.specs.declared.form.Form.{Form}
+use Rattle.zone.specs.declared.form.Source.{Source}
 use Rattle.zone.specs.declared.form.Recognised.{Recognised}
 use Rattle.zone.specs.declared.form.Recognised.the-variants.{As, Unknown}
 use Rattle.zone.specs.Alphabet.{firstForeign, isForeign}
@@ -67,11 +68,11 @@ module _ (f : Form) (t : List ℕ) (long : length t ≡ total f) where
   unfolding firstForeign
   verdict-in = each-verdict (In t) f t (spanOf f t) (λ n x h. start-in x) (first-le isForeign t) digits-in
 
-pub text-within : (t : List ℕ) → Each (λ n p. p ≤ length t) (readText t .outcome)
+pub text-within : (source : Source) (t : List ℕ) → Each (λ n p. p ≤ length t) (readText source t .outcome)
 unfolding readText readBy
-text-within t = go (formOf (length t)) refl
+text-within source t = go (formOf source t) refl
   where
-    go : (told : Recognised) → formOf (length t) ≡ told → Each (In t) (readBy told t .outcome)
+    go : (told : Recognised) → formOf source t ≡ told → Each (In t) (readBy told t .outcome)
     go Unknown e = each-answered (In t) (refused (by 1) 0) blank (each-refused (In t) (by 1) 0 (omega arith))
     go (As f) e =
-        each-answered (In t) (verdictBy f t (spanOf f t)) (recordBy f t (spanOf f t)) (verdict-in f t (by-told f (length t) e))
+        each-answered (In t) (verdictBy f t (spanOf f t)) (recordBy f t (spanOf f t)) (verdict-in f t (by-told source f t e .1))

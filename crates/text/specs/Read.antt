@@ -9,6 +9,7 @@ use Rattle.zone.specs.Form.{formOf, start, field}
 use Rattle.zone.specs.Record.{blank, trimmed, padded}
 use Rattle.zone.specs.Rooms.{codeRoom, stateRoom, dateRoom, numberRoom, nameRoom}
 use Rattle.zone.specs.declared.form.Form.{Form}
+use Rattle.zone.specs.declared.form.Source.{Source}
 use Rattle.zone.specs.declared.form.Recognised.{Recognised}
 use Rattle.zone.specs.declared.form.Recognised.the-variants.{As, Unknown}
 use Rattle.zone.specs.declared.record.Record.{Record}
@@ -53,5 +54,6 @@ unfoldable pub readBy : Recognised → List ℕ → Answer
 readBy (As f) t = answered (verdictBy f t (spanOf f t)) (recordBy f t (spanOf f t))
 readBy Unknown t = answered (refused (by 1) 0) blank
 
-unfoldable pub readText : List ℕ → Answer
-readText t = readBy (formOf (length t)) t
+-- a text that stands alone, in group 1 or in a seal
+unfoldable pub readText : Source → List ℕ → Answer
+readText source t = readBy (formOf source t) t

@@ -1,4 +1,4 @@
-// Reading a text: its form by its length, its characters, its fields, its check digits, and then its record.
+// Reading a text: its form by what may stand there, its characters, its fields, its check digits, and then its record.
 ghost use mathlib.Core.Path.{_≡_};
 ghost use Rattle.refusal.specs.Outcome.{outcomeOf, refused};
 ghost use Rattle.refusal.specs.Numbers.{whyOf};
@@ -15,6 +15,7 @@ use text_digits::number::Span;
 use text_digits::number::span_of;
 use zone::form::Form;
 use zone::form::Recognised;
+use zone::form::Source;
 use zone::record::Record;
 
 // What a text was read as. The record is the blank one wherever the verdict is a refusal.
@@ -62,10 +63,10 @@ fn read_by(form: Form, text: &[u8]) -> Reading
 }
 
 // Any octets at all are read as a text, or refused with cause and place.
-pub fn read(text: &[u8]) -> Reading
-    ensures { λ r. ⌜ answerOf r ≡ readText (now (text .entry)) ⌝ }
+pub fn read(source: Source, text: &[u8]) -> Reading
+    ensures { λ r. ⌜ answerOf r ≡ readText source (now (text .entry)) ⌝ }
 {
-    match Form::of_length(text.len()) {
+    match Form::of_text(source, text) {
         Recognised::As(form) => read_by(form, text),
         Recognised::Unknown => refuse(Refusal::at(Cause::Length, 0)),
     }

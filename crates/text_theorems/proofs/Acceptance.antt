@@ -1,4 +1,4 @@
--- DEMAND 2, acceptance: a text is accepted exactly when it keeps every rule of one form.
+-- DEMAND 2, acceptance: a text is accepted exactly when it keeps every rule of a form that may stand there.
 use Prim.Native.Nat.{ℕ, _+_, _-_, _≤_, _<_}
 use mathlib.Core.Path.{_≡_, refl, ap, sym, _∙_}
 use mathlib.Core.Logic.{_↔_}
@@ -11,13 +11,14 @@ use Rattle.lent.proofs.Bools.{and-both}
 use Rattle.refusal.specs.Numbers.{by}
 use Rattle.refusal.specs.Outcome.{passed, refused, orElse}
 use Rattle.zone.specs.declared.form.Form.{Form}
+use Rattle.zone.specs.declared.form.Source.{Source}
 use Rattle.zone.specs.declared.form.Recognised.{Recognised}
 use Rattle.zone.specs.declared.form.Recognised.the-variants.{As, Unknown}
 use Rattle.zone.specs.Alphabet.{isCharacter, isFiller, isForeign, firstForeign}
 use Rattle.zone.proofs.First.{first-none, none-first}
 use Rattle.zone.specs.Part.{Part, code, state, number, numberCheck, optional, birth, birthCheck, sex, expiry, expiryCheck}
 use Rattle.zone.specs.Part.{nationality, optional2, composite, name, personal, personalCheck}
-use Rattle.zone.specs.Form.{formOf, parts, start, width, has, total, field, covered}
+use Rattle.zone.specs.Form.{mayStand, formOf, parts, start, width, has, total, field, covered}
 use Rattle.zone.proofs.Widths.{has-among}
 use Rattle.digit.specs.Check.{digitOf}
 use Rattle.field.specs.Code.{codeRule}
@@ -191,11 +192,11 @@ module _ (f : Form) (t : List ℕ) (k : Keeps f t) where
         each-walk (digitCheck f t (spanOf f t)) (parts f) (λ x m. digits-pass x (has-among f x ∙ m)),
       )
 
--- a text of a form's length is read as that form
-pub read-as : (f : Form) (t : List ℕ) → length t ≡ total f
-    → readText t ≡ answered (verdictBy f t (spanOf f t)) (recordBy f t (spanOf f t))
+-- a text of a form's length is read as that form, where the form may stand
+pub read-as : (source : Source) (f : Form) (t : List ℕ) → mayStand source f ≡ true → length t ≡ total f
+    → readText source t ≡ answered (verdictBy f t (spanOf f t)) (recordBy f t (spanOf f t))
 unfolding readText readBy
-read-as f t e = rw (told-by f (length t) e)
+read-as source f t may e = rw (told-by source f t may e)
 
 accepted-by : (told : Recognised) (t : List ℕ) → readBy told t .outcome ≡ passed
     → (f : Form) × (told ≡ As f) × (verdictBy f t (spanOf f t) ≡ passed)
@@ -204,19 +205,21 @@ accepted-by Unknown t e = absurd (refused-not-passed (sym (answered-outcome (ref
 accepted-by (As f) t e = (f, refl, sym (answered-outcome (verdictBy f t (spanOf f t)) (recordBy f t (spanOf f t))) ∙ e)
 
 -- the form of an accepted text, and that its checks passed
-pub accepted-form : (t : List ℕ) → readText t .outcome ≡ passed
-    → (f : Form) × (formOf (length t) ≡ As f) × (verdictBy f t (spanOf f t) ≡ passed)
+pub accepted-form : (source : Source) (t : List ℕ) → readText source t .outcome ≡ passed
+    → (f : Form) × (formOf source t ≡ As f) × (verdictBy f t (spanOf f t) ≡ passed)
 unfolding readText
-accepted-form t e = accepted-by (formOf (length t)) t e
+accepted-form source t e = accepted-by (formOf source t) t e
 
-pub accepted-exactly : (t : List ℕ) → (readText t .outcome ≡ passed) ↔ ((f : Form) × Keeps f t)
-accepted-exactly t = (forth, λ w. back (w .0) (w .1))
+pub accepted-exactly : (source : Source) (t : List ℕ)
+    → (readText source t .outcome ≡ passed) ↔ ((f : Form) × (mayStand source f ≡ true) × Keeps f t)
+accepted-exactly source t = (forth, λ w. back (w .0) (w .1) (w .2))
   where
-    forth : readText t .outcome ≡ passed → (f : Form) × Keeps f t
+    forth : readText source t .outcome ≡ passed → (f : Form) × (mayStand source f ≡ true) × Keeps f t
     forth e =
-        let w = accepted-form t e in
-        (w .0, keeps (w .0) t (by-told (w .0) (length t) (w .1)) (w .2))
+        let w = accepted-form source t e in
+        let told = by-told source (w .0) t (w .1) in
+        (w .0, told .0, keeps (w .0) t (told .1) (w .2))
 
-    back : (f : Form) → Keeps f t → readText t .outcome ≡ passed
-    back f k = rw (read-as f t (k .size))
+    back : (f : Form) → mayStand source f ≡ true → Keeps f t → readText source t .outcome ≡ passed
+    back f may k = rw (read-as source f t may (k .size))
         (answered-outcome (verdictBy f t (spanOf f t)) (recordBy f t (spanOf f t)) ∙ passes f t k)

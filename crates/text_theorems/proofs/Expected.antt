@@ -17,6 +17,7 @@ use Rattle.refusal.specs.Outcome.{refused, refusedUnless}
 use Rattle.refusal.proofs.Readers.{not-plain}
 use Rattle.refusal.proofs.Each.{Each, each-passed, each-refused}
 use Rattle.zone.specs.declared.form.Form.{Form}
+use Rattle.zone.specs.declared.form.Source.{Source}
 use Rattle.zone.specs.declared.form.Recognised.{Recognised}
 use Rattle.zone.specs.declared.form.Recognised.the-variants.{As, Unknown}
 use Rattle.zone.specs.Alphabet.{isFiller, every}
@@ -131,13 +132,13 @@ tells-verdict f t =
 -- ---- the text
 
 -- every refusal of a text of a form tells what it should; that of another length is 1
-pub text-tells : (t : List ℕ) (n : Why) (p : ℕ) → readText t .outcome ≡ refused n p
-    → (n ≡ by 1) ⊎ ((f : Form) × (formOf (length t) ≡ As f) × Tells f t n p)
+pub text-tells : (source : Source) (t : List ℕ) (n : Why) (p : ℕ) → readText source t .outcome ≡ refused n p
+    → (n ≡ by 1) ⊎ ((f : Form) × (formOf source t ≡ As f) × Tells f t n p)
 unfolding readText readBy
-text-tells t n p e = go (formOf (length t)) refl e
+text-tells source t n p e = go (formOf source t) refl e
   where
-    go : (told : Recognised) → formOf (length t) ≡ told → readBy told t .outcome ≡ refused n p
-        → (n ≡ by 1) ⊎ ((f : Form) × (formOf (length t) ≡ As f) × Tells f t n p)
+    go : (told : Recognised) → formOf source t ≡ told → readBy told t .outcome ≡ refused n p
+        → (n ≡ by 1) ⊎ ((f : Form) × (formOf source t ≡ As f) × Tells f t n p)
     go Unknown h r = inl (let q : refused (by 1) 0 ≡ refused n p = sym (answered-outcome (refused (by 1) 0) blank) ∙ r in cc)
     go (As f) h r = inr (
       f,
@@ -146,55 +147,56 @@ text-tells t n p e = go (formOf (length t)) refl e
     )
 
 -- so it is one of the numbers by which what is read is refused
-pub text-numbered : (t : List ℕ) → Each (λ n p. isOfReader n ≡ true) (readText t .outcome)
-text-numbered t (expecting d) p e = refl
-text-numbered t (by n) p e = go (text-tells t (by n) p e)
+pub text-numbered : (source : Source) (t : List ℕ) → Each (λ n p. isOfReader n ≡ true) (readText source t .outcome)
+text-numbered source t (expecting d) p e = refl
+text-numbered source t (by n) p e = go (text-tells source t (by n) p e)
   where
-    go : (by n ≡ by 1) ⊎ ((f : Form) × (formOf (length t) ≡ As f) × (isPlain n ≡ true)) → isPlain n ≡ true
+    go : (by n ≡ by 1) ⊎ ((f : Form) × (formOf source t ≡ As f) × (isPlain n ≡ true)) → isPlain n ≡ true
     go (inl q) = let z : n ≡ 1 = cc in ap isPlain z
     go (inr q) = q .2
 
 -- a refusal 9 carries a digit
-pub nine-tells : (t : List ℕ) (n : Why) (p : ℕ) → readText t .outcome ≡ refused n p → numberOf n ≡ 9 → (d : ℕ) × (n ≡ expecting d)
-nine-tells t (expecting d) p e h = (d, refl)
-nine-tells t (by n) p e h = absurd (not-plain n 9 (text-numbered t (by n) p e) refl h)
+pub nine-tells : (source : Source) (t : List ℕ) (n : Why) (p : ℕ) → readText source t .outcome ≡ refused n p → numberOf n ≡ 9 → (d : ℕ) × (n ≡ expecting d)
+nine-tells source t (expecting d) p e h = (d, refl)
+nine-tells source t (by n) p e h = absurd (not-plain n 9 (text-numbered source t (by n) p e) refl h)
 
 -- and the digit is the one expected at its place
-pub digit-told : (t : List ℕ) (d p : ℕ) → readText t .outcome ≡ refused (expecting d) p
-    → (f : Form) × (formOf (length t) ≡ As f) × Expected f t d p
-digit-told t d p e = go (text-tells t (expecting d) p e)
+pub digit-told : (source : Source) (t : List ℕ) (d p : ℕ) → readText source t .outcome ≡ refused (expecting d) p
+    → (f : Form) × (formOf source t ≡ As f) × Expected f t d p
+digit-told source t d p e = go (text-tells source t (expecting d) p e)
   where
-    go : (expecting d ≡ by 1) ⊎ ((f : Form) × (formOf (length t) ≡ As f) × Expected f t d p)
-        → (f : Form) × (formOf (length t) ≡ As f) × Expected f t d p
+    go : (expecting d ≡ by 1) ⊎ ((f : Form) × (formOf source t ≡ As f) × Expected f t d p)
+        → (f : Form) × (formOf source t ≡ As f) × Expected f t d p
     go (inl q) = absurd (let z : _≡_ {A = ℕ} 0 1 = cc in omega arith)
     go (inr q) = q
 
 -- 9 at p with digit d: exactly where 9 at p is the first failing check, and d the check of what document 01 has it run over
-pub expected-exactly : (t : List ℕ) (d p : ℕ)
-    → (readText t .outcome ≡ refused (expecting d) p)
-    ↔ ((n : Why) × FirstFailing (checksOf t) n p × (numberOf n ≡ 9) × (f : Form) × (formOf (length t) ≡ As f) ×
+pub expected-exactly : (source : Source) (t : List ℕ) (d p : ℕ)
+    → (readText source t .outcome ≡ refused (expecting d) p)
+    ↔ ((n : Why) × FirstFailing (checksOf source t) n p × (numberOf n ≡ 9) × (f : Form) × (formOf source t ≡ As f) ×
     (d ≡ checkOf (coveredAt f t p)))
-expected-exactly t d p = (
+expected-exactly source t d p = (
   λ e.
-      let told = digit-told t d p e in
-      (expecting d, refused-exactly t (expecting d) p .0 e, refl, told .0, told .1, told .2 .worked-out),
+      let told = digit-told source t d p e in
+      (expecting d, refused-exactly source t (expecting d) p .0 e, refl, told .0, told .1, told .2 .worked-out),
   λ h.
-      let e = refused-exactly t (h .0) p .1 (h .1) in
-      let nine = nine-tells t (h .0) p e (h .2) in
+      let e = refused-exactly source t (h .0) p .1 (h .1) in
+      let nine = nine-tells source t (h .0) p e (h .2) in
       let k = nine .0 in
-      let f : readText t .outcome ≡ refused (expecting k) p = e ∙ ap (λ (n : Why). refused n p) (nine .1) in
-      let told = digit-told t k p f in
+      let f : readText source t .outcome ≡ refused (expecting k) p = e ∙ ap (λ (n : Why). refused n p) (nine .1) in
+      let told = digit-told source t k p f in
       let one : told .0 ≡ h .3 = as-same (told .0) (h .3) (sym (told .1) ∙ h .4) in
       let same : k ≡ d = told .2 .worked-out ∙ ap (λ (g : Form). checkOf (coveredAt g t p)) one ∙ sym (h .5) in
       f ∙ ap (λ (m : ℕ). refused (expecting m) p) same,
 )
 
 -- over an empty personal number the expected digit is 0, which document 02, 2026-02, lets `<` stand for
-pub empty-expects-zero : (f : Form) (t : List ℕ) (d : ℕ) → formOf (length t) ≡ As f → every isFiller (field f personal t) ≡ true
-    → readText t .outcome ≡ refused (expecting d) (start f personalCheck) → d ≡ 0
+pub empty-expects-zero : (source : Source) (f : Form) (t : List ℕ) (d : ℕ) → formOf source t ≡ As f
+    → every isFiller (field f personal t) ≡ true
+    → readText source t .outcome ≡ refused (expecting d) (start f personalCheck) → d ≡ 0
 unfolding checkOf
-empty-expects-zero f t d e none r =
-    let told = digit-told t d (start f personalCheck) r in
+empty-expects-zero source f t d e none r =
+    let told = digit-told source t d (start f personalCheck) r in
     let one : told .0 ≡ f = as-same (told .0) f (sym (told .1) ∙ e) in
     told .2 .worked-out
     ∙ (ap (λ (g : Form). checkOf (coveredAt g t (start f personalCheck))) one

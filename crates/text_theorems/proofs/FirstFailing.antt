@@ -5,11 +5,11 @@ use mathlib.Core.Path.{_≡_, refl, ap, sym, _∙_}
 use mathlib.Core.Logic.{_↔_}
 use mathlib.Core.List.{List, [], _∷_, _++_, map}
 use mathlib.Core.Bool.{true}
-use lib.ListN.{length}
 use native.Mathlib.Omega.{arith}
 use borrow.Author.Needs.{needs}
 use Rattle.refusal.specs.Numbers.{Why, by}
 use Rattle.refusal.specs.Outcome.{Outcome, passed, refused, orElse}
+use Rattle.zone.specs.declared.form.Source.{Source}
 use Rattle.zone.specs.declared.form.Recognised.{Recognised}
 use Rattle.zone.specs.declared.form.Recognised.the-variants.{As, Unknown}
 use Rattle.zone.specs.Part.{Part, optional, rank, same}
@@ -62,9 +62,9 @@ read-first-by (As f) t =
       first-append (map (fieldCheck f t (spanOf f t)) (parts f)) (map (digitCheck f t (spanOf f t)) (parts f)),
     )
 
-pub read-first : (t : List ℕ) → readText t .outcome ≡ firstOf (checksOf t)
+pub read-first : (source : Source) (t : List ℕ) → readText source t .outcome ≡ firstOf (checksOf source t)
 unfolding readText checksOf
-read-first t = read-first-by (formOf (length t)) t
+read-first source t = read-first-by (formOf source t) t
 
 pub first-failing : (os : List Outcome) (n : Why) (p : ℕ) → firstOf os ≡ refused n p → FirstFailing os n p
 unfolding firstOf
@@ -84,17 +84,21 @@ failing-first (refused m q ∷ os) n p here = refl
 failing-first (passed ∷ os) n p (later h) = failing-first os n p h
 
 -- every refusal gives the blank record
-pub refused-blank : (t : List ℕ) (n : Why) (p : ℕ) → readText t .outcome ≡ refused n p → readText t .kept ≡ blank
+pub refused-blank : (source : Source) (t : List ℕ) (n : Why) (p : ℕ) → readText source t .outcome ≡ refused n p
+    → readText source t .kept ≡ blank
 unfolding readText readBy
-refused-blank t n p e = by-told (formOf (length t)) e
+refused-blank source t n p e = by-told (formOf source t) e
   where
     by-told : (told : Recognised) → readBy told t .outcome ≡ refused n p → readBy told t .kept ≡ blank
     by-told Unknown h = answered-blank (refused (by 1) 0) blank n p h
     by-told (As f) h = answered-blank (verdictBy f t (spanOf f t)) (recordBy f t (spanOf f t)) n p h
 
-pub refused-exactly : (t : List ℕ) (n : Why) (p : ℕ) → (readText t .outcome ≡ refused n p) ↔ FirstFailing (checksOf t) n p
-refused-exactly t n p =
-    (λ e. first-failing (checksOf t) n p (sym (read-first t) ∙ e), λ h. read-first t ∙ failing-first (checksOf t) n p h)
+pub refused-exactly : (source : Source) (t : List ℕ) (n : Why) (p : ℕ)
+    → (readText source t .outcome ≡ refused n p) ↔ FirstFailing (checksOf source t) n p
+refused-exactly source t n p = (
+  λ e. first-failing (checksOf source t) n p (sym (read-first source t) ∙ e),
+  λ h. read-first source t ∙ failing-first (checksOf source t) n p h,
+)
 
 -- the order is by place: in the walk over a form's parts each part starts behind the one before
 pub in-text-order : (f : Form) → isRising (map (start f) (parts f)) ≡ true

@@ -9,6 +9,7 @@ use lib.ListN.{length, take, drop, getD, replicate, length-take, length-drop, le
 use lib.Seq.{take-all, drop-at, getD-take}
 use Rattle.lent.proofs.Bools.{and-both, both-and}
 use Rattle.refusal.specs.Outcome.{passed}
+use Rattle.zone.specs.declared.form.Source.{Source}
 use Rattle.zone.specs.declared.form.Form.{Form}
 use Rattle.zone.specs.Alphabet.{isCharacter, isFiller, isLetter, isDigit, every, filler}
 use Rattle.zone.specs.Part.{Part, code, state, number, optional, birth, expiry, nationality, name, rank, same}
@@ -228,12 +229,13 @@ module _ (f : Form) (t : List ℕ) (k : Keeps f t) where
       (both-and (ap expiryRule (exact expiry 6 (fixed f .expiry-width)) ∙ k .expiry-kept)
       name-sound)))))
 
-pub kept-and-sound : (t : List ℕ) → readText t .outcome ≡ passed
-    → (f : Form) × Keeps f t × Holds f t (readText t .kept) × (isSound (readText t .kept) ≡ true)
+pub kept-and-sound : (source : Source) (t : List ℕ) → readText source t .outcome ≡ passed
+    → (f : Form) × Keeps f t × Holds f t (readText source t .kept) × (isSound (readText source t .kept) ≡ true)
 unfolding answered
-kept-and-sound t e =
-    let w = accepted-form t e in
+kept-and-sound source t e =
+    let w = accepted-form source t e in
     let f = w .0 in
-    let size = by-told f (length t) (w .1) in
-    let k = keeps f t size (w .2) in
-    (f, k, rw (read-as f t size, w .2) (holds f t k), rw (read-as f t size, w .2) (sound f t k))
+    let told = by-told source f t (w .1) in
+    let k = keeps f t (told .1) (w .2) in
+    let said = read-as source f t (told .0) (told .1) in
+    (f, k, rw (said, w .2) (holds f t k), rw (said, w .2) (sound f t k))

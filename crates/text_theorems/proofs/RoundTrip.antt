@@ -1,6 +1,5 @@
--- DEMAND 2, round trip: every sound record is written as a text that is accepted and read as that record.   text-read-back :
--- isSound r ≡ true → readText (textOf r) ≡ record { outcome = passed; kept = r }   text-length : isSound r ≡ true → length
--- (textOf r) ≡ total (r .form)   text-tells : isSound r ≡ true → isSound q ≡ true → textOf r ≡ textOf q → r ≡ q
+-- DEMAND 2, round trip: every sound record is written as a text that is accepted and read as that record (`text-read-back`), has
+-- its form's length (`text-length`), and is no other sound record's (`text-tells`).
 use Prim.Native.Nat.{ℕ, suc, _+_, _-_, _≤_, _<_}
 use mathlib.Core.Path.{_≡_, refl, ap, sym, _∙_}
 use mathlib.Core.Bool.{Bool, true, false, cond, _&&_, false≢true}
@@ -13,11 +12,13 @@ use lib.Seq.{take-all, take-take, take-append-seam, getD-take, getD-append-seam}
 use Rattle.lent.proofs.Bools.{and-both}
 use Rattle.refusal.specs.Outcome.{passed}
 use Rattle.zone.specs.declared.form.Form.{Form}
+use Rattle.zone.specs.declared.form.Source.{Source}
+use Rattle.zone.specs.declared.form.Source.the-variants.{Alone}
 use Rattle.zone.specs.declared.record.Record.{Record}
 use Rattle.zone.specs.Alphabet.{isCharacter, isFiller, isLetter, firstFiller, every, filler}
 use Rattle.zone.specs.Part.{code, state, number, numberCheck, optional, birth, birthCheck, sex, expiry, expiryCheck, nationality}
 use Rattle.zone.specs.Part.{name, personal, personalCheck, rank, same}
-use Rattle.zone.specs.Form.{start, width, has, total, longest, field}
+use Rattle.zone.specs.Form.{mayStand, start, width, has, total, longest, field}
 use Rattle.zone.specs.Record.{trimmed, padded}
 use Rattle.zone.proofs.Widths.{fixed, name-room, ones, has-one}
 use Rattle.zone.proofs.Padded.{padded-nil, padded-exact, padded-trimmed, trimmed-length, padded-behind}
@@ -243,19 +244,25 @@ module _ (r : Record) (s : Sound r) where
     «name_len» = (ap length name-read ∙ trimmed-length (r .name) ∙ s .name-ends) i;
   }
 
-  read-written : readText t ≡ record { outcome = passed; kept = r }
+  read-written : (source : Source) → mayStand source f ≡ true → readText source t ≡ record { outcome = passed; kept = r }
   unfolding answered
-  read-written = rw (read-as f t (length-text r s), passes f t text-keeps, record-read)
+  read-written source may = rw (read-as source f t may (length-text r s), passes f t text-keeps, record-read)
 
 -- ---- the theorem
 
 module _ (r : Record) (sound : isSound r ≡ true) where
-  pub text-read-back : readText (textOf r) ≡ record { outcome = passed; kept = r }
-  text-read-back = read-written r (taken-apart r sound)
+  -- wherever the record's form may stand; alone, each may
+  pub text-read-back-in : (source : Source) → mayStand source (r .form) ≡ true
+      → readText source (textOf r) ≡ record { outcome = passed; kept = r }
+  text-read-back-in source may = read-written r (taken-apart r sound) source may
+
+  pub text-read-back : readText Alone (textOf r) ≡ record { outcome = passed; kept = r }
+  unfolding mayStand
+  text-read-back = text-read-back-in Alone refl
 
   pub text-length : length (textOf r) ≡ total (r .form)
   text-length = length-text r (taken-apart r sound)
 
 -- no two sound records have one text
 pub text-tells : (r q : Record) → isSound r ≡ true → isSound q ≡ true → textOf r ≡ textOf q → r ≡ q
-text-tells r q a b e = ap (λ (x : Answer). x .kept) (sym (text-read-back r a) ∙ ap readText e ∙ text-read-back q b)
+text-tells r q a b e = ap (λ (x : Answer). x .kept) (sym (text-read-back r a) ∙ ap (readText Alone) e ∙ text-read-back q b)

@@ -3,9 +3,9 @@ use Prim.Native.Nat.{ℕ}
 use mathlib.Core.List.{List, [], _∷_, _++_, map}
 use mathlib.Core.Bool.{Bool, true, _&&_}
 use lib.Dec.{ltb}
-use lib.ListN.{length}
 use Rattle.refusal.specs.Numbers.{Why, by}
 use Rattle.refusal.specs.Outcome.{Outcome, passed, refused}
+use Rattle.zone.specs.declared.form.Source.{Source}
 use Rattle.zone.specs.declared.form.Recognised.{Recognised}
 use Rattle.zone.specs.declared.form.Recognised.the-variants.{As, Unknown}
 use Rattle.zone.specs.Form.{formOf, parts}
@@ -18,8 +18,8 @@ unfoldable pub checksBy : Recognised → List ℕ → List Outcome
 checksBy Unknown t = refused (by 1) 0 ∷ []
 checksBy (As f) t = characters t ∷ (map (fieldCheck f t (spanOf f t)) (parts f) ++ map (digitCheck f t (spanOf f t)) (parts f))
 
-unfoldable pub checksOf : List ℕ → List Outcome
-checksOf t = checksBy (formOf (length t)) t
+unfoldable pub checksOf : Source → List ℕ → List Outcome
+checksOf source t = checksBy (formOf source t) t
 
 -- every check before it passed, and this one did not
 pub data FirstFailing : List Outcome → Why → ℕ → Type 0 where

@@ -6,6 +6,7 @@ use refusal::Verdict;
 use text::read::read;
 use zone::form::Form;
 use zone::form::Recognised;
+use zone::form::Source;
 use zone::record::Record;
 
 // The most that is shown of a text in one line. No line of a form is longer.
@@ -19,7 +20,7 @@ pub(crate) fn title(title: &[u8]) {
 
 // Prints a text, then its record, or its refusal with a caret under the place.
 pub(crate) fn sample(text: &[u8]) {
-    let reading = read(text);
+    let reading = read(Source::Alone, text);
     let verdict = reading.verdict;
     match verdict {
         Verdict::Passed => {
@@ -37,7 +38,7 @@ pub(crate) fn sample(text: &[u8]) {
 
 // A text of a form by its lines, any other in one.
 fn lines(text: &[u8], place: usize) {
-    match Form::of_length(text.len()) {
+    match Form::of_text(Source::Alone, text) {
         Recognised::As(form) => match form {
             Form::Td1 => {
                 line(text, 0, 30, place);

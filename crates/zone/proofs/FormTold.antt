@@ -1,23 +1,31 @@
--- The form that a length tells, and the one that a number in an entry tells.
+-- The form that a text tells, and the one that a number in an entry tells.
 use Prim.Native.Nat.{ℕ, _<_}
 use mathlib.Core.Path.{_≡_, refl, ap, sym, _∙_}
-use mathlib.Core.Bool.{Bool, true, false, cond}
+use mathlib.Core.Bool.{Bool, true, false, cond, _&&_}
 use mathlib.Core.List.{List, [], _∷_}
 use native.Mathlib.Omega.{arith}
 use borrow.Author.Needs.{needs}
 use borrow.Author.Tests.{eqb-true}
 use lib.Dec.{eqb}
+use lib.ListN.{length}
+use Rattle.lent.proofs.Bools.{and-both}
 use Rattle.zone.specs.declared.form.Form.{Form}
+use Rattle.zone.specs.declared.form.Source.{Source}
+use Rattle.zone.specs.declared.form.Source.the-variants.{Alone, GroupOne, Seal}
 use Rattle.zone.specs.declared.form.Recognised.the-variants.{As, Unknown}
-use Rattle.zone.specs.Form.{row, forms, total, firstForm, formOf, formBy}
+use Rattle.zone.specs.Form.{row, forms, total, firstForm, mayStand, isOf, formOf, formBy}
 use Rattle.zone.proofs.AllForms.{all-forms}
 
-told-own : (f : Form) → formOf (total f) ≡ As f
-unfolding formOf firstForm row forms
-told-own = all-forms (λ f. formOf (total f) ≡ As f) (search needs)
+told-own : (f : Form) → firstForm (λ g. eqb (total f) (total g)) forms ≡ As f
+unfolding firstForm row forms
+told-own = all-forms (λ f. firstForm (λ g. eqb (total f) (total g)) forms ≡ As f) (search needs)
 
-pub told-by : (f : Form) (n : ℕ) → n ≡ total f → formOf n ≡ As f
-told-by f n e = ap formOf e ∙ told-own f
+-- no two forms that may stand in one place are told by the same text
+pub told-by : (source : Source) (f : Form) (t : List ℕ) → mayStand source f ≡ true → length t ≡ total f → formOf source t ≡ As f
+unfolding formOf mayStand isOf
+told-by Alone f t may e = rw e (told-own f)
+told-by GroupOne f t may e = rw e (told-own f)
+told-by Seal f t may e = rw e (told-own f)
 
 pub as-same : (f g : Form) → As f ≡ As g → f ≡ g
 as-same f g e = cc
@@ -35,9 +43,13 @@ first-passes p (g ∷ fs) f e = go (p g) refl e (first-passes p fs f)
     go true q h left = rw (as-same g f h) at q
     go false q h left = left h
 
-pub by-told : (f : Form) (n : ℕ) → formOf n ≡ As f → n ≡ total f
-unfolding formOf
-by-told f n e = eqb-true n (total f) (first-passes (λ g. eqb n (total g)) forms f e)
+pub by-told : (source : Source) (f : Form) (t : List ℕ) → formOf source t ≡ As f
+    → (mayStand source f ≡ true) × (length t ≡ total f)
+unfolding formOf isOf
+by-told source f t e =
+    let both = and-both (mayStand source f) (eqb (length t) (total f))
+    (first-passes (λ g. mayStand source g && isOf t g) forms f e) in
+    (both .0, eqb-true (length t) (total f) (both .1))
 
 -- three bits have room for the number
 pub entered-tells : (f : Form) → (formBy (row f .entered) ≡ As f) × (row f .entered < 8)

@@ -1,13 +1,15 @@
 -- The forms: document 01, "The text", Layouts and Composite. Every offset follows from the widths, in text order.
 use Prim.Native.Nat.{ℕ, _+_, _-_, _*_}
-use mathlib.Core.Bool.{Bool, cond}
+use mathlib.Core.Bool.{Bool, true, cond, _&&_}
 use mathlib.Core.List.{List, [], _∷_, _++_, map}
-use lib.ListN.{take, drop}
+use lib.ListN.{length, take, drop}
 use lib.Dec.{eqb, ltb}
 use Rattle.zone.specs.declared.form.Form.{Form}
 use Rattle.zone.specs.declared.form.Form.the-variants.{Td1, Td2, Td3}
 use Rattle.zone.specs.declared.form.Kind.{Kind}
 use Rattle.zone.specs.declared.form.Kind.the-variants.{Card, Passport}
+use Rattle.zone.specs.declared.form.Source.{Source}
+use Rattle.zone.specs.declared.form.Source.the-variants.{Alone, GroupOne, Seal}
 use Rattle.zone.specs.declared.form.Recognised.{Recognised}
 use Rattle.zone.specs.declared.form.Recognised.the-variants.{As, Unknown}
 use Rattle.zone.specs.Part.{Part, code, state, number, numberCheck, optional, birth, birthCheck, sex, expiry, expiryCheck}
@@ -124,9 +126,19 @@ unfoldable pub firstForm : (Form → Bool) → List Form → Recognised
 firstForm p [] = Unknown
 firstForm p (f ∷ fs) = cond (p f) (As f) (firstForm p fs)
 
--- which form a length tells
-unfoldable pub formOf : ℕ → Recognised
-formOf n = firstForm (λ f. eqb n (total f)) forms
+-- the forms that may stand where a text is read: alone, in group 1, in a seal
+unfoldable pub mayStand : Source → Form → Bool
+mayStand Alone f = true
+mayStand GroupOne f = true
+mayStand Seal f = true
+
+-- whether a text is one of a form, which its length tells
+unfoldable pub isOf : List ℕ → Form → Bool
+isOf t f = eqb (length t) (total f)
+
+-- the form of a text, of those that may stand there
+unfoldable pub formOf : Source → List ℕ → Recognised
+formOf source t = firstForm (λ f. mayStand source f && isOf t f) forms
 
 -- and which a number in an entry
 unfoldable pub formBy : ℕ → Recognised

@@ -1,7 +1,8 @@
 // The three forms of document 01, "The text": which length tells which, and where everything stands in each. A form is a row of
 // constants here; what reads and writes a text goes by these and by nothing else of the form.
 ghost use mathlib.Core.Path.{_≡_};
-ghost use Rattle.zone.specs.Form.{row, formOf, formBy, width, longest, total};
+ghost use lib.Dec.{eqb};
+ghost use Rattle.zone.specs.Form.{row, forms, firstForm, formOf, formBy, width, longest, total};
 ghost use Rattle.zone.specs.Inner.Places.{placesOf};
 ghost use Rattle.zone.specs.Part.{name, optional, personal, composite};
 
@@ -17,7 +18,14 @@ pub enum Kind {
     Passport,
 }
 
-// What a length tells, or a number in an entry.
+// Where a text stands, on which it depends what forms it may have.
+pub enum Source {
+    Alone,
+    GroupOne,
+    Seal,
+}
+
+// What a text tells, or a number in an entry.
 pub enum Recognised {
     As(Form),
     Unknown,
@@ -95,9 +103,20 @@ impl Form {
 
     pub const NAME: usize = 39;
 
-    // Which form a text of this length is.
-    pub fn of_length(n: usize) -> Recognised
-        ensures { λ r. ⌜ r ≡ formOf n ⌝ }
+    // Which form a text is, of those that may stand there: today all of them anywhere.
+    pub fn of_text(source: Source, text: &[u8]) -> Recognised
+        ensures { λ r. ⌜ r ≡ formOf source (now (text .entry)) ⌝ }
+    {
+        let n = text.len();
+        match source {
+            Source::Alone => Form::of_length(n),
+            Source::GroupOne => Form::of_length(n),
+            Source::Seal => Form::of_length(n),
+        }
+    }
+
+    fn of_length(n: usize) -> Recognised
+        ensures { λ r. ⌜ r ≡ firstForm (λ f. eqb n (total f)) forms ⌝ }
     {
         match n {
             Form::TD1_TEXT => Recognised::As(Form::Td1),

@@ -6,6 +6,7 @@ use native.Mathlib.Nat.{le-trans}
 use native.Mathlib.Omega.{arith}
 use denote.Ref.{now}
 use lib.ListN.{length}
+use Rattle.zone.specs.declared.form.Source.the-variants.{GroupOne}
 use Rattle.refusal.specs.Outcome.{outcomeOf}
 use Rattle.text.specs.Read.{Answer, answerOf, readText}
 use Rattle.text.proofs.Within.{text-within}
@@ -25,12 +26,12 @@ move-by-requires c κs = λ n p r.
     let v = c .before .before .before .before .before .before .v .given .0 .0 in
     let e = sym (c .before .before .before .before .before .before .before .before .element .ensures)
     ∙ ap takenOf (c .before .before .before .before .before .before .v .given .1) in
-    let told = sym (ap (λ (a : Answer). a .outcome) (c .read .ensures ∙ ap readText (c .before .cut .ensures))) ∙ r in
+    let told = sym (ap (λ (a : Answer). a .outcome) (c .read .ensures ∙ ap (readText GroupOne) (c .before .cut .ensures))) ∙ r in
     let small : length s < 2 ^ 63 = search needs in
     let stood = value-within s
     (c .before .before .before .before .before .before .before .before .before .before .args .at) 0x5F1F v e in
     let held = cut-within s v (le-trans (stood .1) (stood .2)) in
-    omega (arith, text-within (cut s v) n p told, held, small)
+    omega (arith, text-within GroupOne (cut s v) n p told, held, small)
 
 pub text-at-spec : {M : Type 1} → statement M
 unfolding textAt andThen checked
@@ -56,7 +57,7 @@ text-at-spec =
     let done = sym (c .before .before .before .before .before .end-check .ensures)
     ∙ ap outcomeOf (c .before .before .before .enum-told .given .1) in
     rw (e, done) (c .move-by .ensures ∙ ap (λ a. answerBy (moved (v .from) a))
-    (c .before .read .ensures ∙ ap readText (c .before .before .cut .ensures))))
+    (c .before .read .ensures ∙ ap (readText GroupOne) (c .before .before .cut .ensures))))
     (λ c.
     let e = sym (c .before .before .before .before .before .before .before .before .element .ensures)
     ∙ ap takenOf (c .before .before .before .before .before .before .v .given .1) in

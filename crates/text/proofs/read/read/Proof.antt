@@ -1,4 +1,4 @@
--- The form by the length, and the text by the form.
+-- The form by the text, and the text by the form.
 use borrow.Author.Needs.{needs}
 use Rattle.text.specs.Read.{readText, readBy}
 use Rattle.text.proofs.read.read.Statement.{statement}
@@ -7,7 +7,7 @@ use Rattle.text.proofs.read.read.Tie as tie
 returns : tie.Need-returns
 unfolding readText
 returns c =
-    rw (c .read-by .ensures, ← c .before .before .before .before .of-length .ensures, c .before .before .form .given .1)
+    rw (c .read-by .ensures, ← c .before .before .before .before .of-text .ensures, c .before .before .form .given .1)
 
 returns-2 : tie.Need-returns-2
 unfolding readText readBy
@@ -15,7 +15,7 @@ returns-2 c =
     rw (
       c .refuse .ensures,
       c .before .at .ensures,
-      ← c .before .before .before .before .of-length .ensures,
+      ← c .before .before .before .before .of-text .ensures,
       c .before .before .enum-told .given .1,
     )
 

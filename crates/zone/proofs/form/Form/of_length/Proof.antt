@@ -1,11 +1,11 @@
 -- The number matched on is the length of the form that is answered, or of none.
 use borrow.Author.Tests.{ne-eqb}
-use Rattle.zone.specs.Form.{formOf, firstForm, forms, row}
+use Rattle.zone.specs.Form.{firstForm, forms, row}
 use Rattle.zone.proofs.form.Form.of_length.Statement.{statement}
 use Rattle.zone.proofs.form.Form.of_length.Tie as tie
 
 pub of-length-spec : {M : Type 1} → statement M
-unfolding formOf firstForm forms row
+unfolding firstForm forms row
 of-length-spec = tie.close (tie.spec
     (λ c. rw (c .match .keys1))
     (λ c. rw (c .match .keys2))
