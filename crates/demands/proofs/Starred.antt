@@ -2,6 +2,7 @@
 use mathlib.Core.Path.{_≡_, refl}
 use mathlib.Core.Bool.{true}
 use Rattle.refusal.specs.Outcome.{passed}
+use Rattle.zone.specs.Rows.{inRows}
 use Rattle.zone.specs.declared.form.Source.{Source}
 use Rattle.zone.specs.declared.form.Source.the-variants.{Alone, GroupOne, Seal}
 use Rattle.zone.specs.Alphabet.{isDigit, isLetter, isFiller, isCharacter, isForeign, every, first, firstForeign}
@@ -16,8 +17,8 @@ use Rattle.field.specs.Date.{isKnown, expiryRule}
 use Rattle.field.specs.Code.{isSecond, passportRule, kindRule, codeRule}
 use Rattle.field.specs.Letters.{lettersThenFillers, stateRule, sexRule, nameRule, isNameCharacter}
 use Rattle.text_digits.specs.Number.{isLong, spanOf, spanRule, numberRule, numberBy, checkedBy}
-use Rattle.text_digits.specs.Digits.{digitAt, numberDigit, furtherDigit, isLeftOut, personalDigit, digitCheck}
-use Rattle.text.specs.Order.{characters, fieldCheck}
+use Rattle.text_digits.specs.Digits.{digitAt, numberDigit, furtherDigit, isLeftOut, personalDigit, digitRows}
+use Rattle.text.specs.Order.{characters, fieldRows}
 use Rattle.text_digits.specs.Digits.{inOrder}
 use Rattle.text.specs.Order.{verdictBy}
 use Rattle.text.specs.Read.{recordBy, answered, readBy, readText}
@@ -36,18 +37,18 @@ unfolding allRight examples isRight isPassed isDigitAt T3 octets checkOf sumFrom
     padded entryOf bits.octets gathered put puts putKey putRest codeOf formCode sexCode alike told isRead isRefused element
     tagAt tagWidth sizeAt sizeOf sized endsWithin
     readText readBy answered mayStand isOf formOf verdictBy characters firstForeign first isForeign isCharacter inOrder parts partOf
-    fieldCheck codeRule kindRule stateRule numberRule spanRule sexRule nameRule isNameCharacter every expiryRule
-    digitCheck numberDigit furtherDigit personalDigit isLeftOut digitAt digitOf checkedBy passportRule isSecond
+    fieldRows inRows codeRule kindRule stateRule numberRule spanRule sexRule nameRule isNameCharacter every expiryRule
+    digitRows numberDigit furtherDigit personalDigit isLeftOut digitAt digitOf checkedBy passportRule isSecond
     lettersThenFillers isKnown
 starred = refl
 
 -- and by itself: T3 is accepted
 pub T3-accepted : (source : Source) → readText source (octets T3) .outcome ≡ passed
 unfolding T3 octets readText readBy answered mayStand isOf formOf verdictBy characters firstForeign first isForeign isCharacter isDigit
-    isLetter isFiller inOrder parts partOf row forms firstForm start startIn width widthIn rank same field fieldCheck
+    isLetter isFiller inOrder parts partOf row forms firstForm start startIn width widthIn rank same field fieldRows inRows
     codeRule kindRule passportRule isSecond stateRule lettersThenFillers numberRule spanRule sexRule nameRule isNameCharacter every birthRule expiryRule isKnown
     pairOf yearOf monthOf dayOf isLeap isShort daysIn yearRule monthRule dayRule spanOf isLong
-    digitCheck numberDigit furtherDigit personalDigit isLeftOut digitAt digitOf checkedBy checkOf sumFrom value weight
+    digitRows numberDigit furtherDigit personalDigit isLeftOut digitAt digitOf checkedBy checkOf sumFrom value weight
     covered pieceOf pieces cut joinedCuts
 T3-accepted Alone = refl
 T3-accepted GroupOne = refl

@@ -13,6 +13,7 @@ use Rattle.lent.proofs.Bools.{and-both, both-and}
 use Rattle.refusal.specs.Numbers.{by}
 use Rattle.refusal.specs.Outcome.{passed, refused}
 use Rattle.refusal.proofs.Outcomes.{kept-unless}
+use Rattle.zone.specs.Rows.{inRows}
 use Rattle.zone.specs.declared.form.Source.the-variants.{Seal}
 use Rattle.zone.specs.Alphabet.{isDigit, isLetter, isFiller, isCharacter, isForeign, every, firstForeign, filler}
 use Rattle.zone.specs.declared.form.Form.the-variants.{Td2}
@@ -22,7 +23,7 @@ use Rattle.zone.proofs.Every.{every-first}
 use Rattle.field.specs.Code.{isCardLetter, cardRule, kindRule, codeRule}
 use Rattle.text_digits.specs.Number.{spanOf}
 use Rattle.text_digits.specs.Digits.{inOrder}
-use Rattle.text.specs.Order.{characters, fieldCheck, verdictBy}
+use Rattle.text.specs.Order.{characters, fieldRows, fieldCheck, verdictBy}
 use Rattle.text.specs.Read.{Answer, readText, recordBy}
 use Rattle.c40.specs.Values.{space, isC40}
 use Rattle.seal_fields.specs.Spaces.{filled}
@@ -64,7 +65,7 @@ all-characters t e =
 
 -- TD2 knows no code that begins with V
 code-v : (u : List ℕ) → inOrder (fieldCheck Td2 (code "V" ∷ u) (spanOf Td2 (code "V" ∷ u))) (parts Td2) ≡ refused (by 3) 0
-unfolding inOrder parts partOf row fieldCheck codeRule kindRule cardRule isCardLetter field start startIn width widthIn same rank
+unfolding inOrder parts partOf row fieldRows inRows codeRule kindRule cardRule isCardLetter field start startIn width widthIn same rank
 code-v u = refl
 
 filled-v : (t : List ℕ) → 0 < length t → getD t 0 0 ≡ code "V" → (u : List ℕ) × (filled t ≡ code "V" ∷ u)

@@ -12,8 +12,8 @@ use Rattle.refusal.proofs.Each.{Each, each-passed, each-else, each-unless}
 use Rattle.zone.specs.declared.form.Form.{Form}
 use Rattle.zone.specs.declared.record.Record.{Record}
 use Rattle.zone.specs.Alphabet.{firstForeign}
-use Rattle.zone.specs.Part.{Part, code, state, number, numberCheck, optional, birth, birthCheck, sex, expiry, expiryCheck}
-use Rattle.zone.specs.Part.{nationality, optional2, composite, name, personal, personalCheck}
+use Rattle.zone.specs.Part.{Part, code, state, number, birth, sex, expiry, nationality, name}
+use Rattle.zone.proofs.Parts.{in-rows}
 use Rattle.zone.specs.Form.{parts, start, field}
 use Rattle.field.specs.Code.{codeRule}
 use Rattle.field.specs.Letters.{stateRule, sexRule, nameRule}
@@ -22,7 +22,7 @@ use Rattle.text_digits.specs.declared.number.Span.{Span}
 use Rattle.text_digits.specs.Number.{numberRule}
 use Rattle.text_digits.specs.Digits.{inOrder}
 use Rattle.text_digits.proofs.EachDigit.{EachDigit, each-digit, each-order}
-use Rattle.text.specs.Order.{characters, fieldCheck, verdictBy}
+use Rattle.text.specs.Order.{characters, fieldRows, fieldCheck, verdictBy}
 use Rattle.text.specs.Read.{answered}
 
 pub answered-outcome : (o : Outcome) (r : Record) → answered o r .outcome ≡ o
@@ -34,23 +34,32 @@ module _ (P : Why → ℕ → Type 0) (f : Form) (t : List ℕ) (span : Span)
     (plain : (n : ℕ) (x : Part) → isPlain n ≡ true → P (by n) (start f x)) where
   -- a field is refused by its number at its start
   each-field : (x : Part) → Each P (fieldCheck f t span x)
-  unfolding fieldCheck
-  each-field code = each-unless P (codeRule f (field f code t)) 3 (start f code) (plain 3 code refl)
-  each-field state = each-unless P (stateRule (field f state t)) 4 (start f state) (plain 4 state refl)
-  each-field nationality = each-unless P (stateRule (field f nationality t)) 4 (start f nationality) (plain 4 nationality refl)
-  each-field number = each-unless P (numberRule f t span) 5 (start f number) (plain 5 number refl)
-  each-field birth = each-unless P (birthRule (field f birth t)) 6 (start f birth) (plain 6 birth refl)
-  each-field expiry = each-unless P (expiryRule (field f expiry t)) 6 (start f expiry) (plain 6 expiry refl)
-  each-field sex = each-unless P (sexRule (getD t (start f sex) 0)) 7 (start f sex) (plain 7 sex refl)
-  each-field name = each-unless P (nameRule (field f name t)) 8 (start f name) (plain 8 name refl)
-  each-field numberCheck = each-passed P
-  each-field optional = each-passed P
-  each-field birthCheck = each-passed P
-  each-field expiryCheck = each-passed P
-  each-field optional2 = each-passed P
-  each-field composite = each-passed P
-  each-field personal = each-passed P
-  each-field personalCheck = each-passed P
+  unfolding fieldRows
+  each-field = in-rows (λ x o. Each P o) passed (fieldRows f t span) (λ x. each-passed P) (
+    each-unless P (codeRule f (field f code t)) 3 (start f code) (plain 3 code refl),
+    (
+      each-unless P (stateRule (field f state t)) 4 (start f state) (plain 4 state refl),
+      (
+        each-unless P (stateRule (field f nationality t)) 4 (start f nationality) (plain 4 nationality refl),
+        (
+          each-unless P (numberRule f t span) 5 (start f number) (plain 5 number refl),
+          (
+            each-unless P (birthRule (field f birth t)) 6 (start f birth) (plain 6 birth refl),
+            (
+              each-unless P (expiryRule (field f expiry t)) 6 (start f expiry) (plain 6 expiry refl),
+              (
+                each-unless P (sexRule (getD t (start f sex) 0)) 7 (start f sex) (plain 7 sex refl),
+                (
+                  each-unless P (nameRule (field f name t)) 8 (start f name) (plain 8 name refl),
+                  tt,
+                ),
+              ),
+            ),
+          ),
+        ),
+      ),
+    ),
+  )
 
   pub each-verdict : P (by 2) (firstForeign t) → EachDigit P f t span → Each P (verdictBy f t span)
   unfolding verdictBy characters

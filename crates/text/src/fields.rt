@@ -17,26 +17,19 @@ use text_digits::order::in_turn;
 use zone::alphabet::FILLER;
 use zone::form::Form;
 
-fn code_check(form: Form, text: &[u8]) -> Verdict
-    ensures { λ r. ⌜ ((span : Span) → outcomeOf r ≡ fieldCheck form (now (text .entry)) span code) ⌝ }
+// Code and state open every form.
+fn opening_check(form: Form, text: &[u8]) -> Verdict
+    ensures { λ r. ⌜ ((span : Span) → outcomeOf r ≡
+        orElse (fieldCheck form (now (text .entry)) span code) (fieldCheck form (now (text .entry)) span state)) ⌝ }
 {
     let at = form.places();
-    Verdict::judged(
-        field::code::is_code(form, lent::part(text, at.code, Form::CODE)),
-        Cause::Code,
-        at.code,
-    )
-}
-
-fn state_check(form: Form, text: &[u8]) -> Verdict
-    ensures { λ r. ⌜ ((span : Span) → outcomeOf r ≡ fieldCheck form (now (text .entry)) span state) ⌝ }
-{
-    let at = form.places();
-    Verdict::judged(
-        field::letters::is_state(lent::part(text, at.state, Form::STATE)),
+    let code = field::code::is_code(form, lent::part(text, at.code, Form::CODE));
+    let state = field::letters::is_state(lent::part(text, at.state, Form::STATE));
+    Verdict::judged(code, Cause::Code, at.code).or_else(Verdict::judged(
+        state,
         Cause::State,
         at.state,
-    )
+    ))
 }
 
 fn nationality_check(form: Form, text: &[u8]) -> Verdict
@@ -79,39 +72,6 @@ fn number_check(form: Form, text: &[u8], span: Span) -> Verdict
     )
 }
 
-fn birth_check(form: Form, text: &[u8]) -> Verdict
-    ensures { λ r. ⌜ ((span : Span) → outcomeOf r ≡ fieldCheck form (now (text .entry)) span birth) ⌝ }
-{
-    let at = form.places();
-    Verdict::judged(
-        field::date::is_birth(lent::part(text, at.birth, Form::DATE)),
-        Cause::Date,
-        at.birth,
-    )
-}
-
-fn expiry_check(form: Form, text: &[u8]) -> Verdict
-    ensures { λ r. ⌜ ((span : Span) → outcomeOf r ≡ fieldCheck form (now (text .entry)) span expiry) ⌝ }
-{
-    let at = form.places();
-    Verdict::judged(
-        field::date::is_expiry(lent::part(text, at.expiry, Form::DATE)),
-        Cause::Date,
-        at.expiry,
-    )
-}
-
-fn sex_check(form: Form, text: &[u8]) -> Verdict
-    ensures { λ r. ⌜ ((span : Span) → outcomeOf r ≡ fieldCheck form (now (text .entry)) span sex) ⌝ }
-{
-    let at = form.places();
-    Verdict::judged(
-        field::letters::is_sex(lent::octet(text, at.sex)),
-        Cause::Sex,
-        at.sex,
-    )
-}
-
 fn name_check(form: Form, text: &[u8]) -> Verdict
     ensures { λ r. ⌜ ((span : Span) → outcomeOf r ≡ fieldCheck form (now (text .entry)) span name) ⌝ }
 {
@@ -128,16 +88,16 @@ fn person_check(form: Form, text: &[u8]) -> Verdict
     ensures { λ r. ⌜ ((span : Span) → outcomeOf r ≡ orElse (fieldCheck form (now (text .entry)) span birth)
         (orElse (fieldCheck form (now (text .entry)) span sex) (fieldCheck form (now (text .entry)) span expiry))) ⌝ }
 {
-    let sex_and_expiry = sex_check(form, text).or_else(expiry_check(form, text));
-    birth_check(form, text).or_else(sex_and_expiry)
-}
-
-// Code and state open every form.
-fn opening_check(form: Form, text: &[u8]) -> Verdict
-    ensures { λ r. ⌜ ((span : Span) → outcomeOf r ≡
-        orElse (fieldCheck form (now (text .entry)) span code) (fieldCheck form (now (text .entry)) span state)) ⌝ }
-{
-    code_check(form, text).or_else(state_check(form, text))
+    let at = form.places();
+    let birth = field::date::is_birth(lent::part(text, at.birth, Form::DATE));
+    let sex = field::letters::is_sex(lent::octet(text, at.sex));
+    let expiry = field::date::is_expiry(lent::part(text, at.expiry, Form::DATE));
+    let last = Verdict::judged(sex, Cause::Sex, at.sex).or_else(Verdict::judged(
+        expiry,
+        Cause::Date,
+        at.expiry,
+    ));
+    Verdict::judged(birth, Cause::Date, at.birth).or_else(last)
 }
 
 // The first field, in text order, that breaks its rule. Forms differ in where name and nationality stand.

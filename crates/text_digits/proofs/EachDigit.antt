@@ -6,11 +6,12 @@ use Rattle.refusal.specs.Numbers.{Why}
 use Rattle.refusal.specs.Outcome.{Outcome, passed}
 use Rattle.refusal.proofs.Each.{Each, each-passed, each-else}
 use Rattle.zone.specs.declared.form.Form.{Form}
-use Rattle.zone.specs.Part.{Part, code, state, number, numberCheck, optional, birth, birthCheck, sex, expiry, expiryCheck}
-use Rattle.zone.specs.Part.{nationality, optional2, composite, name, personal, personalCheck}
+use Rattle.zone.specs.Part.{Part, birth, birthCheck, expiry, expiryCheck, composite, personal, personalCheck}
+use Rattle.zone.proofs.Parts.{in-rows}
 use Rattle.zone.specs.Form.{start, field, covered}
 use Rattle.text_digits.specs.declared.number.Span.{Span}
-use Rattle.text_digits.specs.Digits.{digitAt, numberDigit, furtherDigit, isLeftOut, personalDigit, digitCheck, inOrder}
+use Rattle.text_digits.specs.Digits.{digitAt, numberDigit, furtherDigit, isLeftOut, personalDigit, digitRows, digitCheck}
+use Rattle.text_digits.specs.Digits.{inOrder}
 
 -- the digits that are looked at
 pub record EachDigit (P : Why → ℕ → Type 0) (f : Form) (t : List ℕ) (span : Span) : Type 0 where
@@ -23,23 +24,26 @@ pub record EachDigit (P : Why → ℕ → Type 0) (f : Form) (t : List ℕ) (spa
 
 module _ (P : Why → ℕ → Type 0) where
   pub each-digit : (f : Form) (t : List ℕ) (span : Span) → EachDigit P f t span → (x : Part) → Each P (digitCheck f t span x)
-  unfolding digitCheck personalDigit
-  each-digit f t span h numberCheck = h .of-number
-  each-digit f t span h optional = h .of-further
-  each-digit f t span h birthCheck = h .of-birth
-  each-digit f t span h expiryCheck = h .of-expiry
-  each-digit f t span h personalCheck = either-way (Each P) (isLeftOut f t) passed _ (each-passed P) (h .of-personal)
-  each-digit f t span h composite = h .of-all
-  each-digit f t span h code = each-passed P
-  each-digit f t span h state = each-passed P
-  each-digit f t span h number = each-passed P
-  each-digit f t span h birth = each-passed P
-  each-digit f t span h sex = each-passed P
-  each-digit f t span h expiry = each-passed P
-  each-digit f t span h nationality = each-passed P
-  each-digit f t span h optional2 = each-passed P
-  each-digit f t span h name = each-passed P
-  each-digit f t span h personal = each-passed P
+  unfolding digitRows personalDigit
+  each-digit f t span h = in-rows (λ x o. Each P o) passed (digitRows f t span) (λ x. each-passed P) (
+    h .of-number,
+    (
+      h .of-further,
+      (
+        h .of-birth,
+        (
+          h .of-expiry,
+          (
+            either-way (Each P) (isLeftOut f t) passed _ (each-passed P) (h .of-personal),
+            (
+              h .of-all,
+              tt,
+            ),
+          ),
+        ),
+      ),
+    ),
+  )
 
   pub each-order : (check : Part → Outcome) → ((x : Part) → Each P (check x)) → (xs : List Part) → Each P (inOrder check xs)
   unfolding inOrder

@@ -7,8 +7,9 @@ use lib.Dec.{eqb}
 use Rattle.refusal.specs.Numbers.{expecting}
 use Rattle.refusal.specs.Outcome.{Outcome, passed, orElse, refusedUnless}
 use Rattle.zone.specs.Alphabet.{isFiller, every}
-use Rattle.zone.specs.Part.{Part, code, state, number, numberCheck, optional, birth, birthCheck, sex, expiry, expiryCheck}
-use Rattle.zone.specs.Part.{nationality, optional2, composite, name, personal, personalCheck}
+use Rattle.zone.specs.Part.{Part, numberCheck, optional, birth, birthCheck, expiry, expiryCheck, composite, personal}
+use Rattle.zone.specs.Part.{personalCheck}
+use Rattle.zone.specs.Rows.{PartRow, _is_, inRows}
 use Rattle.zone.specs.Form.{start, field, covered}
 use Rattle.zone.specs.declared.form.Form.{Form}
 use Rattle.digit.specs.Check.{checkOf, digitOf}
@@ -39,23 +40,19 @@ isLeftOut f t = isFiller (getD t (start f personalCheck) 0) && every isFiller (f
 unfoldable pub personalDigit : Form → List ℕ → Outcome
 personalDigit f t = cond (isLeftOut f t) passed (digitAt t (start f personalCheck) (field f personal t))
 
-unfoldable pub digitCheck : Form → List ℕ → Span → Part → Outcome
-digitCheck f t span numberCheck = numberDigit f t span
-digitCheck f t span optional = furtherDigit f t span
-digitCheck f t span birthCheck = digitAt t (start f birthCheck) (field f birth t)
-digitCheck f t span expiryCheck = digitAt t (start f expiryCheck) (field f expiry t)
-digitCheck f t span personalCheck = personalDigit f t
-digitCheck f t span composite = digitAt t (start f composite) (covered f t)
-digitCheck f t span code = passed
-digitCheck f t span state = passed
-digitCheck f t span number = passed
-digitCheck f t span birth = passed
-digitCheck f t span sex = passed
-digitCheck f t span expiry = passed
-digitCheck f t span nationality = passed
-digitCheck f t span optional2 = passed
-digitCheck f t span name = passed
-digitCheck f t span personal = passed
+-- the digits that are looked at, each where its part stands
+unfoldable pub digitRows : Form → List ℕ → Span → List (PartRow Outcome)
+digitRows f t span =
+    numberCheck is numberDigit f t span
+    ∷ optional is furtherDigit f t span
+    ∷ birthCheck is digitAt t (start f birthCheck) (field f birth t)
+    ∷ expiryCheck is digitAt t (start f expiryCheck) (field f expiry t)
+    ∷ personalCheck is personalDigit f t
+    ∷ composite is digitAt t (start f composite) (covered f t)
+    ∷ []
+
+abbrev pub digitCheck : Form → List ℕ → Span → Part → Outcome
+digitCheck f t span x = inRows passed (digitRows f t span) x
 
 -- one check for each part, the first that fails deciding
 unfoldable pub inOrder : (Part → Outcome) → List Part → Outcome

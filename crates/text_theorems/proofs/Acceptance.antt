@@ -17,7 +17,9 @@ use Rattle.zone.specs.declared.form.Recognised.the-variants.{As, Unknown}
 use Rattle.zone.specs.Alphabet.{isCharacter, isFiller, isForeign, firstForeign}
 use Rattle.zone.proofs.First.{first-none, none-first}
 use Rattle.zone.specs.Part.{Part, code, state, number, numberCheck, optional, birth, birthCheck, sex, expiry, expiryCheck}
-use Rattle.zone.specs.Part.{nationality, optional2, composite, name, personal, personalCheck}
+use Rattle.zone.specs.Part.{nationality, composite, name, personal, personalCheck, same, rank}
+use Rattle.zone.specs.Rows.{inRows}
+use Rattle.zone.proofs.Parts.{in-rows}
 use Rattle.zone.specs.Form.{mayStand, formOf, parts, start, width, has, total, field, covered}
 use Rattle.zone.proofs.Widths.{has-among}
 use Rattle.digit.specs.Check.{digitOf}
@@ -26,8 +28,8 @@ use Rattle.field.specs.Letters.{stateRule, sexRule, nameRule}
 use Rattle.field.specs.Date.{birthRule, expiryRule}
 use Rattle.text_digits.specs.declared.number.Span.{Span}
 use Rattle.text_digits.specs.Number.{isLong, spanOf, spanRule, numberRule, checkedBy}
-use Rattle.text_digits.specs.Digits.{numberDigit, furtherDigit, digitCheck, inOrder}
-use Rattle.text.specs.Order.{characters, fieldCheck, verdictBy}
+use Rattle.text_digits.specs.Digits.{numberDigit, furtherDigit, digitRows, digitCheck, inOrder}
+use Rattle.text.specs.Order.{characters, fieldRows, fieldCheck, verdictBy}
 use Rattle.text.specs.Read.{readText, readBy, answered, recordBy}
 use Rattle.text_theorems.specs.Accepted.{Keeps, fillerAt}
 use Rattle.text.proofs.EachCheck.{answered-outcome}
@@ -68,7 +70,7 @@ module _ (f : Form) (t : List ℕ) (told : length t ≡ total f) (accepted : ver
   digit-passed x h = walk-each (digitCheck f t span) (parts f) (stages .2) x (rw (has-among f x) at h)
 
   number-kept : (isFiller (getD (field f number t) 0 0) ≡ false) × (spanRule span ≡ true)
-  unfolding fieldCheck numberRule
+  unfolding fieldRows inRows same rank numberRule
   number-kept =
       let both = and-both (not (isFiller (getD (field f number t) 0 0))) (spanRule span)
       (unless-kept (numberRule f t span) 5 (start f number) (field-passed number (common f .has-number))) in
@@ -79,7 +81,7 @@ module _ (f : Form) (t : List ℕ) (told : length t ≡ total f) (accepted : ver
   ends long = span-ends f t (number-kept .1) long
 
   short-kept : isLong f t ≡ false → getD t (start f numberCheck) 0 ≡ digitOf (field f number t)
-  unfolding span digitCheck numberDigit checkedBy
+  unfolding span digitRows inRows same rank numberDigit checkedBy
   short-kept short =
       digit-kept t (start f numberCheck) (field f number t)
       (rw (short-span f t short) at (digit-passed numberCheck (common f .has-number-check)))
@@ -87,7 +89,7 @@ module _ (f : Form) (t : List ℕ) (told : length t ≡ total f) (accepted : ver
   long-kept : isLong f t ≡ true
       → getD t (start f optional + (fillerAt f t - 1)) 0
       ≡ digitOf (field f number t ++ take (fillerAt f t - 1) (field f optional t))
-  unfolding span digitCheck furtherDigit checkedBy
+  unfolding span digitRows inRows same rank furtherDigit checkedBy
   long-kept long =
       digit-kept t (start f optional + (fillerAt f t - 1)) (field f number t ++ take (fillerAt f t - 1) (field f optional t))
       (rw (long-span f t long (ends long .0) (ends long .1)) at (digit-passed optional (long-has f t long)))
@@ -100,7 +102,7 @@ module _ (f : Form) (t : List ℕ) (told : length t ≡ total f) (accepted : ver
       (unless-kept (eqb (firstForeign t) (length t)) 2 (firstForeign t) (stages .0))) i h)
 
   pub keeps : Keeps f t
-  unfolding fieldCheck digitCheck
+  unfolding fieldRows inRows same rank digitRows
   keeps = record {
     size = told;
     alphabet = characters-kept;
@@ -146,42 +148,54 @@ module _ (f : Form) (t : List ℕ) (k : Keeps f t) where
       (eq-eqb (firstForeign t) (length t) (none-first isForeign t (λ i h. ap not (k .alphabet i h))))
 
   fields-pass : (x : Part) → has f x ≡ true → fieldCheck f t (spanOf f t) x ≡ passed
-  unfolding fieldCheck numberRule
-  fields-pass code h = kept-unless _ 3 (start f code) (k .code-kept)
-  fields-pass state h = kept-unless _ 4 (start f state) (k .state-kept)
-  fields-pass number h = rw (k .number-begins, number-right (isLong f t) refl .0)
-  fields-pass numberCheck h = refl
-  fields-pass optional h = refl
-  fields-pass birth h = kept-unless _ 6 (start f birth) (k .birth-kept)
-  fields-pass birthCheck h = refl
-  fields-pass sex h = kept-unless _ 7 (start f sex) (k .sex-kept)
-  fields-pass expiry h = kept-unless _ 6 (start f expiry) (k .expiry-kept)
-  fields-pass expiryCheck h = refl
-  fields-pass nationality h = kept-unless _ 4 (start f nationality) (k .nationality-kept)
-  fields-pass optional2 h = refl
-  fields-pass composite h = refl
-  fields-pass name h = kept-unless _ 8 (start f name) (k .name-kept)
-  fields-pass personal h = refl
-  fields-pass personalCheck h = refl
+  unfolding fieldRows numberRule
+  fields-pass = in-rows (λ x o. has f x ≡ true → o ≡ passed) passed (fieldRows f t (spanOf f t)) (λ x h. refl) (
+    λ h. kept-unless _ 3 (start f code) (k .code-kept),
+    (
+      λ h. kept-unless _ 4 (start f state) (k .state-kept),
+      (
+        λ h. kept-unless _ 4 (start f nationality) (k .nationality-kept),
+        (
+          λ h. rw (k .number-begins, number-right (isLong f t) refl .0),
+          (
+            λ h. kept-unless _ 6 (start f birth) (k .birth-kept),
+            (
+              λ h. kept-unless _ 6 (start f expiry) (k .expiry-kept),
+              (
+                λ h. kept-unless _ 7 (start f sex) (k .sex-kept),
+                (
+                  λ h. kept-unless _ 8 (start f name) (k .name-kept),
+                  tt,
+                ),
+              ),
+            ),
+          ),
+        ),
+      ),
+    ),
+  )
 
   digits-pass : (x : Part) → has f x ≡ true → digitCheck f t (spanOf f t) x ≡ passed
-  unfolding digitCheck
-  digits-pass code h = refl
-  digits-pass state h = refl
-  digits-pass number h = refl
-  digits-pass numberCheck h = number-right (isLong f t) refl .1
-  digits-pass optional h = number-right (isLong f t) refl .2
-  digits-pass birth h = refl
-  digits-pass birthCheck h = kept-digit t (start f birthCheck) (field f birth t) (k .birth-digit)
-  digits-pass sex h = refl
-  digits-pass expiry h = refl
-  digits-pass expiryCheck h = kept-digit t (start f expiryCheck) (field f expiry t) (k .expiry-digit)
-  digits-pass nationality h = refl
-  digits-pass optional2 h = refl
-  digits-pass composite h = kept-digit t (start f composite) (covered f t) (k .composite-digit h)
-  digits-pass name h = refl
-  digits-pass personal h = refl
-  digits-pass personalCheck h = kept-personal f t (k .personal-digit h)
+  unfolding digitRows
+  digits-pass = in-rows (λ x o. has f x ≡ true → o ≡ passed) passed (digitRows f t (spanOf f t)) (λ x h. refl) (
+    λ h. number-right (isLong f t) refl .1,
+    (
+      λ h. number-right (isLong f t) refl .2,
+      (
+        λ h. kept-digit t (start f birthCheck) (field f birth t) (k .birth-digit),
+        (
+          λ h. kept-digit t (start f expiryCheck) (field f expiry t) (k .expiry-digit),
+          (
+            λ h. kept-personal f t (k .personal-digit h),
+            (
+              λ h. kept-digit t (start f composite) (covered f t) (k .composite-digit h),
+              tt,
+            ),
+          ),
+        ),
+      ),
+    ),
+  )
 
   pub passes : verdictBy f t (spanOf f t) ≡ passed
   unfolding verdictBy

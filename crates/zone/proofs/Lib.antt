@@ -4,7 +4,7 @@ pub mod Coding  -- characters and their codes tell each other; the table by code
 pub mod Every  -- `every`: the steps of a loop over all characters, and lists joined and cut
 pub mod First  -- `first`: the steps of a search, and where it finds none
 pub mod AllForms  -- what holds of each form of the list of all forms holds of every form
-pub mod Parts  -- the parts of a text: each has its own rank, and no two overlap
+pub mod Parts  -- the parts of a text: each has its own rank, no two overlap, and what rows say of them
 pub mod Widths  -- the widths that every form shares, and that every part lies within the text
 pub mod Padded  -- `padded`: copies over fillers, and trailing fillers that make no difference
 pub mod Trimmed  -- `trimmedLength`: one character more, its bound, and lists joined and cut

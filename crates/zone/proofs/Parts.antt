@@ -1,7 +1,7 @@
--- The parts of a text: each has its own rank, and no two overlap.
+-- The parts of a text: each has its own rank, no two overlap, and what rows say of them.
 use Prim.Native.Nat.{_+_, _-_, _≤_, ℕ}
-use mathlib.Core.Path.{_≡_, refl, sym, _∙_, ap}
-use mathlib.Core.Bool.{Bool, true, false, false≢true}
+use mathlib.Core.Path.{_≡_, refl, sym, _∙_, ap, subst}
+use mathlib.Core.Bool.{Bool, true, false, cond, false≢true}
 use mathlib.Core.Logic.{_⊎_, inl, inr}
 use mathlib.Core.List.{List, [], _∷_}
 use native.Mathlib.Omega.{arith}
@@ -10,6 +10,7 @@ use lib.ListN.{getD}
 use Rattle.zone.specs.declared.form.Form.{Form}
 use Rattle.zone.specs.Part.{Part, rank, same, code, state, number, numberCheck, optional, birth, birthCheck, sex, expiry}
 use Rattle.zone.specs.Part.{expiryCheck, nationality, optional2, composite, name, personal, personalCheck}
+use Rattle.zone.specs.Rows.{PartRow, _is_, inRows}
 use Rattle.zone.specs.Form.{Cell, _of_, layout, startIn, start, widthIn, width}
 
 -- one part before the other, whichever
@@ -73,3 +74,18 @@ same-one x y e = sym (ranked-rank x) ∙ (ap ranked (eqb-true (rank x) (rank y) 
 pub same-self : (x : Part) → same x x ≡ true
 unfolding same
 same-self x = eq-eqb (rank x) (rank x) refl
+
+-- what holds of what each row says, and of what stands for none, holds of every part
+abbrev pub OfRows : {A : Type 0} → (Part → A → Type 0) → List (PartRow A) → Type 0
+OfRows Q [] = Unit
+OfRows Q (y is a ∷ rows) = Q y a × OfRows Q rows
+
+pub in-rows : {A : Type 0} (Q : Part → A → Type 0) (none : A) (rows : List (PartRow A)) → ((x : Part) → Q x none) → OfRows Q rows
+    → (x : Part) → Q x (inRows none rows x)
+unfolding inRows
+in-rows Q none [] other each x = other x
+in-rows {A} Q none (y is a ∷ rows) other each x = go (same x y) refl (in-rows Q none rows other (each .1) x)
+  where
+    go : (b : Bool) → same x y ≡ b → Q x (inRows none rows x) → Q x (cond b a (inRows none rows x))
+    go true e left = subst (λ (z : Part). Q z a) (sym (same-one x y e)) (each .0)
+    go false e left = left

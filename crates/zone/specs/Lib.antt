@@ -1,6 +1,7 @@
 pub mod Alphabet
 pub mod Codes
 pub mod Part
+pub mod Rows
 pub mod Form
 pub mod Rooms
 pub mod Record

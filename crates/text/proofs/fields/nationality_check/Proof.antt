@@ -1,14 +1,16 @@
 -- The rule on the field, at the field's start.
 use borrow.Author.Needs.{needs}
+use Rattle.zone.specs.Part.{same, rank}
+use Rattle.zone.specs.Rows.{inRows}
 use Rattle.zone.proofs.Widths.{fixed}
-use Rattle.text.specs.Order.{fieldCheck}
+use Rattle.text.specs.Order.{fieldRows}
 use Rattle.zone.specs.Form.{field}
 use Rattle.zone.specs.Inner.Places.{placesOf}
 use Rattle.text.proofs.fields.nationality_check.Statement.{statement}
 use Rattle.text.proofs.fields.nationality_check.Tie as tie
 
 returns : tie.Need-returns
-unfolding fieldCheck placesOf field
+unfolding fieldRows inRows same rank placesOf field
 returns c = λ span.
     rw (
       c .judged .ensures,

@@ -2,18 +2,20 @@
 use borrow.Author.Needs.{needs}
 use borrow.Author.Tests.{lt-ltb, le-ltb}
 use denote.Ref.{now}
+use Rattle.zone.specs.Part.{same, rank}
+use Rattle.zone.specs.Rows.{inRows}
 use Rattle.zone.specs.Inner.Places.{placesOf}
 use Rattle.digit.specs.Inner.Covered.{compositeSum}
 use Rattle.digit.proofs.CoveredSum.{composite-digit}
 use Rattle.digit.proofs.Written.{as-digit-digit}
-use Rattle.text_digits.specs.Digits.{digitCheck}
+use Rattle.text_digits.specs.Digits.{digitRows}
 use Rattle.text_digits.specs.Inner.Checks.{ifHas}
 use Rattle.text_digits.proofs.Written.{written-digit}
 use Rattle.text_digits.proofs.digits.composite_digit.Statement.{statement}
 use Rattle.text_digits.proofs.digits.composite_digit.Tie as tie
 
 returns : tie.Need-returns
-unfolding ifHas digitCheck placesOf
+unfolding ifHas digitRows inRows same rank placesOf
 returns c =
     λ span.
     let start = c .before .before .before .before .before .before in

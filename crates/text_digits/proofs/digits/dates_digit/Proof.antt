@@ -2,17 +2,19 @@
 use mathlib.Core.Path.{ap}
 use borrow.Author.Needs.{needs}
 use denote.Ref.{now}
+use Rattle.zone.specs.Part.{same, rank}
+use Rattle.zone.specs.Rows.{inRows}
 use Rattle.zone.specs.Part.{birth, expiry}
 use Rattle.zone.specs.Form.{field}
 use Rattle.zone.specs.Inner.Places.{placesOf}
 use Rattle.digit.specs.Inner.Covered.{sumsOf}
 use Rattle.digit.specs.declared.composite.Sums.{Sums}
-use Rattle.text_digits.specs.Digits.{digitCheck}
+use Rattle.text_digits.specs.Digits.{digitRows}
 use Rattle.text_digits.proofs.digits.dates_digit.Statement.{statement}
 use Rattle.text_digits.proofs.digits.dates_digit.Tie as tie
 
 returns : tie.Need-returns
-unfolding digitCheck placesOf sumsOf
+unfolding digitRows inRows same rank placesOf sumsOf
 returns c =
     λ span.
     let start = c .before .before .before .before .before .before .before in

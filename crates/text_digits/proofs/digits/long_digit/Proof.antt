@@ -2,12 +2,14 @@
 use borrow.Author.Needs.{needs}
 use mathlib.Core.Path.{ap}
 use native.Mathlib.Omega.{arith}
+use Rattle.zone.specs.Part.{same, rank}
+use Rattle.zone.specs.Rows.{inRows}
 use Rattle.zone.specs.Part.{optional}
 use Rattle.zone.specs.Inner.Places.{placesOf}
 use Rattle.zone.specs.declared.form.Places.{Places}
 use Rattle.zone.proofs.Widths.{within, total-le}
 use Rattle.digit.proofs.Written.{digit-digit}
-use Rattle.text_digits.specs.Digits.{furtherDigit, digitCheck}
+use Rattle.text_digits.specs.Digits.{furtherDigit, digitRows}
 use Rattle.text_digits.proofs.Written.{written-digit}
 use Rattle.text_digits.proofs.digits.long_digit.Statement.{statement}
 use Rattle.text_digits.proofs.digits.long_digit.Tie as tie
@@ -19,7 +21,7 @@ add-judged-digit c =
     omega (arith, ap (λ (p : Places). p .optional) (c .before .places .ensures), within form optional, total-le form)
 
 pub long-digit-spec : {M : Type 1} → statement M
-unfolding digitCheck furtherDigit placesOf
+unfolding digitRows inRows same rank furtherDigit placesOf
 long-digit-spec =
     tie.close
     (tie.spec

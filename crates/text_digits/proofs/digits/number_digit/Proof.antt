@@ -2,18 +2,20 @@
 use mathlib.Core.Path.{ap}
 use borrow.Author.Needs.{needs}
 use denote.Ref.{now}
+use Rattle.zone.specs.Part.{same, rank}
+use Rattle.zone.specs.Rows.{inRows}
 use Rattle.zone.specs.Part.{number}
 use Rattle.zone.specs.Form.{field}
 use Rattle.zone.specs.Inner.Places.{placesOf}
 use Rattle.digit.specs.Inner.Covered.{sumsOf}
 use Rattle.digit.specs.declared.composite.Sums.{Sums}
 use Rattle.text_digits.specs.Number.{checkedBy}
-use Rattle.text_digits.specs.Digits.{numberDigit, digitCheck}
+use Rattle.text_digits.specs.Digits.{numberDigit, digitRows}
 use Rattle.text_digits.proofs.digits.number_digit.Statement.{statement}
 use Rattle.text_digits.proofs.digits.number_digit.Tie as tie
 
 returns : tie.Need-returns
-unfolding digitCheck numberDigit checkedBy placesOf sumsOf
+unfolding digitRows inRows same rank numberDigit checkedBy placesOf sumsOf
 returns c =
     let start = c .before .before .before .before .before .before in
     let gone = ap (λ (s : Sums). s .number) (start .pre) in
@@ -24,7 +26,7 @@ returns c =
     )
 
 pub number-digit-spec : {M : Type 1} → statement M
-unfolding digitCheck numberDigit
+unfolding digitRows inRows same rank numberDigit
 number-digit-spec =
     tie.close
     (tie.spec

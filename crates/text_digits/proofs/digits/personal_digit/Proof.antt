@@ -3,18 +3,20 @@ use mathlib.Core.Path.{ap}
 use borrow.Author.Needs.{needs}
 use denote.Ref.{now}
 use borrow.Author.Tests.{lt-ltb, le-ltb}
+use Rattle.zone.specs.Part.{same, rank}
+use Rattle.zone.specs.Rows.{inRows}
 use Rattle.zone.specs.Part.{personal}
 use Rattle.zone.specs.Form.{field}
 use Rattle.zone.specs.Inner.Places.{placesOf}
 use Rattle.digit.specs.Inner.Covered.{sumsOf}
 use Rattle.digit.specs.declared.composite.Sums.{Sums}
-use Rattle.text_digits.specs.Digits.{isLeftOut, personalDigit, digitCheck}
+use Rattle.text_digits.specs.Digits.{isLeftOut, personalDigit, digitRows}
 use Rattle.text_digits.specs.Inner.Checks.{ifHas}
 use Rattle.text_digits.proofs.digits.personal_digit.Statement.{statement}
 use Rattle.text_digits.proofs.digits.personal_digit.Tie as tie
 
 returns : tie.Need-returns
-unfolding ifHas digitCheck personalDigit isLeftOut placesOf field
+unfolding ifHas digitRows inRows same rank personalDigit isLeftOut placesOf field
 returns c =
     λ span.
     let places = c .before .before .before .before .before .before .places .ensures in
@@ -30,7 +32,7 @@ returns c =
     rw (has, out)
 
 returns-2 : tie.Need-returns-2
-unfolding ifHas digitCheck personalDigit isLeftOut placesOf field sumsOf
+unfolding ifHas digitRows inRows same rank personalDigit isLeftOut placesOf field sumsOf
 returns-2 c =
     λ span.
     let tested = c .before .before in

@@ -1,0 +1,13 @@
+-- Rows that say something of parts. What no row says of a part is what stands for none.
+use mathlib.Core.Bool.{cond}
+use mathlib.Core.List.{List, [], _∷_}
+use Rattle.zone.specs.Part.{Part, same}
+
+infix 70 _is_
+-- a part, and what is said of it
+pub data PartRow (A : Type 0) : Type 0 where
+  _is_ : Part → A → PartRow A
+
+unfoldable pub inRows : {A : Type 0} → A → List (PartRow A) → Part → A
+inRows none [] x = none
+inRows none (y is a ∷ rows) x = cond (same x y) a (inRows none rows x)
