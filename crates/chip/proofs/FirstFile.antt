@@ -75,7 +75,8 @@ module _ (w : List ℕ) (group at : ℕ) (found v : Stretch) (here : at < length
       go (value fs) false x b y k = rw x
 
 module _ (w : List ℕ) (group at : ℕ) (found : Stretch) where
-  pub found-done : length w ≤ at → (found .to ≡ 0 → found ≡ record { from = 0; to = 0 }) → found ≡ orFound w group found (files w at)
+  pub found-done : length w ≤ at → (found .to ≡ 0 → found ≡ record { from = 0; to = 0 })
+      → found ≡ orFound w group found (files w at)
   unfolding orFound firstFile fileOrNone
   found-done h none = rw (files-done w at h) (go (eqb (found .to) 0) refl)
     where

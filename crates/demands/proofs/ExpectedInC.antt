@@ -32,14 +32,15 @@ in-c-told o (told.written n) h = h
 in-c-told o (told.refused why p) h = h
 
 module _ (house : ℕ) (t out : List ℕ) where
-  pub text-digit-told : DigitTold (readText Alone t .outcome) (inText house t out .number) (inText house t out .expected) (inText house t out .value)
+  pub text-digit-told : DigitTold (readText Alone t .outcome) (inText house t out .number) (inText house t out .expected)
+      (inText house t out .value)
   unfolding readAnswer
   text-digit-told = in-c-told (readText Alone t .outcome) _
       (entered-told house (readText Alone t .kept) out (readText Alone t .outcome) (nine-tells Alone t))
 
 module _ (house : ℕ) (w out : List ℕ) where
-  pub presentation-digit-told : DigitTold (readPresentation w .outcome) (inPresentation house w out .number) (inPresentation house w out .expected)
-      (inPresentation house w out .value)
+  pub presentation-digit-told : DigitTold (readPresentation w .outcome) (inPresentation house w out .number)
+      (inPresentation house w out .expected) (inPresentation house w out .value)
   unfolding readAnswer
   presentation-digit-told = in-c-told (readPresentation w .outcome) _
       (entered-told house (readPresentation w .kept) out (readPresentation w .outcome) (presentation-nine w))

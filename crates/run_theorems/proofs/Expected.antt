@@ -31,7 +31,8 @@ module _ (house : ℕ) (r : Record) (out : List ℕ) where
   unfolding entryAnswer
   none-entry =
       write-each NoDigit none-written (none-refused 16 0 (λ e. omega arith)) (unless (isHouse house && isSound r) 17 0)
-      (each-unless (λ why p. NoDigit (told.refused why p)) (isHouse house && isSound r) 17 0 (none-refused 17 0 (λ e. omega arith)))
+      (each-unless (λ why p. NoDigit (told.refused why p)) (isHouse house && isSound r) 17 0
+      (none-refused 17 0 (λ e. omega arith)))
       (size (r .«name_len»)) out
 
   -- of a reader whose refusals 9 carry a digit

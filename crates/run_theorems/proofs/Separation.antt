@@ -1,7 +1,7 @@
--- SEPARATION: what two accepted calls leave in their ranges shares its first thirty octets exactly when house, form, state,
--- whole number, birth and expiry agree (`entries-apart`); so entries of two houses never share a key (`houses-apart`); and of a
--- run that is read, the lines whose first fifteen bits are a house are exactly that house's, and together the lines are the run's,
--- or those before the place where it is refused (`own-lines`). A call may have read anything, a text, a presentation or a seal:
+-- SEPARATION: what two accepted calls leave in their ranges shares its first thirty octets exactly when house, form, state, whole
+-- number, birth and expiry agree (`entries-apart`); so entries of two houses never share a key (`houses-apart`); and of a run
+-- that is read, the lines whose first fifteen bits are a house are exactly that house's, and together the lines are the run's, or
+-- those before the place where it is refused (`own-lines`). A call may have read anything, a text, a presentation or a seal:
 -- `enteredOut` is what it leaves.
 use Prim.Native.Nat.{ℕ}
 use mathlib.Core.Path.{_≡_, refl, ap, sym, _∙_}

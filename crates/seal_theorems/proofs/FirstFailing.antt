@@ -36,7 +36,8 @@ use Rattle.row_theorems.specs.Standing.{stretchAt, isCoded, coded}
 use Rattle.row_theorems.proofs.Rows.{under, under-outcome, under-first, under-same, keep, rows-then, first-then, step-known}
 use Rattle.row_theorems.proofs.Rows.{step-then, element-row, coded-within}
 use Rattle.seal_theorems.specs.SealChecks.{headerChecks, featureValue, placesFrom, endFrom, textAmong, featureChecks}
-use Rattle.seal_theorems.specs.SealChecks.{featuresChecks, signatureChecks, isImage, checksBehind, featuresFound, sealChecks}
+use Rattle.seal_theorems.specs.SealChecks.{featuresChecks, signatureChecks, isImage, checksBehind, featuresFound}
+use Rattle.seal_theorems.specs.SealChecks.{sealChecks}
 
 pub answer-outcome : (m : Read Said) → answerBy m .outcome ≡ outcomeIn m
 unfolding answerBy outcomeIn
@@ -119,7 +120,8 @@ module _ (s : List ℕ) where
       let to = featureValue s at .to in
       let next = textPlace s at text in
       step-known (featureChecks s text at) (featureAt s at text) (featureValue s at) _ (feature-rows text at)
-      ∙ under-same (featureChecks s text at) (featuresFrom more s to next) (under (rows more next to) (value (found more next to)))
+      ∙ under-same (featureChecks s text at) (featuresFrom more s to next)
+      (under (rows more next to) (value (found more next to)))
       (λ e. let k = feature-ends text at e in known to (k .1) (k .0))
       ∙ rows-then (featureChecks s text at) (rows more next to) _ (value (found more next to)) refl
 
@@ -139,9 +141,13 @@ module _ (s : List ℕ) where
       go : (b : Bool)
           → andThen (featureAt s at text) (λ v. featuresFrom more s (v .to) next)
           ≡ under (featureChecks s text at ++ rows more next to) (value (found more next to))
-          → cond b (value (record { text = text; end = at })) (andThen (featureAt s at text) (λ v. featuresFrom more s (v .to) next))
+          → cond b (value (record { text = text; end = at }))
+          (andThen (featureAt s at text) (λ v. featuresFrom more s (v .to) next))
           ≡ under (featuresChecks s text (cond b [] (at ∷ placesFrom more s to)))
-          (value (record { text = textAmong s text (cond b [] (at ∷ placesFrom more s to)); end = cond b at (endFrom more s to) }))
+          (value (record {
+            text = textAmong s text (cond b [] (at ∷ placesFrom more s to));
+            end = cond b at (endFrom more s to);
+          }))
       go true f = refl
       go false f = f
 

@@ -1,6 +1,6 @@
 -- The checks of a seal one after the other, a row for each sentence that can refuse: document 02, request 2026-08, "Refusals, in
--- this order", whose words are those in quotes. Which of them a refusal names is `FirstFailing` (text_theorems). Every row is said
--- of the octets; where one fails, those behind it decide nothing.
+-- this order", whose words are those in quotes. Which of them a refusal names is `FirstFailing` (text_theorems). Every row is
+-- said of the octets; where one fails, those behind it decide nothing.
 use Prim.Native.Nat.{ℕ, zero, suc, _+_}
 use mathlib.Core.Bool.{Bool, true, false, cond, not, _||_}
 use mathlib.Core.List.{List, [], _∷_, _++_, map}
@@ -98,8 +98,8 @@ checksBehind s f =
 unfoldable pub featuresFound : List ℕ → ℕ → Features
 featuresFound s at = record { text = textAmong s 0 (placesFrom (suc (length s)) s at); end = endFrom (suc (length s)) s at }
 
--- "1, over 65,535 octets, at 0"; the header; the features from the left, and what is behind them. Nothing that is rightly coded is
--- empty, so that there are no more features than octets.
+-- "1, over 65,535 octets, at 0"; the header; the features from the left, and what is behind them. Nothing that is rightly coded
+-- is empty, so that there are no more features than octets.
 unfoldable pub sealChecks : List ℕ → List Outcome
 sealChecks s =
     let at = headerEnd s in

@@ -1,5 +1,5 @@
--- DEMAND 2, round trip: every sound record is written as a text that is accepted and read as that record (`text-read-back`), has
--- its form's length (`text-length`), and is no other sound record's (`text-tells`).
+-- DEMAND 2, round trip: every sound record is written as a text (`text-length`) that is accepted and read as that record
+-- (`text-read-back`); so no two have one text (`text-tells`).
 use Prim.Native.Nat.{ℕ, suc, _+_, _-_, _≤_, _<_}
 use mathlib.Core.Path.{_≡_, refl, ap, sym, _∙_}
 use mathlib.Core.Bool.{Bool, true, false, cond, _&&_, false≢true}

@@ -52,7 +52,8 @@ module _ (P : Why → ℕ → Type 0) where
   pub each-element : (s : List ℕ) (at tag : ℕ) → P (by 10) at → EachRead P (element s at tag)
   unfolding element
   each-element s at tag h =
-      either-way (EachRead P) (eqb (tagAt s at tag) tag) _ _ (sized-each s at (at + tagWidth tag) (sizeAt s (at + tagWidth tag)) h)
+      either-way (EachRead P) (eqb (tagAt s at tag) tag) _ _
+      (sized-each s at (at + tagWidth tag) (sizeAt s (at + tagWidth tag)) h)
       (each-refusal Stretch (by 10) at h)
 
   pub each-end : (s : List ℕ) (at : ℕ) → P (by 10) at → Each P (endCheck s at)

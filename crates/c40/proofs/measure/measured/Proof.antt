@@ -9,7 +9,8 @@ use Rattle.c40.proofs.measure.measured.Tie as tie
 returns : tie.Need-returns
 returns c =
     let a = c .before .before .before .before .args in
-    c .behind .ensures ∙ three-answered (now (a .s)) (a .room) (sym (c .before .before .all-three .ensures) ∙ c .before .if1 .taken)
+    c .behind .ensures
+    ∙ three-answered (now (a .s)) (a .room) (sym (c .before .before .all-three .ensures) ∙ c .before .if1 .taken)
 
 pub measured-spec : {M : Type 1} → statement M
 measured-spec =
