@@ -14,7 +14,7 @@ use Rattle.c40.specs.Values.{isC40}
 use Rattle.c40.specs.Image.{imageOf}
 use Rattle.c40.specs.Reader.{Reading, characters, noImage, three, two, one, readC40}
 use Rattle.c40.specs.Field.{octetsFor, isOf, exactly, imageAt, isField, fieldAt}
-use Rattle.c40.proofs.Images.{reads-exactly, image-read}
+use Rattle.c40.proofs.Images.{read-c40, reads-exactly, image-read}
 use Rattle.c40.proofs.Pairs.{Pairs, none, ofOne, ofTwo, ofThree, read-pairs}
 
 -- the text's image stands there
@@ -48,6 +48,15 @@ module _ (s : List ℕ) (at m : ℕ) where
           let taken = length-take (octetsFor m) (drop at s) in
           let left = length-drop at s in
           omega (arith, two, taken, left, some)
+      go noImage p q = absurd (false≢true q)
+
+  -- its characters are C40's, whatever it is read from
+  pub field-characters : isField s at m ≡ true → every isC40 (fieldAt s at m) ≡ true
+  unfolding isField fieldAt isOf exactly imageAt
+  field-characters e = go (imageAt s at m) refl e
+    where
+      go : (r : Reading) → imageAt s at m ≡ r → isOf m r ≡ true → every isC40 (exactly m r) ≡ true
+      go (characters t) p q = rw q (read-c40 (take (octetsFor m) (drop at s)) t p)
       go noImage p q = absurd (false≢true q)
 
   pub field-read : areOctets s → isField s at m ≡ true → FieldStands s at m (fieldAt s at m)

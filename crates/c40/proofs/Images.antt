@@ -76,39 +76,56 @@ values-pair : (x y : ℕ) (s : List ℕ) → y < 256 → isValue (valuesOf (numb
     ≡ x ∷ y ∷ s
 values-pair x y s h e = rw (values-packed (numberOf x y) (some-number (numberOf x y) e)) (number-pair x y s h)
 
-one-read : (x y : ℕ) → isOne x y ≡ true → (every isC40 (one y) ≡ true) × (imageOf (one y) ≡ x ∷ y ∷ [])
-unfolding every imageOf one isOne
+-- what is read is of C40's characters
+pairs-c40 : {s t : List ℕ} → Pairs s t → every isC40 t ≡ true
+unfolding every one two three isOne isTwo isThree isHeld
+pairs-c40 none = refl
+pairs-c40 (ofOne x y p q r) = rw (and-both (eqb x 0xFE) (isC40 (y - 1)) r .1)
+pairs-c40 (ofTwo x y p q) =
+    let v = valuesOf (numberOf x y) in
+    let a = and-both (isValue (v .first)) (isValue (v .second) && eqb (v .third) 0) q in
+    let b = and-both (isValue (v .second)) (eqb (v .third) 0) (a .1) in
+    rw (character-tells (v .first) (a .0) .0, character-tells (v .second) (b .0) .0)
+pairs-c40 (ofThree x y p more) =
+    let v = valuesOf (numberOf x y) in
+    let a = and-both (isValue (v .first)) (isValue (v .second) && isValue (v .third)) p in
+    let b = and-both (isValue (v .second)) (isValue (v .third)) (a .1) in
+    rw (
+      character-tells (v .first) (a .0) .0,
+      character-tells (v .second) (b .0) .0,
+      character-tells (v .third) (b .1) .0,
+      pairs-c40 more,
+    )
+
+pub read-c40 : (s t : List ℕ) → readC40 s ≡ characters t → every isC40 t ≡ true
+read-c40 s t e = pairs-c40 (read-pairs s t e)
+
+one-read : (x y : ℕ) → isOne x y ≡ true → imageOf (one y) ≡ x ∷ y ∷ []
+unfolding imageOf one isOne
 one-read x y e =
     let both = and-both (eqb x 0xFE) (isC40 (y - 1)) e in
     let least = c40-range (y - 1) (both .1) .0 in
     let same : y - 1 + 1 ≡ y = omega arith in
-    (rw (both .1), rw (eqb-true x 0xFE (both .0), same))
+    rw (eqb-true x 0xFE (both .0), same)
 
-two-read : (x y : ℕ) → y < 256 → isTwo (valuesOf (numberOf x y)) ≡ true
-    → (every isC40 (two (valuesOf (numberOf x y))) ≡ true) × (imageOf (two (valuesOf (numberOf x y))) ≡ x ∷ y ∷ [])
-unfolding every imageOf two isTwo isHeld
+two-read : (x y : ℕ) → y < 256 → isTwo (valuesOf (numberOf x y)) ≡ true → imageOf (two (valuesOf (numberOf x y))) ≡ x ∷ y ∷ []
+unfolding imageOf two isTwo isHeld
 two-read x y h e =
     let v = valuesOf (numberOf x y) in
     let p = and-both (isValue (v .first)) (isValue (v .second) && eqb (v .third) 0) e in
     let q = and-both (isValue (v .second)) (eqb (v .third) 0) (p .1) in
-    let hc = character-tells (v .first) (p .0) in
-    let hd = character-tells (v .second) (q .0) in
     let whole = rw (eqb-true (v .third) 0 (q .1)) at (values-pair x y [] h (p .0)) in
-    (rw (hc .0, hd .0), rw (hc .1, hd .1) whole)
+    rw (character-tells (v .first) (p .0) .1, character-tells (v .second) (q .0) .1) whole
 
-three-read : (x y : ℕ) (s t : List ℕ) → y < 256 → isThree (valuesOf (numberOf x y)) ≡ true
-    → every isC40 t ≡ true → imageOf t ≡ s
-    → (every isC40 (three (valuesOf (numberOf x y)) ++ t) ≡ true)
-    × (imageOf (three (valuesOf (numberOf x y)) ++ t) ≡ x ∷ y ∷ s)
-unfolding every imageOf three isThree isHeld
-three-read x y s t h e ht hs =
+three-read : (x y : ℕ) (s t : List ℕ) → y < 256 → isThree (valuesOf (numberOf x y)) ≡ true → imageOf t ≡ s
+    → imageOf (three (valuesOf (numberOf x y)) ++ t) ≡ x ∷ y ∷ s
+unfolding imageOf three isThree isHeld
+three-read x y s t h e hs =
     let v = valuesOf (numberOf x y) in
     let p = and-both (isValue (v .first)) (isValue (v .second) && isValue (v .third)) e in
     let q = and-both (isValue (v .second)) (isValue (v .third)) (p .1) in
-    let hc = character-tells (v .first) (p .0) in
-    let hd = character-tells (v .second) (q .0) in
-    let he = character-tells (v .third) (q .1) in
-    (rw (hc .0, hd .0, he .0, ht), rw (hc .1, hd .1, he .1, hs) (values-pair x y s h (p .0)))
+    rw (character-tells (v .first) (p .0) .1, character-tells (v .second) (q .0) .1, character-tells (v .third) (q .1) .1, hs)
+    (values-pair x y s h (p .0))
 
 second-octet : (x y : ℕ) (s : List ℕ) → areOctets (x ∷ y ∷ s) → (y < 256) × areOctets s
 unfolding every isOctet
@@ -117,19 +134,21 @@ second-octet x y s o =
     let q = and-both (isOctet y) (every isOctet s) (p .1) in
     (ltb-true y 256 (q .0), q .1)
 
-pairs-image : {s t : List ℕ} → Pairs s t → areOctets s → (every isC40 t ≡ true) × (imageOf t ≡ s)
-unfolding every imageOf
-pairs-image none o = (refl, refl)
+pairs-image : {s t : List ℕ} → Pairs s t → areOctets s → imageOf t ≡ s
+unfolding imageOf
+pairs-image none o = refl
 pairs-image (ofOne x y p q r) o = one-read x y r
 pairs-image (ofTwo x y p q) o = two-read x y (second-octet x y [] o .0) q
 pairs-image (ofThree x y {s} {t} p more) o =
     let octets = second-octet x y s o in
-    let rest = pairs-image more (octets .1) in
-    three-read x y s t (octets .0) p (rest .0) (rest .1)
+    three-read x y s t (octets .0) p (pairs-image more (octets .1))
 
 -- octets are read as a text exactly when it is one of C40's characters, and they are its image
 pub reads-exactly : (s t : List ℕ) → areOctets s → (readC40 s ≡ characters t) ↔ ((every isC40 t ≡ true) × (imageOf t ≡ s))
-reads-exactly s t o = (λ e. pairs-image (read-pairs s t e) o, λ w. ap readC40 (sym (w .1)) ∙ image-read t (w .0))
+reads-exactly s t o = (
+  λ e. (read-c40 s t e, pairs-image (read-pairs s t e) o),
+  λ w. ap readC40 (sym (w .1)) ∙ image-read t (w .0),
+)
 
 -- and they are refused exactly when they are no such text's image
 pub refuses-exactly : (s : List ℕ) → areOctets s

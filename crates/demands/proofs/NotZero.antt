@@ -8,6 +8,7 @@ use native.Mathlib.Omega.{arith}
 use lib.ListN.{length}
 use Rattle.zone.specs.declared.form.Source.the-variants.{Alone}
 use Rattle.refusal.specs.Numbers.{Why, by}
+use Rattle.refusal.specs.Calls.{ofText, ofPresentation}
 use Rattle.refusal.specs.Length.{Length, written, refused}
 use Rattle.refusal.proofs.Outcomes.{refused-not-written}
 use Rattle.text.specs.Read.{readText}
@@ -33,14 +34,15 @@ NotZero l = (why : Why) (p : ℕ) → l ≡ refused why p → inC l .number ≡ 
 pub read-text-not-zero : (house : ℕ) (t out : List ℕ) → NotZero (readAnswer house (readText Alone t) out)
 unfolding readAnswer
 read-text-not-zero house t out why p denied zero =
-    zero-no-refusal house (readText Alone t .kept) out (readText Alone t .outcome) (text-numbered Alone t) (text-sound t) why p denied
-    (sym (number-in-c (readAnswer house (readText Alone t) out)) ∙ zero)
+    zero-no-refusal house (readText Alone t .kept) out ofText (refl, refl, refl) (readText Alone t .outcome) (text-numbered Alone t)
+    (text-sound t) why p denied (sym (number-in-c (readAnswer house (readText Alone t) out)) ∙ zero)
 
 pub read-presentation-not-zero : (house : ℕ) (w out : List ℕ) → NotZero (readAnswer house (readPresentation w) out)
 unfolding readAnswer
 read-presentation-not-zero house w out why p denied zero =
-    zero-no-refusal house (readPresentation w .kept) out (readPresentation w .outcome) (presentation-numbered w)
-    (presentation-sound w) why p denied (sym (number-in-c (readAnswer house (readPresentation w) out)) ∙ zero)
+    zero-no-refusal house (readPresentation w .kept) out ofPresentation (refl, refl, refl) (readPresentation w .outcome)
+    (presentation-numbered w) (presentation-sound w) why p denied
+    (sym (number-in-c (readAnswer house (readPresentation w) out)) ∙ zero)
 
 -- ---- the calls that write
 

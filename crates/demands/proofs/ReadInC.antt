@@ -6,6 +6,7 @@ use mathlib.Core.Path.{_≡_, refl}
 use mathlib.Core.Logic.{_↔_}
 use mathlib.Core.Bool.{true, false}
 use mathlib.Core.List.{List}
+use Rattle.refusal.specs.Calls.{ofText, ofPresentation}
 use Rattle.refusal.specs.Outcome.{passed}
 use Rattle.zone.specs.declared.form.Source.the-variants.{Alone}
 use Rattle.zone.specs.Form.{mayStand}
@@ -41,20 +42,22 @@ module _ (house : ℕ) (t out : List ℕ) where
   unfolding readAnswer
   read-text-exactly =
       rw (number-in-c (readAnswer house (readText Alone t) out))
-      (zero-allowed house (readText Alone t .kept) out (readText Alone t .outcome) (text-numbered Alone t) (text-sound t) _ (accepted-exactly Alone t))
+      (zero-allowed house (readText Alone t .kept) out ofText (refl, refl, refl) (readText Alone t .outcome) (text-numbered Alone t)
+      (text-sound t) _ (accepted-exactly Alone t))
 
   pub read-text-leaves : inText house t out .number ≡ 0
       → Leaves (entryOf house (readText Alone t .kept)) out (inText house t out .value) (readOut house (readText Alone t) out)
   unfolding readAnswer readOut
   read-text-leaves =
       rw (number-in-c (readAnswer house (readText Alone t) out), value-in-c (readAnswer house (readText Alone t) out))
-      (zero-leaves house (readText Alone t .kept) out (readText Alone t .outcome) (text-numbered Alone t) (text-sound t))
+      (zero-leaves house (readText Alone t .kept) out ofText (refl, refl, refl) (readText Alone t .outcome) (text-numbered Alone t) (text-sound t))
 
   pub read-text-house : (inText house t out .number ≡ 17) ↔ ((readText Alone t .outcome ≡ passed) × (isHouse house ≡ false))
   unfolding readAnswer
   read-text-house =
       rw (number-in-c (readAnswer house (readText Alone t) out))
-      (seventeen-exactly house (readText Alone t .kept) out (readText Alone t .outcome) (text-numbered Alone t) (text-sound t))
+      (seventeen-exactly house (readText Alone t .kept) out ofText (refl, refl, refl) (readText Alone t .outcome) (text-numbered Alone t)
+      (text-sound t))
 
 module _ (house : ℕ) (w out : List ℕ) where
   pub read-presentation-exactly : areOctets w
@@ -63,20 +66,22 @@ module _ (house : ℕ) (w out : List ℕ) where
   unfolding readAnswer
   read-presentation-exactly small =
       rw (number-in-c (readAnswer house (readPresentation w) out))
-      (zero-allowed house (readPresentation w .kept) out (readPresentation w .outcome) (presentation-numbered w)
-      (presentation-sound w) _ (presented-exactly w small))
+      (zero-allowed house (readPresentation w .kept) out ofPresentation (refl, refl, refl)
+      (readPresentation w .outcome) (presentation-numbered w) (presentation-sound w) _ (presented-exactly w small))
 
   pub read-presentation-leaves : inPresentation house w out .number ≡ 0
-      → Leaves (entryOf house (readPresentation w .kept)) out (inPresentation house w out .value) (readOut house (readPresentation w) out)
+      → Leaves (entryOf house (readPresentation w .kept)) out (inPresentation house w out .value)
+      (readOut house (readPresentation w) out)
   unfolding readAnswer readOut
   read-presentation-leaves =
       rw (number-in-c (readAnswer house (readPresentation w) out), value-in-c (readAnswer house (readPresentation w) out))
-      (zero-leaves house (readPresentation w .kept) out (readPresentation w .outcome) (presentation-numbered w)
-      (presentation-sound w))
+      (zero-leaves house (readPresentation w .kept) out ofPresentation (refl, refl, refl)
+      (readPresentation w .outcome) (presentation-numbered w) (presentation-sound w))
 
-  pub read-presentation-house : (inPresentation house w out .number ≡ 17) ↔ ((readPresentation w .outcome ≡ passed) × (isHouse house ≡ false))
+  pub read-presentation-house : (inPresentation house w out .number ≡ 17)
+      ↔ ((readPresentation w .outcome ≡ passed) × (isHouse house ≡ false))
   unfolding readAnswer
   read-presentation-house =
       rw (number-in-c (readAnswer house (readPresentation w) out))
-      (seventeen-exactly house (readPresentation w .kept) out (readPresentation w .outcome) (presentation-numbered w)
-      (presentation-sound w))
+      (seventeen-exactly house (readPresentation w .kept) out ofPresentation (refl, refl, refl)
+      (readPresentation w .outcome) (presentation-numbered w) (presentation-sound w))

@@ -90,6 +90,13 @@ module _ (e out : List ℕ) (small : areOctets e) where
           let end : drop n e ≡ [] = ap (λ (k : ℕ). drop k e) (eqb-true n (length e) q) ∙ drop-length e in
           (x .0, x .1, x .2 ∙ ap (λ (s : List ℕ). entry ++ s) end ∙ append-nil entry)
 
+  pub only-sound : isOnly (readEntry e 0 .onward) (length e) ≡ true → isSound (readEntry e 0 .kept) ≡ true
+  only-sound only =
+      let x = only-entry only in
+      let both = kept-both (x .0) (x .1) in
+      let same = alone (x .0 .house) (x .0 .kept) (both .0) (both .1) out in
+      ap (λ (s : List ℕ). isSound (readEntry s 0 .kept)) (x .2) ∙ ap (λ r. isSound (r .kept)) same ∙ both .1
+
   -- the number is 0 or 16 of exactly one entry, and else 18
   abbrev Told : Type 0
   Told = ((x : OneEntry) × (inC (writtenAnswer e out) .number ≡ roomTold (leb (total (x .0 .kept .form)) (length out))))

@@ -1,14 +1,14 @@
 -- REQUEST 2026-09: for every list of octets today's reader answers what it answers with the two tests put back: behind the tests
 -- before it each always passes.
 use Prim.Native.Nat.{ℕ}
-use mathlib.Core.Path.{_≡_, ap, sym, _∙_}
+use mathlib.Core.Path.{_≡_, ap, sym}
 use mathlib.Core.List.{List, []}
 use native.Mathlib.Omega.{arith}
 use borrow.Author.Tests.{le-leb}
 use lib.Dec.{leb}
 use lib.ListN.{length, take}
 use Rattle.refusal.specs.Outcome.{unless}
-use Rattle.refusal.proofs.Outcomes.{kept-unless, orElse-assoc, orElse-idle}
+use Rattle.refusal.proofs.Outcomes.{kept-unless, both-passed, orElse-idle}
 use Rattle.tlv.specs.declared.Stretch.{Stretch}
 use Rattle.tlv.specs.Read.{value, checked}
 use Rattle.tlv.specs.Element.{element}
@@ -29,11 +29,9 @@ tags-same : (s : List ℕ) (v : Stretch) (at : ℕ) → tested.tagsCheck s v at 
 unfolding tested.tagsCheck tagsCheck
 tags-same s v at =
     let tags = cut s v in
-    let known = knownFrom (v .from) tags in
-    let once = onceFrom (v .from) [] tags in
-    orElse-assoc known once _
-    ∙ orElse-idle known once _
-    (λ k o. kept-unless _ 11 at (le-leb (length tags) _ (omega (arith, fifteen-tags (v .from) (v .from) tags k o))))
+    orElse-idle (tagsCheck s v) _ (λ e.
+    let both = both-passed (knownFrom (v .from) tags) (onceFrom (v .from) [] tags) e in
+    kept-unless _ 11 at (le-leb (length tags) _ (omega (arith, fifteen-tags (v .from) (v .from) tags (both .0) (both .1)))))
 
 pub efcom-same : (w : List ℕ) (efcom : Stretch) → readEfCom w efcom ≡ tested.readEfCom w efcom
 unfolding readEfCom fromVersion fromUnicode fromTagList tested.readEfCom
@@ -46,11 +44,9 @@ entries-same : (s : List ℕ) (from at : ℕ) (es : List GroupHash) → entries 
     → tested.entriesCheck es at ≡ entriesCheck es at
 unfolding tested.entriesCheck entriesCheck
 entries-same s from at es read =
-    let once = numbersOnce [] es in
-    let least = unless (leb 2 (count es)) 12 at in
-    orElse-assoc once least _
-    ∙ orElse-idle once least _
-    (λ o m. kept-unless _ 12 at (le-leb (count es) _ (omega (arith, sixteen-read s from es read o))))
+    orElse-idle (entriesCheck es at) _ (λ e.
+    let once = both-passed (numbersOnce [] es) (unless (leb 2 (count es)) 12 at) e .0 in
+    kept-unless _ 12 at (le-leb (count es) _ (omega (arith, sixteen-read s from es read once))))
 
 pub object-same : (w : List ℕ) (o : Stretch) → readObject w o ≡ tested.readObject w o
 unfolding readObject object.fromVersion fromAlgorithm fromEntryList tested.readObject

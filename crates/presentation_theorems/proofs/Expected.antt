@@ -1,5 +1,6 @@
 -- DEMAND 2, the digit of a presentation's refusal 9 (document 02, 2026-07): every refusal 9 carries one, and it is the digit that
--- the presentation's text is refused with. And DEMAND 1: every refusal is by a reader's number, at a place no further than the end.
+-- the presentation's text is refused with. And DEMAND 1: every refusal is by one of a presentation's numbers, at a place no
+-- further than the end.
 use Prim.Native.Nat.{ℕ, _+_, _≤_}
 use mathlib.Core.Path.{_≡_, refl, ap, sym, _∙_}
 use mathlib.Core.Bool.{true}
@@ -9,9 +10,9 @@ use native.Mathlib.Nat.{le-refl, le-trans}
 use native.Mathlib.Omega.{arith}
 use lib.ListN.{length}
 use Rattle.refusal.specs.Numbers.{Why, by, expecting, numberOf}
-use Rattle.refusal.specs.Readers.{isPlain, isOfReader}
+use Rattle.refusal.specs.Calls.{ofText, ofPresentation, tells}
 use Rattle.refusal.specs.Outcome.{Outcome, passed, refused}
-use Rattle.refusal.proofs.Readers.{not-plain}
+use Rattle.refusal.proofs.Calls.{tells-within, plain-not-nine}
 use Rattle.refusal.proofs.Each.{Each}
 use Rattle.zone.specs.declared.form.Source.the-variants.{GroupOne}
 use Rattle.zone.specs.declared.record.Record.{Record}
@@ -30,7 +31,7 @@ use Rattle.presentation_theorems.proofs.ThroughText.{onwards, through-t
 
 -- what a refusal of a presentation tells
 abbrev Carries : List ℕ → Why → ℕ → Type 0
-Carries w (by n) q = (isPlain n ≡ true) × (q ≤ length w)
+Carries w (by n) q = (tells ofPresentation (by n) ≡ true) × (q ≤ length w)
 Carries w (expecting d) q = FromText w d q × (q ≤ length w)
 
 -- the text's own refusals stand where the text does
@@ -43,7 +44,7 @@ carries w v at n p e =
   where
     go : (n : Why) → readText GroupOne (cut w v) .outcome ≡ refused n p → v .from + p ≤ length w → Carries w n (v .from + p)
     go (expecting d) e h = (record { held = v; stands = at; own = p; text-refused = e; there = refl }, h)
-    go (by n) e h = (text-numbered GroupOne (cut w v) (by n) p e, h)
+    go (by n) e h = (tells-within ofText ofPresentation refl (by n) (text-numbered GroupOne (cut w v) (by n) p e), h)
 
 moved-each : (P : Why → ℕ → Type 0) (at : ℕ) (o : Outcome) (r : Record)
     → ((n : Why) (p : ℕ) → o ≡ refused n p → P n (at + p))
@@ -78,13 +79,13 @@ module _ (w : List ℕ) where
     λ t.
         outcome-through
         ∙ (ap (λ (m : Read Stretch). outcomeIn (andThen m (onwards w))) (t .stands)
-        ∙ (ap (λ (o : Outcome). outcomeIn (moved (t .held .from) (record { outcome = o; kept = readText GroupOne (cut w (t .held)) .kept })))
-        (t .text-refused)
+        ∙ (ap (λ (o : Outcome). outcomeIn (moved (t .held .from)
+        (record { outcome = o; kept = readText GroupOne (cut w (t .held)) .kept }))) (t .text-refused)
         ∙ ap (refused (expecting d)) (sym (t .there)))),
   )
 
-  -- every refusal is by one of the numbers by which what is read is refused
-  pub presentation-numbered : Each (λ n q. isOfReader n ≡ true) (readPresentation w .outcome)
+  -- every refusal has one of a presentation's numbers
+  pub presentation-numbered : Each (λ why q. tells ofPresentation why ≡ true) (readPresentation w .outcome)
   presentation-numbered (expecting d) q e = refl
   presentation-numbered (by n) q e = presentation-carries (by n) q e .0
 
@@ -97,4 +98,4 @@ module _ (w : List ℕ) where
   pub presentation-nine : (n : Why) (q : ℕ) → readPresentation w .outcome ≡ refused n q → numberOf n ≡ 9
       → (d : ℕ) × (n ≡ expecting d)
   presentation-nine (expecting d) q e h = (d, refl)
-  presentation-nine (by n) q e h = absurd (not-plain n 9 (presentation-numbered (by n) q e) refl h)
+  presentation-nine (by n) q e h = absurd (plain-not-nine ofPresentation n (presentation-numbered (by n) q e) h)

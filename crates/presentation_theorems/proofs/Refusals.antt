@@ -1,5 +1,5 @@
--- Every refusal that comes before the text has what a refusal by a plain number has whose place is no further than an end: the
--- stages one by one.
+-- Every refusal that comes before the text has what a refusal by one of a presentation's numbers has whose place is no further
+-- than an end: the stages one by one.
 use Prim.Native.Nat.{ℕ, zero, suc, _+_, _≤_}
 use mathlib.Core.Path.{_≡_, refl, subst}
 use mathlib.Core.Bool.{Bool, true, false, cond}
@@ -10,7 +10,7 @@ use lib.ListN.{length, take, getD}
 use Rattle.lent.specs.Octets.{stands}
 use Rattle.lent.proofs.Bools.{either-way}
 use Rattle.refusal.specs.Numbers.{Why, by}
-use Rattle.refusal.specs.Readers.{isPlain}
+use Rattle.refusal.specs.Calls.{ofPresentation, tells}
 use Rattle.refusal.specs.Outcome.{unless}
 use Rattle.refusal.proofs.Each.{Each, each-passed, each-refused, each-else, each-unless}
 use Rattle.tlv.specs.declared.Stretch.{Stretch}
@@ -75,7 +75,8 @@ module _ (last : ℕ) where
       let k = value-within w at tag v (kept-value (isGroup tag) (element w at tag) (by 10) at v e .1) in
       (omega (arith, k .0, k .1), omega (arith, k .1, k .2), omega (arith, k .2))
 
-  pub files-in : (k : ℕ) (w : List ℕ) → length w ≤ last → (at : ℕ) (fs : List File) → filesFrom k w at ≡ value fs → FilesIn last fs
+  pub files-in : (k : ℕ) (w : List ℕ) → length w ≤ last → (at : ℕ) (fs : List File) → filesFrom k w at ≡ value fs
+      → FilesIn last fs
   unfolding filesFrom FilesIn
   files-in zero w most at fs h = absurd (never-value _ at fs h)
   files-in (suc k) w most at fs h = go (leb (length w) at) h (files-in k w most)
@@ -116,7 +117,8 @@ module _ (last : ℕ) where
 
 -- ---- the refusals
 
-module _ (P : Why → ℕ → Type 0) (last : ℕ) (plain : (n q : ℕ) → isPlain n ≡ true → q ≤ last → P (by n) q) where
+module _ (P : Why → ℕ → Type 0) (last : ℕ)
+    (plain : (n q : ℕ) → tells ofPresentation (by n) ≡ true → q ≤ last → P (by n) q) where
   -- an element is refused at its tag, and ends no further
   at-element : (s : List ℕ) (at tag : ℕ) → at ≤ last → EachRead P (element s at tag)
   at-element s at tag h = each-element P s at tag (plain 10 at refl h)
@@ -127,7 +129,7 @@ module _ (P : Why → ℕ → Type 0) (last : ℕ) (plain : (n q : ℕ) → isPl
       let k = value-within s at tag v e in
       (omega (arith, k .1, k .2), omega (arith, k .1, k .2), omega (arith, k .2))
 
-  rule : (b : Bool) (n q : ℕ) → isPlain n ≡ true → q ≤ last → Each P (unless b n q)
+  rule : (b : Bool) (n q : ℕ) → tells ofPresentation (by n) ≡ true → q ≤ last → Each P (unless b n q)
   rule b n q h k = each-unless P b n q (plain n q h k)
 
   -- ---- stage 3

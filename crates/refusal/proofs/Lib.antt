@@ -6,5 +6,5 @@ pub mod Numbers
 pub mod Each
 -- what a call that writes answers and leaves (`write-answers`)
 pub mod Output
--- a number by which what is read is refused is no other's (`not-of-reader`)
-pub mod Readers
+-- the numbers of a call: one that tells more (`tells-within`), one that it does not tell (`never-told`)
+pub mod Calls

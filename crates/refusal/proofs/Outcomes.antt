@@ -15,11 +15,10 @@ pub orElse-passed : (a : Outcome) → orElse a passed ≡ a
 orElse-passed passed = refl
 orElse-passed (refused n p) = refl
 
--- a check that passes wherever the two before it do decides nothing
-pub orElse-idle : (a b c : Outcome) → (a ≡ passed → b ≡ passed → c ≡ passed) → orElse a (orElse b c) ≡ orElse a b
-orElse-idle passed passed c h = h refl refl
-orElse-idle passed (refused n p) c h = refl
-orElse-idle (refused n p) b c h = refl
+-- a check that passes wherever the one before it does decides nothing
+pub orElse-idle : (a b : Outcome) → (a ≡ passed → b ≡ passed) → orElse a b ≡ a
+orElse-idle passed b h = h refl
+orElse-idle (refused n p) b h = refl
 
 pub refused-not-passed : {why : Why} {p : ℕ} → refused why p ≡ passed → ⊥
 refused-not-passed {why} {p} e = let z : _≡_ {A = ℕ} 0 1 = cc in omega arith

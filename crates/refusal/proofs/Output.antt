@@ -1,5 +1,5 @@
--- What a call that writes answers and leaves: what every answer has (`write-each`), when it writes, and DEMAND 1 of every such call
--- (`write-answers`).
+-- What a call that writes answers and leaves: what every answer has (`write-each`), when it writes, and DEMAND 1 of every such
+-- call (`write-answers`).
 use Prim.Native.Nat.{ℕ, _≤_}
 use mathlib.Core.Path.{_≡_, refl, sym}
 use mathlib.Core.Bool.{Bool, true, false, cond}
@@ -9,11 +9,11 @@ use borrow.Author.Tests.{le-leb, leb-true}
 use lib.Dec.{leb}
 use lib.ListN.{length, drop, length-append, length-drop}
 use lib.Seq.{drop-append-seam}
-use Rattle.refusal.specs.Numbers.{Why, by, numberOf}
-use Rattle.refusal.specs.Readers.{isNumber}
+use Rattle.refusal.specs.Numbers.{Why, by}
+use Rattle.refusal.specs.Calls.{isOf}
 use Rattle.refusal.specs.Outcome.{Outcome, passed, refused}
 use Rattle.refusal.specs.Length as told
-use Rattle.refusal.specs.Output.{writeAnswer, writeOut, Answers}
+use Rattle.refusal.specs.Output.{writeAnswer, writeOut, Told, Answers}
 use Rattle.refusal.proofs.Outcomes.{refused-not-written}
 use Rattle.refusal.proofs.Each.{Each}
 
@@ -44,7 +44,8 @@ module _ (n : ℕ) (octets out : List ℕ) where
       go false q h = absurd (refused-not-written h)
 
   -- a refusal leaves every octet
-  pub refused-leaves : (o : Outcome) (why : Why) (p : ℕ) → writeAnswer o n out ≡ told.refused why p → writeOut o n octets out ≡ out
+  pub refused-leaves : (o : Outcome) (why : Why) (p : ℕ) → writeAnswer o n out ≡ told.refused why p
+      → writeOut o n octets out ≡ out
   refused-leaves (refused m q) why p e = refl
   refused-leaves passed why p e = go (leb n (length out)) e
     where
@@ -61,22 +62,22 @@ module _ (n : ℕ) (octets out : List ℕ) where
     rw (← long) (drop-append-seam octets (drop (length octets) out)),
   )
 
-  module _ (end : ℕ) where
+  -- of a call that tells 16
+  module _ (numbers : List ℕ) (sixteen : isOf numbers 16 ≡ true) (end : ℕ) where
     -- what the tests before tell, and 16
-    told-each : (o : Outcome) → Each (λ why p. (isNumber (numberOf why) ≡ true) × (p ≤ end)) o → (why : Why) (p : ℕ)
-        → writeAnswer o n out ≡ told.refused why p → (isNumber (numberOf why) ≡ true) × (p ≤ end)
+    told-each : (o : Outcome) → Each (Told numbers end) o → (why : Why) (p : ℕ)
+        → writeAnswer o n out ≡ told.refused why p → Told numbers end why p
     told-each (refused m q) each why p e = each why p (let a : m ≡ why = cc in let b : q ≡ p = cc in rw (a, b))
     told-each passed each why p e = go (leb n (length out)) e
       where
-        go : (b : Bool) → cond b (told.written n) (told.refused (by 16) 0) ≡ told.refused why p
-            → (isNumber (numberOf why) ≡ true) × (p ≤ end)
+        go : (b : Bool) → cond b (told.written n) (told.refused (by 16) 0) ≡ told.refused why p → Told numbers end why p
         go true h = absurd (refused-not-written (sym h))
-        go false h = let a : by 16 ≡ why = cc in let b : 0 ≡ p = cc in rw (← a, ← b) (refl, omega arith)
+        go false h = let a : by 16 ≡ why = cc in let b : 0 ≡ p = cc in rw (← a, ← b) (sixteen, omega arith)
 
-    pub write-answers : (o : Outcome) → Each (λ why p. (isNumber (numberOf why) ≡ true) × (p ≤ end)) o → (o ≡ passed → length octets ≡ n)
-        → Answers end out (writeAnswer o n out) (writeOut o n octets out)
+    pub write-answers : (o : Outcome) → Each (Told numbers end) o → (o ≡ passed → length octets ≡ n)
+        → Answers numbers end out (writeAnswer o n out) (writeOut o n octets out)
     write-answers o each long = record {
-      when-refused = λ why p e. let t = told-each o each why p e in (t .0, t .1, refused-leaves o why p e);
+      when-refused = λ why p e. (told-each o each why p e, refused-leaves o why p e);
       when-written = λ k e.
           let w = writes-only o k e in
           let stay = others-stay (w .1) (long (w .0)) in

@@ -3,4 +3,5 @@ pub mod Numbers
 -- what a call that writes answers and leaves
 pub mod Output
 pub mod Outcome
-pub mod Readers
+-- the numbers of each call
+pub mod Calls

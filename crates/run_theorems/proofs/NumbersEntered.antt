@@ -1,5 +1,5 @@
--- The number that is told where what was read is entered, of a reader whose refusals are by a reader's numbers and whose accepted
--- records are sound: 0, 17 and 16 are each told in one case alone, and 0 with the entry in the range.
+-- The number that is told where what was read is entered, of a reader that tells neither 0, 16 nor 17 and whose accepted records
+-- are sound: these are then each told in one case alone, and 0 with the entry in the range.
 use Prim.Native.Nat.{ℕ, _≤_, _<_}
 use mathlib.Core.Path.{_≡_, refl, ap, sym, _∙_}
 use mathlib.Core.Logic.{_↔_}
@@ -10,12 +10,12 @@ use borrow.Author.Tests.{le-leb, leb-true, leb-false, lt-leb}
 use lib.Dec.{leb}
 use lib.ListN.{length, drop}
 use Rattle.refusal.specs.Numbers.{Why, by}
-use Rattle.refusal.specs.Readers.{isPlain, isOfReader}
+use Rattle.refusal.specs.Calls.{isOf, tells}
 use Rattle.refusal.specs.Outcome.{Outcome, passed, refused, unless}
 use Rattle.refusal.specs.Output.{writeAnswer}
 use Rattle.refusal.specs.Length as told
 use Rattle.refusal.proofs.Outcomes.{refused-not-written}
-use Rattle.refusal.proofs.Readers.{not-of-reader}
+use Rattle.refusal.proofs.Calls.{never-told}
 use Rattle.refusal.proofs.Each.{Each}
 use Rattle.zone.specs.declared.record.Record.{Record}
 use Rattle.sound.specs.Sound.{isSound}
@@ -46,6 +46,10 @@ seventeen-told true true e = absurd (omega (arith, e))
 seventeen-told true false e = absurd (omega (arith, e))
 seventeen-told false b e = refl
 
+-- what the reader does not tell
+abbrev Apart : List ℕ → Type 0
+Apart numbers = (isOf numbers 0 ≡ false) × (isOf numbers 16 ≡ false) × (isOf numbers 17 ≡ false)
+
 module _ (house : ℕ) (r : Record) (out : List ℕ) where
   -- the octets of the entry
   abbrev octets : ℕ
@@ -55,11 +59,11 @@ module _ (house : ℕ) (r : Record) (out : List ℕ) where
   answer o = enteredAnswer o house r out
 
   -- a number that is no reader's is told of what passed
-  of-passed : (o : Outcome) → Each (λ n p. isOfReader n ≡ true) o → (k : ℕ) → isPlain k ≡ false → (k ≡ 9 → ⊥)
+  of-passed : (numbers : List ℕ) (o : Outcome) → Each (λ why p. tells numbers why ≡ true) o → (k : ℕ) → isOf numbers k ≡ false
       → numberTold (answer o) ≡ k → o ≡ passed
   unfolding enteredAnswer
-  of-passed passed numbered k other nine e = refl
-  of-passed (refused why p) numbered k other nine e = absurd (not-of-reader why k (numbered why p refl) other nine e)
+  of-passed numbers passed numbered k other e = refl
+  of-passed numbers (refused why p) numbered k other e = absurd (never-told numbers why k (numbered why p refl) other e)
 
   passed-number : (o : Outcome) → o ≡ passed → isSound r ≡ true
       → numberTold (answer o) ≡ numberInTurn (isHouse house) (leb octets (length out))
@@ -74,18 +78,19 @@ module _ (house : ℕ) (r : Record) (out : List ℕ) where
       go true = room (leb octets (length out))
       go false = refl
 
-  module _ (o : Outcome) (numbered : Each (λ n p. isOfReader n ≡ true) o) (sound : o ≡ passed → isSound r ≡ true) where
-    told-in-turn : (k : ℕ) → isPlain k ≡ false → (k ≡ 9 → ⊥) → numberTold (answer o) ≡ k
+  module _ (numbers : List ℕ) (apart : Apart numbers) (o : Outcome) (numbered : Each (λ why p. tells numbers why ≡ true) o)
+      (sound : o ≡ passed → isSound r ≡ true) where
+    told-in-turn : (k : ℕ) → isOf numbers k ≡ false → numberTold (answer o) ≡ k
         → (o ≡ passed) × (numberInTurn (isHouse house) (leb octets (length out)) ≡ k)
-    told-in-turn k other nine e =
-        let read = of-passed o numbered k other nine e in
+    told-in-turn k other e =
+        let read = of-passed numbers o numbered k other e in
         (read, sym (passed-number o read (sound read)) ∙ e)
 
     -- 0: it passed, the house is one and the range has room
     zero-exactly : (numberTold (answer o) ≡ 0) ↔ ((o ≡ passed) × (isHouse house ≡ true) × (octets ≤ length out))
     zero-exactly = (
       λ e.
-          let t = told-in-turn 0 refl (λ q. omega (arith, q)) e in
+          let t = told-in-turn 0 (apart .0) e in
           let k = zero-told (isHouse house) (leb octets (length out)) (t .1) in
           (t .0, k .0, leb-true octets (length out) (k .1)),
       λ h. passed-number o (h .0) (sound (h .0)) ∙ rw (h .1, le-leb octets (length out) (h .2)),
@@ -102,7 +107,7 @@ module _ (house : ℕ) (r : Record) (out : List ℕ) where
     pub seventeen-exactly : (numberTold (answer o) ≡ 17) ↔ ((o ≡ passed) × (isHouse house ≡ false))
     seventeen-exactly = (
       λ e.
-          let t = told-in-turn 17 refl (λ q. omega (arith, q)) e in
+          let t = told-in-turn 17 (apart .2) e in
           (t .0, seventeen-told (isHouse house) (leb octets (length out)) (t .1)),
       λ h. passed-number o (h .0) (sound (h .0)) ∙ rw (h .1),
     )
@@ -111,7 +116,7 @@ module _ (house : ℕ) (r : Record) (out : List ℕ) where
     pub sixteen-exactly : (numberTold (answer o) ≡ 16) ↔ ((o ≡ passed) × (isHouse house ≡ true) × (length out < octets))
     sixteen-exactly = (
       λ e.
-          let t = told-in-turn 16 refl (λ q. omega (arith, q)) e in
+          let t = told-in-turn 16 (apart .1) e in
           let k = sixteen-told (isHouse house) (leb octets (length out)) (t .1) in
           (t .0, k .0, leb-false octets (length out) (k .1)),
       λ h. passed-number o (h .0) (sound (h .0)) ∙ rw (h .1, lt-leb octets (length out) (h .2)),

@@ -28,6 +28,8 @@ pub mod Acceptance
 pub mod SealRecord
 -- no second answer (`only-seal`), and what every refusal gives (`seal-blank`)
 pub mod OneAnswer
+-- a seal's text has a text's characters, so that it is never refused by 2 (`filled-numbered`)
+pub mod TextCharacters
 -- a text that begins with V is 3 (`text-leading-v`, `seal-leading-v`)
 pub mod LeadingV
 -- the answer is the first failing check (`seal-refused-exactly`)

@@ -9,7 +9,8 @@ use mathlib.Core.List.{List}
 use lib.ListN.{length, take}
 use Rattle.refusal.specs.Numbers.{Why}
 use Rattle.refusal.specs.Outcome.{passed}
-use Rattle.refusal.proofs.Readers.{of-tables}
+use Rattle.refusal.specs.Calls.{ofSeal, entered}
+use Rattle.refusal.proofs.Calls.{told-of}
 use Rattle.refusal.specs.Length.{Length, written, refused}
 use Rattle.zone.specs.Octets.{areOctets}
 use Rattle.tlv.specs.declared.Stretch.{Stretch}
@@ -62,39 +63,40 @@ module _ (house : ℕ) (s out : List ℕ) where
       → (inSeal .number ≡ 0) ↔ Allowed ((p : Contents) × Sealed p × (octetsOf p ≡ s)) house (readSeal s .kept) out
   read-seal-exactly small =
       rw same-number
-      (zero-allowed house (readSeal s .kept) out (readSeal s .outcome) (seal-numbered s) (seal-sound s) _
-      (sealed-exactly s small))
+      (zero-allowed house (readSeal s .kept) out ofSeal (refl, refl, refl) (readSeal s .outcome) (seal-numbered s)
+      (seal-sound s) _ (sealed-exactly s small))
 
   pub read-seal-leaves : inSeal .number ≡ 0
       → Leaves (entryOf house (readSeal s .kept)) out (inSeal .value) (readSealOut house s out)
   unfolding readSealOut
   read-seal-leaves =
       rw (same-number, same-value)
-      (zero-leaves house (readSeal s .kept) out (readSeal s .outcome) (seal-numbered s) (seal-sound s))
+      (zero-leaves house (readSeal s .kept) out ofSeal (refl, refl, refl) (readSeal s .outcome) (seal-numbered s) (seal-sound s))
 
   pub read-seal-house : (inSeal .number ≡ 17) ↔ ((readSeal s .outcome ≡ passed) × (isHouse house ≡ false))
   read-seal-house =
       rw same-number
-      (seventeen-exactly house (readSeal s .kept) out (readSeal s .outcome) (seal-numbered s) (seal-sound s))
+      (seventeen-exactly house (readSeal s .kept) out ofSeal (refl, refl, refl) (readSeal s .outcome) (seal-numbered s)
+      (seal-sound s))
 
   pub read-seal-not-zero : (why : Why) (p : ℕ) → answer ≡ refused why p → inSeal .number ≡ 0 → ⊥
   read-seal-not-zero why p denied zero =
-      zero-no-refusal house (readSeal s .kept) out (readSeal s .outcome) (seal-numbered s) (seal-sound s) why p denied
-      (sym same-number ∙ zero)
+      zero-no-refusal house (readSeal s .kept) out ofSeal (refl, refl, refl) (readSeal s .outcome) (seal-numbered s)
+      (seal-sound s) why p denied (sym same-number ∙ zero)
 
-  -- DEMAND 1: a refusal has a number of the papers' tables and a place no further than the end, and leaves every octet; a success
-  -- changes the octets that it reports and no others
-  pub read-seal-answers : AnswersInC (length s) out (inSeal .number) (inSeal .value) (readSealOut house s out)
+  -- DEMAND 1: a refusal has one of a seal's numbers, 16 or 17, and a place no further than the end, and leaves every octet; a
+  -- success changes the octets that it reports and no others
+  pub read-seal-answers : AnswersInC (entered ofSeal) (length s) out (inSeal .number) (inSeal .value) (readSealOut house s out)
   unfolding readSealOut
   read-seal-answers =
       rw (same-number, same-value)
-      (answers-in-c (length s) out answer _
-      (entered-answers (length s) house (readSeal s .kept) out (readSeal s .outcome)
-      (λ why p e. (of-tables why (seal-numbered s why p e), seal-within s why p e))))
+      (answers-in-c (entered ofSeal) refl (length s) out answer _
+      (entered-answers (length s) house (readSeal s .kept) out ofSeal (readSeal s .outcome)
+      (λ why p e. (told-of ofSeal why (seal-numbered s why p e), seal-within s why p e))))
 
   seal-enters : inSeal .number ≡ 0 → Enters (readSeal s .outcome) house (readSeal s .kept) out
-  seal-enters zero = zero-enters house (readSeal s .kept) out (readSeal s .outcome) (seal-numbered s) (seal-sound s)
-      (sym same-number ∙ zero)
+  seal-enters zero = zero-enters house (readSeal s .kept) out ofSeal (refl, refl, refl) (readSeal s .outcome)
+      (seal-numbered s) (seal-sound s) (sym same-number ∙ zero)
 
 -- SEPARATION: what two calls that answer 0 leave in their ranges shares its first thirty octets exactly when all of these agree
 module _ (h k : ℕ) (s u out to : List ℕ) (zero : readSealInC h s out .number ≡ 0) (also : readSealInC k u to .number ≡ 0) where

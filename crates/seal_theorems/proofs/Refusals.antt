@@ -1,5 +1,6 @@
--- Every refusal that comes before the text has what a refusal by a plain number has whose place is no further than the seal's end:
--- the stages one by one. A header field that passes its check stands there, so that the next one's place is within the seal.
+-- Every refusal that comes before the text has what a refusal by one of a seal's numbers has whose place is no further than the
+-- seal's end: the stages one by one. A header field that passes its check stands there, so that the next one's place is within
+-- the seal.
 use Prim.Native.Nat.{ℕ, zero, suc, _+_, _≤_, _<_}
 use mathlib.Core.Path.{_≡_, refl, subst}
 use mathlib.Core.Logic.{_⊎_, inl, inr}
@@ -11,7 +12,7 @@ use lib.Dec.{eqb, leb}
 use lib.ListN.{length, take, drop, getD, length-take, length-drop, List·getD-eq-default}
 use Rattle.lent.proofs.Bools.{either-way}
 use Rattle.refusal.specs.Numbers.{Why, by}
-use Rattle.refusal.specs.Readers.{isPlain}
+use Rattle.refusal.specs.Calls.{ofSeal, tells}
 use Rattle.refusal.specs.Outcome.{Outcome, passed, refused, orElse, unless}
 use Rattle.refusal.proofs.Outcomes.{both-passed, unless-kept}
 use Rattle.refusal.proofs.Each.{Each, each-passed, each-refused, each-after, each-unless}
@@ -81,7 +82,7 @@ module _ (s : List ℕ) where
 
   -- ---- the refusals
 
-  module _ (P : Why → ℕ → Type 0) (plain : (n q : ℕ) → isPlain n ≡ true → q ≤ length s → P (by n) q) where
+  module _ (P : Why → ℕ → Type 0) (plain : (n q : ℕ) → tells ofSeal (by n) ≡ true → q ≤ length s → P (by n) q) where
     rule : (b : Bool) (q : ℕ) → q ≤ length s → Each P (unless b 24 q)
     rule b q h = each-unless P b 24 q (plain 24 q refl h)
 
@@ -156,7 +157,8 @@ module _ (s : List ℕ) where
     pub signature-each : (at : ℕ) → at ≤ length s → EachRead P (signatureAt s at)
     unfolding signatureAt
     signature-each at h =
-        each-then P (numbered (by 27) (element s at signatureTag)) _ (numbered-each 27 at signatureTag (plain 27 at refl h)) (λ v e.
+        each-then P (numbered (by 27) (element s at signatureTag)) _
+        (numbered-each 27 at signatureTag (plain 27 at refl h)) (λ v e.
         each-checked P (unless (eqb (v .to) (length s)) 27 at) _
         (each-unless P (eqb (v .to) (length s)) 27 at (plain 27 at refl h)) (each-value P v))
 

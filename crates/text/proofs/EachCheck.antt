@@ -6,7 +6,7 @@ use mathlib.Core.List.{List}
 use lib.Dec.{eqb}
 use lib.ListN.{length, getD}
 use Rattle.refusal.specs.Numbers.{Why, by}
-use Rattle.refusal.specs.Readers.{isPlain}
+use Rattle.refusal.specs.Calls.{ofFields, tells}
 use Rattle.refusal.specs.Outcome.{Outcome, passed, refused}
 use Rattle.refusal.proofs.Each.{Each, each-passed, each-else, each-unless}
 use Rattle.zone.specs.declared.form.Form.{Form}
@@ -30,8 +30,12 @@ unfolding answered
 answered-outcome passed r = refl
 answered-outcome (refused n p) r = refl
 
+pub each-foreign : (P : Why → ℕ → Type 0) (t : List ℕ) → P (by 2) (firstForeign t) → Each P (characters t)
+unfolding characters
+each-foreign P t h = each-unless P (eqb (firstForeign t) (length t)) 2 (firstForeign t) h
+
 module _ (P : Why → ℕ → Type 0) (f : Form) (t : List ℕ) (span : Span)
-    (plain : (n : ℕ) (x : Part) → isPlain n ≡ true → P (by n) (start f x)) where
+    (plain : (n : ℕ) (x : Part) → tells ofFields (by n) ≡ true → P (by n) (start f x)) where
   -- a field is refused by its number at its start
   each-field : (x : Part) → Each P (fieldCheck f t span x)
   unfolding fieldRows
@@ -61,10 +65,10 @@ module _ (P : Why → ℕ → Type 0) (f : Form) (t : List ℕ) (span : Span)
     ),
   )
 
-  pub each-verdict : P (by 2) (firstForeign t) → EachDigit P f t span → Each P (verdictBy f t span)
-  unfolding verdictBy characters
+  pub each-verdict : Each P (characters t) → EachDigit P f t span → Each P (verdictBy f t span)
+  unfolding verdictBy
   each-verdict foreign digits =
-      each-else P (characters t) _ (each-unless P (eqb (firstForeign t) (length t)) 2 (firstForeign t) foreign)
+      each-else P (characters t) _ foreign
       (each-else P (inOrder (fieldCheck f t span) (parts f)) _ (each-order P _ each-field (parts f))
       (each-order P _ (each-digit P f t span digits) (parts f)))
 

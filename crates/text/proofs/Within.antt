@@ -28,7 +28,7 @@ use Rattle.text_digits.proofs.EachDigit.{EachDigit}
 use Rattle.text_digits.proofs.Numbers.{span-within}
 use Rattle.text.specs.Order.{verdictBy}
 use Rattle.text.specs.Read.{readText, readBy, recordBy}
-use Rattle.text.proofs.EachCheck.{each-verdict, each-answered}
+use Rattle.text.proofs.EachCheck.{each-foreign, each-verdict, each-answered}
 
 -- a place that is no further than the end
 abbrev In : List ℕ → Why → ℕ → Type 0
@@ -66,7 +66,7 @@ module _ (f : Form) (t : List ℕ) (long : length t ≡ total f) where
 
   verdict-in : Each (In t) (verdictBy f t (spanOf f t))
   unfolding firstForeign
-  verdict-in = each-verdict (In t) f t (spanOf f t) (λ n x h. start-in x) (first-le isForeign t) digits-in
+  verdict-in = each-verdict (In t) f t (spanOf f t) (λ n x h. start-in x) (each-foreign (In t) t (first-le isForeign t)) digits-in
 
 pub text-within : (source : Source) (t : List ℕ) → Each (λ n p. p ≤ length t) (readText source t .outcome)
 unfolding readText readBy

@@ -1,15 +1,20 @@
 -- What every refusal of the check digits has: what that of each of them has.
-use Prim.Native.Nat.{ℕ}
+use Prim.Native.Nat.{ℕ, _+_}
 use mathlib.Core.List.{List, [], _∷_}
+use lib.Dec.{eqb}
+use lib.ListN.{getD}
 use Rattle.lent.proofs.Bools.{either-way}
-use Rattle.refusal.specs.Numbers.{Why}
+use Rattle.refusal.specs.Numbers.{Why, expecting}
 use Rattle.refusal.specs.Outcome.{Outcome, passed}
-use Rattle.refusal.proofs.Each.{Each, each-passed, each-else}
+use Rattle.refusal.proofs.Each.{Each, each-passed, each-else, each-rule}
 use Rattle.zone.specs.declared.form.Form.{Form}
 use Rattle.zone.specs.Part.{Part, birth, birthCheck, expiry, expiryCheck, composite, personal, personalCheck}
 use Rattle.zone.proofs.Parts.{in-rows}
 use Rattle.zone.specs.Form.{start, field, covered}
+use Rattle.digit.specs.Check.{checkOf, digitOf}
 use Rattle.text_digits.specs.declared.number.Span.{Span}
+use Rattle.text_digits.specs.declared.number.Span.the-variants.{Short, Long, Bad}
+use Rattle.text_digits.specs.Number.{checkedBy}
 use Rattle.text_digits.specs.Digits.{digitAt, numberDigit, furtherDigit, isLeftOut, personalDigit, digitRows, digitCheck}
 use Rattle.text_digits.specs.Digits.{inOrder}
 
@@ -49,3 +54,23 @@ module _ (P : Why → ℕ → Type 0) where
   unfolding inOrder
   each-order check each [] = each-passed P
   each-order check each (x ∷ xs) = each-else P (check x) (inOrder check xs) (each x) (each-order check each xs)
+
+  -- what every refusal with a digit has, each of them has
+  pub each-expecting : ((d p : ℕ) → P (expecting d) p) → (f : Form) (t : List ℕ) (span : Span) → EachDigit P f t span
+  unfolding digitAt numberDigit furtherDigit
+  each-expecting h f t span = record {
+    of-number = number span .0;
+    of-further = number span .1;
+    of-birth = one (start f birthCheck) (field f birth t);
+    of-expiry = one (start f expiryCheck) (field f expiry t);
+    of-personal = one (start f personalCheck) (field f personal t);
+    of-all = one (start f composite) (covered f t);
+  }
+    where
+      one : (p : ℕ) (covers : List ℕ) → Each P (digitAt t p covers)
+      one p covers = each-rule P (eqb (getD t p 0) (digitOf covers)) (expecting (checkOf covers)) p (h (checkOf covers) p)
+
+      number : (span : Span) → Each P (numberDigit f t span) × Each P (furtherDigit f t span)
+      number Short = (one (start f numberCheck) (checkedBy f t Short), each-passed P)
+      number (Long n) = (each-passed P, one (start f optional + n) (checkedBy f t (Long n)))
+      number Bad = (each-passed P, each-passed P)

@@ -12,9 +12,9 @@ use borrow.Author.Tests.{ne-eqb, eqb-false, ltb-true}
 use lib.Dec.{eqb, lit<}
 use lib.ListN.{length, getD}
 use Rattle.refusal.specs.Numbers.{Why, by, expecting, numberOf}
-use Rattle.refusal.specs.Readers.{isPlain, isOfReader}
+use Rattle.refusal.specs.Calls.{ofFields, ofText, tells}
 use Rattle.refusal.specs.Outcome.{refused, refusedUnless}
-use Rattle.refusal.proofs.Readers.{not-plain}
+use Rattle.refusal.proofs.Calls.{tells-within, plain-not-nine}
 use Rattle.refusal.proofs.Each.{Each, each-passed, each-refused}
 use Rattle.zone.specs.declared.form.Form.{Form}
 use Rattle.zone.specs.declared.form.Source.{Source}
@@ -40,12 +40,12 @@ use Rattle.text.specs.Read.{readText, readBy, recordBy}
 use Rattle.text_digits.proofs.Numbers.{span-within}
 use Rattle.text_theorems.specs.Ordered.{checksOf, FirstFailing}
 use Rattle.text_theorems.specs.Expected.{coveredAt, Expected}
-use Rattle.text.proofs.EachCheck.{answered-outcome, each-verdict}
+use Rattle.text.proofs.EachCheck.{answered-outcome, each-foreign, each-verdict}
 use Rattle.text_theorems.proofs.FirstFailing.{refused-exactly}
 
 -- what a refusal of a text tells: 9 is told with the digit that was expected, and with that alone
 abbrev pub Tells : Form → List ℕ → Why → ℕ → Type 0
-Tells f t (by n) p = isPlain n ≡ true
+Tells f t (by n) p = tells ofText (by n) ≡ true
 Tells f t (expecting d) p = Expected f t d p
 
 -- ---- what each check place runs over
@@ -119,7 +119,8 @@ tells-number f t Bad e = (each-passed (Tells f t), each-passed (Tells f t))
 tells-verdict : (f : Form) (t : List ℕ) → Each (Tells f t) (verdictBy f t (spanOf f t))
 tells-verdict f t =
     let numbers = tells-number f t (spanOf f t) refl in
-    each-verdict (Tells f t) f t (spanOf f t) (λ n x h. h) refl
+    each-verdict (Tells f t) f t (spanOf f t) (λ n x h. tells-within ofFields ofText refl (by n) h)
+    (each-foreign (Tells f t) t refl)
     (record {
       of-number = numbers .0;
       of-further = numbers .1;
@@ -146,19 +147,20 @@ text-tells source t n p e = go (formOf source t) refl e
       tells-verdict f t n p (sym (answered-outcome (verdictBy f t (spanOf f t)) (recordBy f t (spanOf f t))) ∙ r),
     )
 
--- so it is one of the numbers by which what is read is refused
-pub text-numbered : (source : Source) (t : List ℕ) → Each (λ n p. isOfReader n ≡ true) (readText source t .outcome)
+-- so it has one of a text's numbers
+pub text-numbered : (source : Source) (t : List ℕ) → Each (λ why p. tells ofText why ≡ true) (readText source t .outcome)
 text-numbered source t (expecting d) p e = refl
 text-numbered source t (by n) p e = go (text-tells source t (by n) p e)
   where
-    go : (by n ≡ by 1) ⊎ ((f : Form) × (formOf source t ≡ As f) × (isPlain n ≡ true)) → isPlain n ≡ true
-    go (inl q) = let z : n ≡ 1 = cc in ap isPlain z
+    go : (by n ≡ by 1) ⊎ ((f : Form) × (formOf source t ≡ As f) × (tells ofText (by n) ≡ true)) → tells ofText (by n) ≡ true
+    go (inl q) = ap (tells ofText) q
     go (inr q) = q .2
 
 -- a refusal 9 carries a digit
-pub nine-tells : (source : Source) (t : List ℕ) (n : Why) (p : ℕ) → readText source t .outcome ≡ refused n p → numberOf n ≡ 9 → (d : ℕ) × (n ≡ expecting d)
+pub nine-tells : (source : Source) (t : List ℕ) (n : Why) (p : ℕ) → readText source t .outcome ≡ refused n p
+    → numberOf n ≡ 9 → (d : ℕ) × (n ≡ expecting d)
 nine-tells source t (expecting d) p e h = (d, refl)
-nine-tells source t (by n) p e h = absurd (not-plain n 9 (text-numbered source t (by n) p e) refl h)
+nine-tells source t (by n) p e h = absurd (plain-not-nine ofText n (text-numbered source t (by n) p e) h)
 
 -- and the digit is the one expected at its place
 pub digit-told : (source : Source) (t : List ℕ) (d p : ℕ) → readText source t .outcome ≡ refused (expecting d) p
