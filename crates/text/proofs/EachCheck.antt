@@ -13,7 +13,7 @@ use Rattle.zone.specs.declared.form.Form.{Form}
 use Rattle.zone.specs.declared.record.Record.{Record}
 use Rattle.zone.specs.Alphabet.{firstForeign}
 use Rattle.zone.specs.Part.{Part, code, state, number, birth, sex, expiry, nationality, name}
-use Rattle.zone.proofs.Parts.{in-rows}
+use Rattle.zone.proofs.Parts.{in-rows, _and_, all-said}
 use Rattle.zone.specs.Form.{parts, start, field}
 use Rattle.field.specs.Code.{codeRule}
 use Rattle.field.specs.Letters.{stateRule, sexRule, nameRule}
@@ -39,31 +39,15 @@ module _ (P : Why → ℕ → Type 0) (f : Form) (t : List ℕ) (span : Span)
   -- a field is refused by its number at its start
   each-field : (x : Part) → Each P (fieldCheck f t span x)
   unfolding fieldRows
-  each-field = in-rows (λ x o. Each P o) passed (fieldRows f t span) (λ x. each-passed P) (
-    each-unless P (codeRule f (field f code t)) 3 (start f code) (plain 3 code refl),
-    (
-      each-unless P (stateRule (field f state t)) 4 (start f state) (plain 4 state refl),
-      (
-        each-unless P (stateRule (field f nationality t)) 4 (start f nationality) (plain 4 nationality refl),
-        (
-          each-unless P (numberRule f t span) 5 (start f number) (plain 5 number refl),
-          (
-            each-unless P (birthRule (field f birth t)) 6 (start f birth) (plain 6 birth refl),
-            (
-              each-unless P (expiryRule (field f expiry t)) 6 (start f expiry) (plain 6 expiry refl),
-              (
-                each-unless P (sexRule (getD t (start f sex) 0)) 7 (start f sex) (plain 7 sex refl),
-                (
-                  each-unless P (nameRule (field f name t)) 8 (start f name) (plain 8 name refl),
-                  tt,
-                ),
-              ),
-            ),
-          ),
-        ),
-      ),
-    ),
-  )
+  each-field = in-rows (λ x o. Each P o) passed (fieldRows f t span) (λ x. each-passed P) (each-unless P (codeRule f (field f code t)) 3 (start f code) (plain 3 code refl)
+      and each-unless P (stateRule (field f state t)) 4 (start f state) (plain 4 state refl)
+      and each-unless P (stateRule (field f nationality t)) 4 (start f nationality) (plain 4 nationality refl)
+      and each-unless P (numberRule f t span) 5 (start f number) (plain 5 number refl)
+      and each-unless P (birthRule (field f birth t)) 6 (start f birth) (plain 6 birth refl)
+      and each-unless P (expiryRule (field f expiry t)) 6 (start f expiry) (plain 6 expiry refl)
+      and each-unless P (sexRule (getD t (start f sex) 0)) 7 (start f sex) (plain 7 sex refl)
+      and each-unless P (nameRule (field f name t)) 8 (start f name) (plain 8 name refl)
+      and all-said)
 
   pub each-verdict : Each P (characters t) → EachDigit P f t span → Each P (verdictBy f t span)
   unfolding verdictBy

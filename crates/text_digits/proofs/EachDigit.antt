@@ -8,8 +8,9 @@ use Rattle.refusal.specs.Numbers.{Why, expecting}
 use Rattle.refusal.specs.Outcome.{Outcome, passed}
 use Rattle.refusal.proofs.Each.{Each, each-passed, each-else, each-rule}
 use Rattle.zone.specs.declared.form.Form.{Form}
-use Rattle.zone.specs.Part.{Part, birth, birthCheck, expiry, expiryCheck, composite, personal, personalCheck}
-use Rattle.zone.proofs.Parts.{in-rows}
+use Rattle.zone.specs.Part.{Part, numberCheck, optional, birth, birthCheck, expiry, expiryCheck, composite, personal}
+use Rattle.zone.specs.Part.{personalCheck}
+use Rattle.zone.proofs.Parts.{in-rows, _and_, all-said}
 use Rattle.zone.specs.Form.{start, field, covered}
 use Rattle.digit.specs.Check.{checkOf, digitOf}
 use Rattle.text_digits.specs.declared.number.Span.{Span}
@@ -30,25 +31,13 @@ pub record EachDigit (P : Why → ℕ → Type 0) (f : Form) (t : List ℕ) (spa
 module _ (P : Why → ℕ → Type 0) where
   pub each-digit : (f : Form) (t : List ℕ) (span : Span) → EachDigit P f t span → (x : Part) → Each P (digitCheck f t span x)
   unfolding digitRows personalDigit
-  each-digit f t span h = in-rows (λ x o. Each P o) passed (digitRows f t span) (λ x. each-passed P) (
-    h .of-number,
-    (
-      h .of-further,
-      (
-        h .of-birth,
-        (
-          h .of-expiry,
-          (
-            either-way (Each P) (isLeftOut f t) passed _ (each-passed P) (h .of-personal),
-            (
-              h .of-all,
-              tt,
-            ),
-          ),
-        ),
-      ),
-    ),
-  )
+  each-digit f t span h = in-rows (λ x o. Each P o) passed (digitRows f t span) (λ x. each-passed P) (h .of-number
+      and h .of-further
+      and h .of-birth
+      and h .of-expiry
+      and either-way (Each P) (isLeftOut f t) passed _ (each-passed P) (h .of-personal)
+      and h .of-all
+      and all-said)
 
   pub each-order : (check : Part → Outcome) → ((x : Part) → Each P (check x)) → (xs : List Part) → Each P (inOrder check xs)
   unfolding inOrder

@@ -19,7 +19,7 @@ use Rattle.zone.proofs.First.{first-none, none-first}
 use Rattle.zone.specs.Part.{Part, code, state, number, numberCheck, optional, birth, birthCheck, sex, expiry, expiryCheck}
 use Rattle.zone.specs.Part.{nationality, composite, name, personal, personalCheck, same, rank}
 use Rattle.zone.specs.Rows.{inRows}
-use Rattle.zone.proofs.Parts.{in-rows}
+use Rattle.zone.proofs.Parts.{in-rows, _and_, all-said}
 use Rattle.zone.specs.Form.{mayStand, formOf, parts, start, width, has, total, field, covered}
 use Rattle.zone.proofs.Widths.{has-among}
 use Rattle.digit.specs.Check.{digitOf}
@@ -149,53 +149,25 @@ module _ (f : Form) (t : List ℕ) (k : Keeps f t) where
 
   fields-pass : (x : Part) → has f x ≡ true → fieldCheck f t (spanOf f t) x ≡ passed
   unfolding fieldRows numberRule
-  fields-pass = in-rows (λ x o. has f x ≡ true → o ≡ passed) passed (fieldRows f t (spanOf f t)) (λ x h. refl) (
-    λ h. kept-unless _ 3 (start f code) (k .code-kept),
-    (
-      λ h. kept-unless _ 4 (start f state) (k .state-kept),
-      (
-        λ h. kept-unless _ 4 (start f nationality) (k .nationality-kept),
-        (
-          λ h. rw (k .number-begins, number-right (isLong f t) refl .0),
-          (
-            λ h. kept-unless _ 6 (start f birth) (k .birth-kept),
-            (
-              λ h. kept-unless _ 6 (start f expiry) (k .expiry-kept),
-              (
-                λ h. kept-unless _ 7 (start f sex) (k .sex-kept),
-                (
-                  λ h. kept-unless _ 8 (start f name) (k .name-kept),
-                  tt,
-                ),
-              ),
-            ),
-          ),
-        ),
-      ),
-    ),
-  )
+  fields-pass = in-rows (λ x o. has f x ≡ true → o ≡ passed) passed (fieldRows f t (spanOf f t)) (λ x h. refl) ((λ h. kept-unless _ 3 (start f code) (k .code-kept))
+      and (λ h. kept-unless _ 4 (start f state) (k .state-kept))
+      and (λ h. kept-unless _ 4 (start f nationality) (k .nationality-kept))
+      and (λ h. rw (k .number-begins, number-right (isLong f t) refl .0))
+      and (λ h. kept-unless _ 6 (start f birth) (k .birth-kept))
+      and (λ h. kept-unless _ 6 (start f expiry) (k .expiry-kept))
+      and (λ h. kept-unless _ 7 (start f sex) (k .sex-kept))
+      and (λ h. kept-unless _ 8 (start f name) (k .name-kept))
+      and all-said)
 
   digits-pass : (x : Part) → has f x ≡ true → digitCheck f t (spanOf f t) x ≡ passed
   unfolding digitRows
-  digits-pass = in-rows (λ x o. has f x ≡ true → o ≡ passed) passed (digitRows f t (spanOf f t)) (λ x h. refl) (
-    λ h. number-right (isLong f t) refl .1,
-    (
-      λ h. number-right (isLong f t) refl .2,
-      (
-        λ h. kept-digit t (start f birthCheck) (field f birth t) (k .birth-digit),
-        (
-          λ h. kept-digit t (start f expiryCheck) (field f expiry t) (k .expiry-digit),
-          (
-            λ h. kept-personal f t (k .personal-digit h),
-            (
-              λ h. kept-digit t (start f composite) (covered f t) (k .composite-digit h),
-              tt,
-            ),
-          ),
-        ),
-      ),
-    ),
-  )
+  digits-pass = in-rows (λ x o. has f x ≡ true → o ≡ passed) passed (digitRows f t (spanOf f t)) (λ x h. refl) ((λ h. number-right (isLong f t) refl .1)
+      and (λ h. number-right (isLong f t) refl .2)
+      and (λ h. kept-digit t (start f birthCheck) (field f birth t) (k .birth-digit))
+      and (λ h. kept-digit t (start f expiryCheck) (field f expiry t) (k .expiry-digit))
+      and (λ h. kept-personal f t (k .personal-digit h))
+      and (λ h. kept-digit t (start f composite) (covered f t) (k .composite-digit h))
+      and all-said)
 
   pub passes : verdictBy f t (spanOf f t) ≡ passed
   unfolding verdictBy

@@ -29,7 +29,8 @@ use Rattle.field.specs.Date.{birthRule, expiryRule}
 use Rattle.text_digits.specs.Number.{isLong, spanOf, numberBy}
 use Rattle.text.specs.Read.{Answer, readText, answered, recordBy}
 use Rattle.sound.specs.Sound.{isSolid, isSound}
-use Rattle.writing.specs.Text.{numberIn, furtherIn, isWide, textOf}
+use Rattle.writing.specs.Text.{numberIn, furtherIn, isWide, atCheck, inOptional, givenRows, textOf}
+use Rattle.zone.specs.Rows.{inRows}
 use Rattle.text_theorems.specs.Accepted.{Keeps, fillerAt}
 use Rattle.text_theorems.proofs.NumberSpan.{short-span, long-span}
 use Rattle.text_theorems.proofs.Acceptance.{passes, read-as}
@@ -39,8 +40,8 @@ use Rattle.zone.proofs.Fields.{in-field}
 use Rattle.zone.proofs.Trimmed.{trimmed-cut}
 use Rattle.sound.proofs.Solid.{solid, first-padded}
 use Rattle.digit.proofs.Written.{fillers-digit, digit-solid}
-use Rattle.text_theorems.proofs.TextOfRecord.{atCheck, inOptional, given, is-wide, further-all, further-fits, length-text}
-use Rattle.text_theorems.proofs.TextOfRecord.{shown, last-shown, one-shown, full-shown, front-shown, text-pure}
+use Rattle.writing.proofs.Further.{is-wide, further-all, further-fits}
+use Rattle.text_theorems.proofs.TextOfRecord.{length-text, shown, last-shown, one-shown, full-shown, front-shown, text-pure}
 
 and-false : (b : Bool) → b && false ≡ false
 and-false true = refl
@@ -60,14 +61,14 @@ module _ (r : Record) (s : Sound r) where
   -- ---- the number in the text
 
   nine-shown : field f number t ≡ take 9 (r .number)
-  unfolding given same rank
+  unfolding givenRows inRows same rank
   nine-shown =
       let w = fixed f .number-width in
-      front-shown r s number refl (omega (arith, w, s .number-places)) ∙ ap (λ n. take n (r .number)) w
+      front-shown r number refl (omega (arith, w, s .number-places)) ∙ ap (λ n. take n (r .number)) w
 
   check-shown : getD t (start f numberCheck) 0 ≡ atCheck r
-  unfolding given same rank
-  check-shown = one-shown r s numberCheck (atCheck r) refl (ones f .number-check-one) refl
+  unfolding givenRows inRows same rank
+  check-shown = one-shown r numberCheck (atCheck r) refl (ones f .number-check-one) refl
 
   long-shown : isLong f t ≡ isWide r
   unfolding isLong atCheck isFiller
@@ -96,8 +97,8 @@ module _ (r : Record) (s : Sound r) where
     one-more = length-append (furtherIn r) (digitOf (numberIn r) ∷ [])
 
     optional-padded : field f optional t ≡ padded (width f optional) (furtherIn r ++ (digitOf (numberIn r) ∷ []))
-    unfolding given inOptional same rank
-    optional-padded = shown r s optional refl ∙ rw wide
+    unfolding givenRows inRows inOptional same rank
+    optional-padded = shown r optional refl ∙ rw wide
 
     filler-shown : fillerAt f t ≡ length (furtherIn r) + 1
     filler-shown =
@@ -138,8 +139,8 @@ module _ (r : Record) (s : Sound r) where
   -- ---- the text keeps every rule
 
   name-shown : field f name t ≡ take (width f name) (r .name)
-  unfolding given same rank
-  name-shown = front-shown r s name refl (omega (arith, s .name-places, name-room f))
+  unfolding givenRows inRows same rank
+  name-shown = front-shown r name refl (omega (arith, s .name-places, name-room f))
 
   name-rule : nameRule (take (width f name) (r .name)) ≡ true
   unfolding nameRule
@@ -149,50 +150,50 @@ module _ (r : Record) (s : Sound r) where
       (every-take isNameCharacter (width f name) (r .name) (both .1))
 
   code-shown : field f code t ≡ r .code
-  unfolding given same rank
-  code-shown = full-shown r s code 2 refl (fixed f .code-width) (s .code-places)
+  unfolding givenRows inRows same rank
+  code-shown = full-shown r code 2 refl (fixed f .code-width) (s .code-places)
 
   state-shown : field f state t ≡ r .state
-  unfolding given same rank
-  state-shown = full-shown r s state 3 refl (fixed f .state-width) (s .state-places)
+  unfolding givenRows inRows same rank
+  state-shown = full-shown r state 3 refl (fixed f .state-width) (s .state-places)
 
   nationality-shown : field f nationality t ≡ r .nationality
-  unfolding given same rank
-  nationality-shown = full-shown r s nationality 3 refl (fixed f .nationality-width) (s .nationality-places)
+  unfolding givenRows inRows same rank
+  nationality-shown = full-shown r nationality 3 refl (fixed f .nationality-width) (s .nationality-places)
 
   birth-shown : field f birth t ≡ r .birth
-  unfolding given same rank
-  birth-shown = full-shown r s birth 6 refl (fixed f .birth-width) (s .birth-places)
+  unfolding givenRows inRows same rank
+  birth-shown = full-shown r birth 6 refl (fixed f .birth-width) (s .birth-places)
 
   expiry-shown : field f expiry t ≡ r .expiry
-  unfolding given same rank
-  expiry-shown = full-shown r s expiry 6 refl (fixed f .expiry-width) (s .expiry-places)
+  unfolding givenRows inRows same rank
+  expiry-shown = full-shown r expiry 6 refl (fixed f .expiry-width) (s .expiry-places)
 
   sex-shown : getD t (start f sex) 0 ≡ r .sex
-  unfolding given same rank
-  sex-shown = one-shown r s sex (r .sex) refl (fixed f .sex-width) refl
+  unfolding givenRows inRows same rank
+  sex-shown = one-shown r sex (r .sex) refl (fixed f .sex-width) refl
 
   birth-right : getD t (start f birthCheck) 0 ≡ digitOf (field f birth t)
-  unfolding given same rank
+  unfolding givenRows inRows same rank
   birth-right =
-      one-shown r s birthCheck (digitOf (take 6 (r .birth))) refl (ones f .birth-check-one) refl
+      one-shown r birthCheck (digitOf (take 6 (r .birth))) refl (ones f .birth-check-one) refl
       ∙ ap digitOf (take-all 6 (r .birth) (omega (arith, s .birth-places)) ∙ sym birth-shown)
 
   expiry-right : getD t (start f expiryCheck) 0 ≡ digitOf (field f expiry t)
-  unfolding given same rank
+  unfolding givenRows inRows same rank
   expiry-right =
-      one-shown r s expiryCheck (digitOf (take 6 (r .expiry))) refl (ones f .expiry-check-one) refl
+      one-shown r expiryCheck (digitOf (take 6 (r .expiry))) refl (ones f .expiry-check-one) refl
       ∙ ap digitOf (take-all 6 (r .expiry) (omega (arith, s .expiry-places)) ∙ sym expiry-shown)
 
   personal-right : has f personalCheck ≡ true → getD t (start f personalCheck) 0 ≡ digitOf (field f personal t)
-  unfolding given same rank
+  unfolding givenRows inRows same rank
   personal-right h =
-      one-shown r s personalCheck 0x30 refl (has-one f personalCheck (ones f .personal-check-most) h) refl
-      ∙ sym (ap digitOf (shown r s personal refl ∙ padded-nil (width f personal)) ∙ fillers-digit (width f personal))
+      one-shown r personalCheck 0x30 refl (has-one f personalCheck (ones f .personal-check-most) h) refl
+      ∙ sym (ap digitOf (shown r personal refl ∙ padded-nil (width f personal)) ∙ fillers-digit (width f personal))
 
   pub text-keeps : Keeps f t
   text-keeps = record {
-    size = length-text r s;
+    size = length-text r;
     alphabet = each-every isCharacter t (text-pure r s);
     code-kept = ap (codeRule f) code-shown ∙ s .code-kept;
     state-kept = ap stateRule state-shown ∙ s .state-kept;
@@ -208,7 +209,7 @@ module _ (r : Record) (s : Sound r) where
     birth-digit = birth-right;
     expiry-digit = expiry-right;
     personal-digit = λ h in-text. personal-right h;
-    composite-digit = last-shown r s;
+    composite-digit = last-shown r;
   }
 
   -- ---- and is read as the record
@@ -246,7 +247,7 @@ module _ (r : Record) (s : Sound r) where
 
   read-written : (source : Source) → mayStand source f ≡ true → readText source t ≡ record { outcome = passed; kept = r }
   unfolding answered
-  read-written source may = rw (read-as source f t may (length-text r s), passes f t text-keeps, record-read)
+  read-written source may = rw (read-as source f t may (length-text r), passes f t text-keeps, record-read)
 
 -- ---- the theorem
 
@@ -261,7 +262,7 @@ module _ (r : Record) (sound : isSound r ≡ true) where
   text-read-back = text-read-back-in Alone refl
 
   pub text-length : length (textOf r) ≡ total (r .form)
-  text-length = length-text r (taken-apart r sound)
+  text-length = length-text r
 
 -- no two sound records have one text
 pub text-tells : (r q : Record) → isSound r ≡ true → isSound q ≡ true → textOf r ≡ textOf q → r ≡ q

@@ -17,7 +17,7 @@ use Rattle.zone.specs.Part.{composite, rank, same}
 use Rattle.zone.specs.Form.{row, forms, start, startIn, has, total, Piece, pieceOf, pieces, cut, joinedCuts, covered}
 use Rattle.zone.proofs.AllForms.{all-forms}
 use Rattle.zone.proofs.Widths.{within, ones, has-one}
-use Rattle.writing.specs.Text.{put}
+use Rattle.writing.specs.Inner.Puts.{put}
 use Rattle.lent.proofs.Copies.{before-copied, behind-copied}
 
 isClear : ℕ → Piece → Bool

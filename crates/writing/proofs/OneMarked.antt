@@ -13,7 +13,7 @@ use Rattle.zone.specs.declared.record.Record.{Record}
 use Rattle.zone.specs.Part.{Part}
 use Rattle.zone.specs.Form.{start, width, has, total}
 use Rattle.zone.proofs.Widths.{within, here-or-end, has-one}
-use Rattle.writing.specs.Text.{put, mark}
+use Rattle.writing.specs.Inner.Puts.{put, mark}
 use Rattle.lent.proofs.Copies.{copied-there, length-copied}
 
 module _ (r : Record) where

@@ -1,29 +1,20 @@
--- The text of a record: document 01, "The text". Fillers everywhere, and then each part in its place.
+-- The text of a record: document 01, "The text". Each part in its place, with fillers behind what it is given; the composite digit
+-- comes last, since it covers all the rest.
 use Prim.Native.Nat.{ℕ, _+_}
 use Prim.Native.Char as char
 use mathlib.Core.Bool.{Bool, cond}
-use mathlib.Core.List.{List}
+use mathlib.Core.List.{List, [], _∷_, _++_}
 use lib.Dec.{ltb}
-use lib.ListN.{length, take, drop, set, replicate}
-use Rattle.lent.specs.Copied.{copiedAt}
+use lib.ListN.{take, drop}
 use Rattle.zone.specs.Part.{Part, code, state, number, numberCheck, optional, birth, birthCheck, sex, expiry, expiryCheck}
 use Rattle.zone.specs.Part.{nationality, composite, name, personalCheck}
+use Rattle.zone.specs.Rows.{PartRow, _is_, inRows}
 use Rattle.zone.specs.Alphabet.{filler}
 use Rattle.zone.specs.Rooms.{dateRoom, nine, further}
-use Rattle.zone.specs.Form.{start, width, has, total, covered}
+use Rattle.zone.specs.Form.{Cell, _of_, layout, covered}
+use Rattle.zone.specs.Record.{padded}
 use Rattle.zone.specs.declared.record.Record.{Record}
 use Rattle.digit.specs.Check.{digitOf}
-
--- characters in the place of a part. A part that the form does not have begins at the text's end, where nothing can stand.
-unfoldable pub put : Record → Part → List ℕ → List ℕ → List ℕ
-put r x s t = copiedAt t (start (r .form) x) (take (width (r .form) x) s)
-
--- one character where a part begins
-unfoldable pub mark : Record → Part → ℕ → List ℕ → List ℕ
-mark r x c t = set t (start (r .form) x) c
-
-unfoldable pub putOpening : Record → List ℕ → List ℕ
-putOpening r t = put r state (r .state) (put r code (r .code) t)
 
 -- the complete number, and its characters from the tenth on
 unfoldable pub numberIn : Record → List ℕ
@@ -39,37 +30,49 @@ furtherIn r = furtherOf (numberIn r)
 unfoldable pub isWide : Record → Bool
 isWide r = ltb nine (r .«number_len»)
 
--- a number of up to nine characters, and its check digit
-unfoldable pub putShort : Record → List ℕ → List ℕ
-putShort r t = mark r numberCheck (digitOf (take nine (r .number))) (put r number (r .number) t)
+-- a number of up to nine characters has its check digit at the check place, a long one `<`, and in the optional field its further
+-- characters and its check digit
+unfoldable pub atCheck : Record → ℕ
+atCheck r = cond (isWide r) filler (digitOf (take nine (r .number)))
 
--- a long number as nine characters, `<` at the check place, the further characters, its check digit
-unfoldable pub putLong : Record → List ℕ → List ℕ
-putLong r t =
-    set (put r optional (furtherIn r) (mark r numberCheck filler (put r number (r .number) t)))
-    (start (r .form) optional + length (furtherIn r)) (digitOf (numberIn r))
+unfoldable pub inOptional : Record → List ℕ
+inOptional r = cond (isWide r) (furtherIn r ++ (digitOf (numberIn r) ∷ [])) []
 
-unfoldable pub putNumber : Record → List ℕ → List ℕ
-putNumber r t = cond (isWide r) (putLong r t) (putShort r t)
+-- what each part is given, but for the composite; one that is not here is not given anything. 0 is TD3's personal check
+unfoldable pub givenRows : Record → List (PartRow (List ℕ))
+givenRows r =
+    code is (r .code)
+    ∷ state is (r .state)
+    ∷ name is (r .name)
+    ∷ number is (r .number)
+    ∷ numberCheck is (atCheck r ∷ [])
+    ∷ optional is inOptional r
+    ∷ nationality is (r .nationality)
+    ∷ birth is (r .birth)
+    ∷ birthCheck is (digitOf (take dateRoom (r .birth)) ∷ [])
+    ∷ sex is (r .sex ∷ [])
+    ∷ expiry is (r .expiry)
+    ∷ expiryCheck is (digitOf (take dateRoom (r .expiry)) ∷ [])
+    ∷ personalCheck is (char.code "0" ∷ [])
+    ∷ []
 
--- a date, and its check digit
-abbrev pub putDate : Record → (date check : Part) → List ℕ → List ℕ → List ℕ
-putDate r date check s t = mark r check (digitOf (take dateRoom s)) (put r date s t)
+abbrev pub given : Record → Part → List ℕ
+given r x = inRows [] (givenRows r) x
 
-unfoldable pub putDates : Record → List ℕ → List ℕ
-putDates r t = putDate r expiry expiryCheck (r .expiry) (putDate r birth birthCheck (r .birth) t)
+-- the parts in their order
+unfoldable pub inPlace : (Part → List ℕ) → List Cell → List ℕ
+inPlace g [] = []
+inPlace g (x of w ∷ cells) = padded w (g x) ++ inPlace g cells
 
-unfoldable pub putPerson : Record → List ℕ → List ℕ
-putPerson r t = put r name (r .name) (mark r sex (r .sex) (put r nationality (r .nationality) t))
+-- the text but for the composite digit, and that digit
+unfoldable pub beforeLast : Record → List ℕ
+beforeLast r = inPlace (given r) (layout (r .form))
 
--- 0 as TD3's personal check, and the composite digit, where the form has one, over everything that it covers
-unfoldable pub putLast : Record → List ℕ → List ℕ
-putLast r t =
-    let told = mark r personalCheck (char.code "0") t in
-    cond (has (r .form) composite) (mark r composite (digitOf (covered (r .form) told)) told) told
+unfoldable pub lastDigit : Record → ℕ
+lastDigit r = digitOf (covered (r .form) (beforeLast r))
 
-unfoldable pub putAll : Record → List ℕ → List ℕ
-putAll r t = putLast r (putPerson r (putDates r (putNumber r (putOpening r (replicate (length t) filler)))))
+abbrev pub givenAll : Record → Part → List ℕ
+givenAll r x = inRows [] (composite is (lastDigit r ∷ []) ∷ givenRows r) x
 
 unfoldable pub textOf : Record → List ℕ
-textOf r = putAll r (replicate (total (r .form)) filler)
+textOf r = inPlace (givenAll r) (layout (r .form))

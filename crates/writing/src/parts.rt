@@ -1,6 +1,6 @@
 // The parts of a text around its number, in the places of the record's form.
 ghost use mathlib.Core.Path.{_≡_};
-ghost use Rattle.writing.specs.Text.{putOpening, putDates, putPerson, putLast};
+ghost use Rattle.writing.specs.Inner.Puts.{putOpening, putDates, putPerson, putLast};
 use crate::fields::put_code;
 use crate::fields::put_date;
 use crate::fields::put_name;

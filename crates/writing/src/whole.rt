@@ -1,6 +1,6 @@
 // A whole text, into a range of its length.
 ghost use mathlib.Core.Path.{_≡_};
-ghost use Rattle.writing.specs.Text.{putAll};
+ghost use Rattle.writing.specs.Inner.Puts.{putAll};
 use crate::number::put_number;
 use crate::parts::put_dates;
 use crate::parts::put_last;

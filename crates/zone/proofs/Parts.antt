@@ -76,16 +76,17 @@ unfolding same
 same-self x = eq-eqb (rank x) (rank x) refl
 
 -- what holds of what each row says, and of what stands for none, holds of every part
-abbrev pub OfRows : {A : Type 0} → (Part → A → Type 0) → List (PartRow A) → Type 0
-OfRows Q [] = Unit
-OfRows Q (y is a ∷ rows) = Q y a × OfRows Q rows
+infixr 5 _and_
+pub data OfRows {A : Type 0} (Q : Part → A → Type 0) : List (PartRow A) → Type 0 where
+  all-said : OfRows Q []
+  _and_ : {y : Part} {a : A} {rows : List (PartRow A)} → Q y a → OfRows Q rows → OfRows Q (y is a ∷ rows)
 
 pub in-rows : {A : Type 0} (Q : Part → A → Type 0) (none : A) (rows : List (PartRow A)) → ((x : Part) → Q x none) → OfRows Q rows
     → (x : Part) → Q x (inRows none rows x)
 unfolding inRows
-in-rows Q none [] other each x = other x
-in-rows {A} Q none (y is a ∷ rows) other each x = go (same x y) refl (in-rows Q none rows other (each .1) x)
+in-rows Q none [] other all-said x = other x
+in-rows {A} Q none (y is a ∷ rows) other (said and left) x = go (same x y) refl (in-rows Q none rows other left x)
   where
     go : (b : Bool) → same x y ≡ b → Q x (inRows none rows x) → Q x (cond b a (inRows none rows x))
-    go true e left = subst (λ (z : Part). Q z a) (sym (same-one x y e)) (each .0)
-    go false e left = left
+    go true e rest = subst (λ (z : Part). Q z a) (sym (same-one x y e)) said
+    go false e rest = rest

@@ -32,12 +32,12 @@ pub fixed : (f : Form) → Fixed f
 unfolding row width widthIn rank same forms
 fixed = all-forms Fixed (search needs)
 
-totalIn : List Cell → ℕ
+unfoldable pub totalIn : List Cell → ℕ
 totalIn [] = 0
 totalIn (x of w ∷ cells) = w + totalIn cells
 
 -- the widths of a layout add up to the text's length
-adds-up : (f : Form) → totalIn (layout f) ≡ total f
+pub adds-up : (f : Form) → totalIn (layout f) ≡ total f
 unfolding totalIn row forms
 adds-up = all-forms (λ f. totalIn (layout f) ≡ total f) (search needs)
 

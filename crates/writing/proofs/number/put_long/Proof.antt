@@ -1,6 +1,7 @@
 -- Each call puts its part.
 use borrow.Author.Needs.{needs}
-use Rattle.writing.specs.Text.{put, mark, numberIn, furtherIn, putLong}
+use Rattle.writing.specs.Text.{numberIn, furtherIn}
+use Rattle.writing.specs.Inner.Puts.{put, mark, putLong}
 use Rattle.zone.specs.Inner.Places.{placesOf}
 use Rattle.zone.proofs.Widths.{fixed, within, total-le}
 use native.Mathlib.Omega.{arith}

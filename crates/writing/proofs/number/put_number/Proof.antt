@@ -1,7 +1,8 @@
 -- A number over nine characters is the long one.
 use borrow.Author.Needs.{needs}
 use borrow.Author.Tests.{le-ltb, lt-ltb}
-use Rattle.writing.specs.Text.{isWide, putNumber}
+use Rattle.writing.specs.Text.{isWide}
+use Rattle.writing.specs.Inner.Puts.{putNumber}
 use Rattle.writing.proofs.number.put_number.Statement.{statement}
 use Rattle.writing.proofs.number.put_number.Tie as tie
 

@@ -1,6 +1,6 @@
 -- Each call puts its part.
 use borrow.Author.Needs.{needs}
-use Rattle.writing.specs.Text.{put, mark, putShort}
+use Rattle.writing.specs.Inner.Puts.{put, mark, putShort}
 use Rattle.zone.specs.Inner.Places.{placesOf}
 use Rattle.zone.proofs.Widths.{fixed}
 use Rattle.writing.proofs.number.put_short.Statement.{statement}

@@ -3,7 +3,7 @@ use borrow.Author.Needs.{needs}
 use borrow.Author.Tests.{lt-ltb, le-ltb}
 use Rattle.zone.specs.Inner.Places.{placesOf}
 use Rattle.digit.proofs.CoveredSum.{composite-digit}
-use Rattle.writing.specs.Text.{mark, putLast}
+use Rattle.writing.specs.Inner.Puts.{mark, putLast}
 use Rattle.writing.proofs.parts.put_last.Statement.{statement}
 use Rattle.writing.proofs.parts.put_last.Tie as tie
 

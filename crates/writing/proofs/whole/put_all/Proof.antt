@@ -1,6 +1,6 @@
 -- Each call puts its parts.
 use borrow.Author.Needs.{needs}
-use Rattle.writing.specs.Text.{putAll}
+use Rattle.writing.specs.Inner.Puts.{putAll}
 use Rattle.writing.proofs.whole.put_all.Statement.{statement}
 use Rattle.writing.proofs.whole.put_all.Tie as tie
 

@@ -24,7 +24,7 @@ returns c =
     let put = c .before .before .put-all in
     record {
       answer = rw (sound, fits, n .ensures);
-      output = rw (sound, fits) (fitted (a .r) (n .result) (now (a .out)) (put .last .0) (n .ensures) h (put .ensures));
+      output = rw (sound, fits) (fitted (a .r) (n .result) (now (a .out)) (put .last .0) sound (n .ensures) h (put .ensures));
     }
 
 returns-2 : tie.Need-returns-2
