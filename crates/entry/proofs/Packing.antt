@@ -1,32 +1,14 @@
--- Laws on loops over units of six bits: one that changes each of them, and the one that packs four into three octets.
+-- Laws on the loop over units of six bits that packs four into three octets.
 use Prim.Native.Nat.{ℕ, zero, suc, _+_, _-_, _*_, _/_, _%_, _≤_, _<_}
 use mathlib.Core.Path.{_≡_, refl, sym}
-use mathlib.Core.List.{List, [], _∷_, _++_, map, append-nil}
+use mathlib.Core.List.{List, [], _∷_, _++_}
 use mathlib.Core.Logic.{inl}
-use native.Mathlib.Numerals.{add-one}
 use native.Mathlib.Omega.{arith}
-use lib.ListN.{length, take, drop, getD, set, drop-of-length-le}
-use lib.Seq.{take-all, take-nil, take-suc-set, drop-set-lt, drop-cons, append-snoc}
+use lib.ListN.{length, take, drop, getD, set}
+use lib.Seq.{take-all, take-nil}
 use Rattle.lent.specs.Copied.{copied}
 use Rattle.lent.proofs.Lists.{copy-more, copy-ends}
 use Rattle.entry.specs.Inner.Units.{four, fourAt, packed}
-
--- ---- a loop that changes every element
-
-module _ (f : ℕ → ℕ) (s : List ℕ) (i : ℕ) where
-  -- what is stored at i is what the rest would hold there
-  pub map-step : i < length s
-      → take (i + 1) (set s i (f (getD s i 0))) ++ map f (drop (i + 1) (set s i (f (getD s i 0)))) ≡ take i s ++ map f (drop i s)
-  map-step h =
-      let c = f (getD s i 0) in
-      rw (add-one i, take-suc-set s i c h, drop-set-lt (suc i) s i c (omega arith), drop-cons s i 0 h)
-      (append-snoc (take i s) c (map f (drop (suc i) s)))
-
-  -- nothing is left
-  pub map-done : length s ≤ i → s ≡ take i s ++ map f (drop i s)
-  map-done h = rw (drop-of-length-le s h, take-all i s h) (sym (append-nil s))
-
--- ---- the loop that packs
 
 pub length-packed : (s : List ℕ) → length (packed s) ≡ length s / 4 * 3
 unfolding packed

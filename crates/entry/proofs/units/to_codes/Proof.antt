@@ -5,8 +5,8 @@ use mathlib.Core.List.{_++_, map}
 use native.Mathlib.Omega.{arith}
 use borrow.Author.Needs.{needs}
 use lib.ListN.{length, take, drop, length-set}
+use Rattle.lent.proofs.Changed.{map-step, map-done}
 use Rattle.zone.specs.Codes.{codeOf}
-use Rattle.entry.proofs.Packing.{map-step, map-done}
 use Rattle.entry.proofs.units.to_codes.Statement.{statement}
 use Rattle.entry.proofs.units.to_codes.Tie as tie
 

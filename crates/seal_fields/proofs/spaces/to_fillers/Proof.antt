@@ -5,8 +5,8 @@ use mathlib.Core.List.{_++_}
 use native.Mathlib.Omega.{arith}
 use borrow.Author.Needs.{needs}
 use lib.ListN.{length, take, drop, length-set}
+use Rattle.lent.proofs.Changed.{map-step, map-done}
 use Rattle.seal_fields.specs.Spaces.{filled}
-use Rattle.seal_fields.proofs.Filled.{filled-step, filled-done}
 use Rattle.seal_fields.proofs.spaces.to_fillers.Statement.{statement}
 use Rattle.seal_fields.proofs.spaces.to_fillers.Tie as tie
 
@@ -18,6 +18,7 @@ abbrev μ-loop : tie.MeasureT-loop
 μ-loop text₀ i₀ text i = length text₀ - i
 
 pub to-fillers-spec : {M : Type 1} → statement M
+unfolding filled
 to-fillers-spec =
     tie.close
     (tie.spec
@@ -33,10 +34,10 @@ to-fillers-spec =
     (λ c.
     let l = c .before .before .before .loop in
     let h : l .i < length (l .text) = omega arith in
-    let step = filled-step (l .text) (l .i) h ∙ l .inv .2 in
+    let step = map-step _ (l .text) (l .i) h ∙ l .inv .2 in
     (search needs, simp length-set (search needs), rw (c .filler-for-space .ensures) step))
     (λ c. search needs)
     -- the end
     (λ c.
     let l = c .before .loop in
-    filled-done (l .text) (l .i) (omega (arith, c .loop-test .left)) ∙ l .inv .2))
+    map-done _ (l .text) (l .i) (omega (arith, c .loop-test .left)) ∙ l .inv .2))
