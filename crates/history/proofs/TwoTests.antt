@@ -17,7 +17,7 @@ use Rattle.tlv.specs.Tags as Tag
 use Rattle.tlv.proofs.Joined.{then-same}
 use Rattle.efcom.specs.EfCom.{knownFrom, onceFrom, tagsCheck, fromTagList, fromUnicode, fromVersion, readEfCom}
 use Rattle.efcom.proofs.FifteenTags.{fifteen-tags}
-use Rattle.object.specs.Object.{GroupHash, entries, numbersOnce, count, entriesCheck, fromEntryList, fromAlgorithm, readObject}
+use Rattle.object.specs.Object.{GroupHash, entries, numbersOnce, entriesCheck, fromEntryList, fromAlgorithm, readObject}
 use Rattle.object.specs.Object as object
 use Rattle.object.proofs.SixteenEntries.{sixteen-read}
 use Rattle.chip.specs.Presentation.{decided, readStages, readPresentation}
@@ -45,8 +45,8 @@ entries-same : (s : List ℕ) (from at : ℕ) (es : List GroupHash) → entries 
 unfolding tested.entriesCheck entriesCheck
 entries-same s from at es read =
     orElse-idle (entriesCheck es at) _ (λ e.
-    let once = both-passed (numbersOnce [] es) (unless (leb 2 (count es)) 12 at) e .0 in
-    kept-unless _ 12 at (le-leb (count es) _ (omega (arith, sixteen-read s from es read once))))
+    let once = both-passed (numbersOnce [] es) (unless (leb 2 (length es)) 12 at) e .0 in
+    kept-unless _ 12 at (le-leb (length es) _ (omega (arith, sixteen-read s from es read once))))
 
 pub object-same : (w : List ℕ) (o : Stretch) → readObject w o ≡ tested.readObject w o
 unfolding readObject object.fromVersion fromAlgorithm fromEntryList tested.readObject

@@ -14,7 +14,7 @@ use Rattle.tlv.specs.Cut.{cut, endCheck}
 use Rattle.tlv.specs.Tags as Tag
 use Rattle.efcom.specs.EfCom.{isVersion, isUnicode}
 use Rattle.efcom.specs.EfCom as now
-use Rattle.object.specs.Object.{GroupHash, isZero, isSha256, entries, count}
+use Rattle.object.specs.Object.{GroupHash, isZero, isSha256, entries}
 use Rattle.object.specs.Object as now-object
 use Rattle.chip.specs.Outer.{files, walked}
 use Rattle.chip.specs.Files.{filesCheck}
@@ -26,7 +26,7 @@ tagsCheck s v at = orElse (now.tagsCheck s v) (unless (leb (length (cut s v)) 15
 
 -- "a repeated number (12 at its integer), then fewer than 2, then more than 16 (12 at the list)"
 unfoldable pub entriesCheck : List GroupHash → ℕ → Outcome
-entriesCheck es at = orElse (now-object.entriesCheck es at) (unless (leb (count es) 16) 12 at)
+entriesCheck es at = orElse (now-object.entriesCheck es at) (unless (leb (length es) 16) 12 at)
 
 -- stage 3
 unfoldable pub readEfCom : List ℕ → Stretch → Read Stretch

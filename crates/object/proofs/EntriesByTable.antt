@@ -16,7 +16,7 @@ use Rattle.refusal.specs.Outcome.{Outcome, passed, refused, unless, orElse}
 use Rattle.tlv.specs.Read.{Read, value, refusal, andThen, checked, outcomeIn}
 use Rattle.object.specs.declared.entries.Seen.{Seen}
 use Rattle.lent.specs.Octets.{stands}
-use Rattle.object.specs.Object.{GroupHash, entryAt, entriesFrom, entries, numbersOnce, count, entriesCheck}
+use Rattle.object.specs.Object.{GroupHash, entryAt, entriesFrom, entries, numbersOnce, entriesCheck}
 use Rattle.object.specs.Object.{digestFor}
 use Rattle.object.specs.Inner.Seen.{none, isNew, counted, tallied, tallyFrom, seenIn, seenCheck, digestsFrom, tableOf}
 use Rattle.object.specs.Inner.Seen.{ObjectAnswer}
@@ -90,13 +90,13 @@ module _ (t : Seen) (e : GroupHash) where
 
 -- ---- how many
 
-tallied-count : (es : List GroupHash) (t : Seen) → tallied t es .count ≡ t .count + count es
-unfolding tallied count
+tallied-count : (es : List GroupHash) (t : Seen) → tallied t es .count ≡ t .count + length es
+unfolding tallied
 tallied-count [] t = sym (add-zero (t .count))
 tallied-count (e ∷ es) t =
-    let h : tallied (counted t e) es .count ≡ counted t e .count + count es = tallied-count es (counted t e) in
+    let h : tallied (counted t e) es .count ≡ counted t e .count + length es = tallied-count es (counted t e) in
     let k : counted t e .count ≡ t .count + 1 = counted-count t e in
-    let j : suc (count es) ≡ count es + 1 = sym (add-one (count es)) in
+    let j : suc (length es) ≡ length es + 1 = sym (add-one (length es)) in
     rw j (omega arith)
 
 -- ---- the first repeated number
@@ -274,7 +274,7 @@ unfolding seenCheck entriesCheck repeatedAt
 seen-check es at sound =
     let r : repeatedAt (tallied none es .repeated)
     ≡ numbersOnce [] es = tallied-repeated es none [] sound (none-marked 17) (length-replicate {A = ℕ} 17 0) refl in
-    let k : tallied none es .count ≡ count es = tallied-count es none ∙ zero-add (count es) in
+    let k : tallied none es .count ≡ length es = tallied-count es none ∙ zero-add (length es) in
     rw (r, k)
 
 told-checked : (a b : Outcome) (es : List GroupHash)

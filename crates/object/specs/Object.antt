@@ -56,14 +56,9 @@ unfoldable pub numbersOnce : List ℕ → List GroupHash → Outcome
 numbersOnce before [] = passed
 numbersOnce before (e ∷ es) = cond (stands (e .group) before) (refused (by 12) (e .place)) (numbersOnce (e .group ∷ before) es)
 
--- the number of entries
-unfoldable pub count : List GroupHash → ℕ
-count [] = 0
-count (e ∷ es) = suc (count es)
-
 -- then fewer than 2 (12 at the list); more than 16 are never left to refuse (`sixteen-entries`)
 unfoldable pub entriesCheck : List GroupHash → ℕ → Outcome
-entriesCheck es at = orElse (numbersOnce [] es) (unless (leb 2 (count es)) 12 at)
+entriesCheck es at = orElse (numbersOnce [] es) (unless (leb 2 (length es)) 12 at)
 
 -- and nothing follows
 unfoldable pub fromEntryList : List ℕ → ℕ → Read (List GroupHash)

@@ -7,7 +7,7 @@ use mathlib.Core.Logic.{inl, inr}
 use native.Mathlib.Omega.{arith}
 use lib.ListN.{length}
 use Rattle.efcom.proofs.FifteenTags.{fifteen-tags}
-use Rattle.object.specs.Object.{GroupHash, count}
+use Rattle.object.specs.Object.{GroupHash}
 use Rattle.object.proofs.SixteenEntries.{Numbered, sixteen-entries}
 use Rattle.presentation_theorems.specs.Presented.{Signed, Contents, isIn, numbers, EntryKept, Presented}
 use Rattle.presentation_theorems.proofs.NoneTwice.{none-once}
@@ -32,8 +32,8 @@ unfolding hashes numbers signedIn signedAt
 same-numbers [] = refl
 same-numbers (x ∷ xs) = ap (λ (l : List ℕ). x .number ∷ l) (same-numbers xs)
 
-same-count : (xs : List Signed) → count (hashes xs) ≡ length xs
-unfolding hashes count
+same-count : (xs : List Signed) → length (hashes xs) ≡ length xs
+unfolding hashes
 same-count [] = refl
 same-count (x ∷ xs) = ap suc (same-count xs)
 

@@ -20,7 +20,7 @@ use Rattle.tlv.proofs.Joined.{never-value, same-value, first-value, value-then,
 use Rattle.tlv.proofs.Encoded.{inside, length-tlv, some-head}
 use Rattle.tlv.specs.Cut.{cut, endCheck}
 use Rattle.lent.specs.Octets.{stands}
-use Rattle.object.specs.Object.{GroupHash, entryAt, entriesFrom, entries, numbersOnce, count, entriesCheck, fromEntryList}
+use Rattle.object.specs.Object.{GroupHash, entryAt, entriesFrom, entries, numbersOnce, entriesCheck, fromEntryList}
 use Rattle.zone.specs.Octets.{areOctets}
 use Rattle.presentation_theorems.specs.Presented.{Signed, signedOf, allSigned, isIn, isOnce, numbers, EntryKept}
 use Rattle.refusal.proofs.Outcomes.{refused-not-passed, both-passed, unless-kept}
@@ -144,8 +144,8 @@ numbers-once s before (x ∷ es) e =
     let both = and-both (not (stands (x .group) before)) (onceAfter (x .group ∷ before) (numbers (signedIn s es))) e in
     rw (not-true (stands (x .group) before) (both .0)) (numbers-once s (x .group ∷ before) es (both .1))
 
-counted : (s : List ℕ) (es : List GroupHash) → count es ≡ length (signedIn s es)
-unfolding count signedIn
+counted : (s : List ℕ) (es : List GroupHash) → length es ≡ length (signedIn s es)
+unfolding signedIn
 counted s [] = refl
 counted s (e ∷ es) = ap suc (counted s es)
 
@@ -158,20 +158,20 @@ module _ (s : List ℕ) (es : List GroupHash) (at : ℕ) where
   check-kept : EachKept (signedIn s es) → entriesCheck es at ≡ passed → SignedKept (signedIn s es)
   unfolding entriesCheck EachKept
   check-kept each e =
-      let a = both-passed (numbersOnce [] es) (unless (leb 2 (count es)) 12 at) e in
+      let a = both-passed (numbersOnce [] es) (unless (leb 2 (length es)) 12 at) e in
       let same = counted s es in
       record {
         each-kept = each;
         once-kept = once-none (numbers (signedIn s es)) (once-numbers s [] es (a .0));
-        least-kept = omega (arith, leb-true 2 (count es) (unless-kept (leb 2 (count es)) 12 at (a .1)));
+        least-kept = omega (arith, leb-true 2 (length es) (unless-kept (leb 2 (length es)) 12 at (a .1)));
       }
 
   kept-check : SignedKept (signedIn s es) → entriesCheck es at ≡ passed
   unfolding entriesCheck
   kept-check k =
       let same = counted s es in
-      let least : 2 ≤ count es = omega (arith, k .least-kept) in
-      rw (numbers-once s [] es (none-once (numbers (signedIn s es)) (k .once-kept)), le-leb 2 (count es) least)
+      let least : 2 ≤ length es = omega (arith, k .least-kept) in
+      rw (numbers-once s [] es (none-once (numbers (signedIn s es)) (k .once-kept)), le-leb 2 (length es) least)
 
 -- ---- the list
 

@@ -14,7 +14,7 @@ use Rattle.tlv.specs.Read.{value, checked}
 use Rattle.tlv.specs.Element.{tagWidth}
 use Rattle.tlv.specs.Cut.{cut, hasOctets, endCheck}
 use Rattle.tlv.specs.Tags as Tag
-use Rattle.object.specs.Object.{GroupHash, isGroupNumber, digestAt, numberAt, entryAt, entriesFrom, entries, numbersOnce, count}
+use Rattle.object.specs.Object.{GroupHash, isGroupNumber, digestAt, numberAt, entryAt, entriesFrom, entries, numbersOnce}
 use Rattle.object.specs.Object.{entriesCheck, fromEntryList, isSha256, fromAlgorithm, isZero, fromVersion}
 use Rattle.text_theorems.proofs.FirstFailing.{firstOf}
 use Rattle.row_theorems.specs.Standing.{stretchAt, coded, each}
@@ -79,11 +79,6 @@ repeated-rows before (e ∷ es) =
     stops (stands (e .group) before) 12 (e .place) (numbersOnce (e .group ∷ before) es)
     ∙ ap (orElse (unless (not (stands (e .group) before)) 12 (e .place))) (repeated-rows (e .group ∷ before) es)
 
-counted : (es : List GroupHash) → count es ≡ length es
-unfolding count
-counted [] = refl
-counted (e ∷ es) = ap suc (counted es)
-
 list-rows : (s : List ℕ) (at : ℕ) → fromEntryList s at ≡ under (entryListChecks s at) (value (entriesIn s at))
 unfolding fromEntryList entriesCheck entryListChecks placesIn sequenceBytes entriesIn under
 list-rows s at =
@@ -92,15 +87,14 @@ list-rows s at =
     let ps = entryPlaces l (v .from) in
     let es = map (groupHash l) ps in
     let last = unless (leb 2 (length es)) 12 at ∷ endCheck s (v .to) ∷ [] in
-    let few = unless (leb 2 (count es)) 12 at in
+    let few = unless (leb 2 (length es)) 12 at in
     let end = checked (endCheck s (v .to)) (value es) in
     element-then s at Tag.sequence _
     ∙ keep (coded s at Tag.sequence)
     (step-then (each (entryChecks l) ps) (repeatedChecks [] es ++ last) (entries l (v .from)) es _ (value es)
     (entries-rows l (v .from))
     (checked-else (numbersOnce [] es) few end
-    ∙ first-then (numbersOnce [] es) (repeatedChecks [] es) last (checked few end) (value es) (repeated-rows [] es)
-    (ap (λ (n : ℕ). checked (unless (leb 2 n) 12 at) end) (counted es))))
+    ∙ first-then (numbersOnce [] es) (repeatedChecks [] es) last (checked few end) (value es) (repeated-rows [] es) refl))
 
 -- ---- all of it
 

@@ -222,7 +222,7 @@ module _ (P : Why → ℕ → Type 0) (last : ℕ)
       (λ es m.
       each-checked P (object.entriesCheck es (b .to)) _
       (each-else P (object.numbersOnce [] es) _ (numbers-each [] es (entries-in last _ (take (l .to) s) inner (l .from) es m))
-      (rule (leb 2 (object.count es)) 12 (b .to) refl j))
+      (rule (leb 2 (length es)) 12 (b .to) refl j))
       (each-checked P _ _ (each-end P s (l .to) (plain 10 (l .to) refl (k .2))) (each-value P es))))))))
 
   -- ---- stages 1 and 2
