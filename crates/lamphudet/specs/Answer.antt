@@ -3,7 +3,7 @@
 use Prim.Native.Nat.{ℕ}
 use Rattle.refusal.specs.Numbers.{Why, noDigit, numberOf, expectedOf}
 use Rattle.refusal.specs.Length.{Length, written, refused}
-use Rattle.lamphudet.specs.declared.AnswerInC.{AnswerInC}
+use Rattle.lamphudet.specs.declared.received.AnswerInC.{AnswerInC}
 
 -- not refused: 0, and a value
 abbrev pub notRefused : ℕ → AnswerInC

@@ -11,9 +11,9 @@ use Rattle.writing.specs.Answer.{textAnswer, textOut}
 use Rattle.entry.specs.Entered.{enteredAnswer, enteredOut}
 use Rattle.entry.specs.Run as run
 use Rattle.tlv.specs.declared.Stretch as tlv
-use Rattle.lamphudet.specs.declared.AnswerInC.{AnswerInC}
+use Rattle.lamphudet.specs.declared.received.AnswerInC.{AnswerInC}
 use Rattle.lamphudet.specs.Answer.{notRefused, refusedInC}
-use Rattle.lamphudet.specs.declared.StretchInC.{StretchInC}
+use Rattle.lamphudet.specs.declared.received.StretchInC.{StretchInC}
 
 -- what was read is entered under the house
 unfoldable pub readAnswer : ℕ → reading.Answer → List ℕ → Length

@@ -9,7 +9,7 @@ use Rattle.zone.specs.Record.{blank}
 use Rattle.entry.specs.Codes.{formCode}
 use Rattle.entry.specs.Run.{readEntry}
 use Rattle.lamphudet.specs.Calls.{isOnly}
-use Rattle.lamphudet.specs.declared.RecordInC.{RecordInC}
+use Rattle.lamphudet.specs.declared.received.RecordInC.{RecordInC}
 
 -- a number, a house and each field of a record; the form by its code in the entry
 unfoldable pub recordInC : (number house : ℕ) → Record → RecordInC

@@ -4,8 +4,8 @@ ghost use Rattle.refusal.specs.Length.{lengthOf};
 ghost use Rattle.entry.specs.Run.{onwardOf};
 ghost use Rattle.lamphudet.specs.Calls.{isOnly, writtenAnswer, writtenOut};
 ghost use Rattle.lamphudet.specs.Opened.{openedInC};
-use crate::RecordInC;
 use crate::border::record_in_c;
+use crate::received::RecordInC;
 use entry::run::Step;
 use refusal::Cause;
 use refusal::Refusal;
@@ -28,7 +28,7 @@ fn is_only(step: Step, n: usize) -> bool
     }
 }
 
-pub(crate) fn write_only(only: &[u8], out: &mut [u8]) -> Written
+pub(crate) fn write_one(only: &[u8], out: &mut [u8]) -> Written
     ensures { λ w. ⌜ lengthOf w ≡ writtenAnswer (now (only .entry)) (now (out .entry)) ⌝ }
     ensures { λ _. ⌜ now (out .exit) ≡ writtenOut (now (only .entry)) (now (out .entry)) ⌝ }
 {
@@ -42,7 +42,7 @@ pub(crate) fn write_only(only: &[u8], out: &mut [u8]) -> Written
     }
 }
 
-pub(crate) fn open_only(only: &[u8]) -> RecordInC
+pub(crate) fn open_one(only: &[u8]) -> RecordInC
     ensures { λ r. ⌜ r ≡ openedInC (now (only .entry)) ⌝ }
 {
     let standing = entry::run::next(only, 0);

@@ -7,9 +7,9 @@ ghost use Rattle.entry.specs.Run.{onwardOf};
 ghost use Rattle.lamphudet.specs.Answer.{notRefused, inC};
 ghost use Rattle.lamphudet.specs.Calls.{nextInC, stretchInC};
 ghost use Rattle.lamphudet.specs.Opened.{recordInC};
-use crate::AnswerInC;
-use crate::RecordInC;
-use crate::StretchInC;
+use crate::received::AnswerInC;
+use crate::received::RecordInC;
+use crate::received::StretchInC;
 use entry::codes::form_code;
 use entry::run::Step;
 use refusal::NO_DIGIT;
@@ -40,7 +40,7 @@ fn denied(refusal: Refusal) -> AnswerInC
     }
 }
 
-pub fn in_c(answer: Written) -> AnswerInC
+pub(crate) fn in_c(answer: Written) -> AnswerInC
     ensures { λ r. ⌜ r ≡ inC (lengthOf answer) ⌝ }
 {
     match answer {
@@ -49,7 +49,7 @@ pub fn in_c(answer: Written) -> AnswerInC
     }
 }
 
-pub fn next_in_c(step: Step) -> AnswerInC
+pub(crate) fn next_in_c(step: Step) -> AnswerInC
     ensures { λ r. ⌜ r ≡ nextInC (onwardOf step) ⌝ }
 {
     match step {
@@ -60,7 +60,7 @@ pub fn next_in_c(step: Step) -> AnswerInC
 }
 
 // A stretch ends where it starts, or behind it.
-pub fn stretch_in_c(v: tlv::Stretch) -> StretchInC
+pub(crate) fn stretch_in_c(v: tlv::Stretch) -> StretchInC
     ensures { λ r. ⌜ r ≡ stretchInC v ⌝ }
 {
     let length = if v.from <= v.to { v.to - v.from } else { 0 };

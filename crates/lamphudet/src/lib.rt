@@ -12,45 +12,14 @@ ghost use Rattle.lamphudet.specs.Opened.{openedInC};
 use crate::border::in_c;
 use crate::border::next_in_c;
 use crate::border::stretch_in_c;
-use zone::form::Form;
+use crate::received::AnswerInC;
+use crate::received::RecordInC;
+use crate::received::StretchInC;
 use zone::form::Source;
 
 mod as_entry;
 mod border;
-
-// What C receives: number 0 and how many octets were written or where a run goes on, or the refusal's number and its place.
-// With a wrong check digit, 9, stands the digit that was expected, and 255 else.
-#[repr(C)]
-pub struct AnswerInC {
-    pub number: u32,
-    pub expected: u32,
-    pub value: u64,
-}
-
-// A part of what was lent: empty where both are 0.
-#[repr(C)]
-pub struct StretchInC {
-    pub start: u64,
-    pub length: u64,
-}
-
-// What an entry holds: number 0, the house and the record; or 18, house 0 and the blank record. Places past a length are fillers.
-#[repr(C)]
-pub struct RecordInC {
-    pub number: u32,
-    pub house: u32,
-    pub form: u8,
-    pub sex: u8,
-    pub document_number_len: u8,
-    pub name_len: u8,
-    pub code: [u8; Form::CODE],
-    pub state: [u8; Form::STATE],
-    pub nationality: [u8; Form::STATE],
-    pub birth: [u8; Form::DATE],
-    pub expiry: [u8; Form::DATE],
-    pub document_number: [u8; Form::NUMBER],
-    pub name: [u8; Form::NAME],
-}
+pub mod received;
 
 // A text is read, and its record entered under a house.
 #[no_mangle]
@@ -86,7 +55,7 @@ pub extern "C" fn lamphudet_write_text(entry: &[u8], text: &mut [u8]) -> AnswerI
     ensures { λ r. ⌜ r ≡ inC (writtenAnswer (now (entry .entry)) (now (text .entry))) ⌝ }
     ensures { λ _. ⌜ now (text .exit) ≡ writtenOut (now (entry .entry)) (now (text .entry)) ⌝ }
 {
-    in_c(as_entry::write_only(entry, text))
+    in_c(as_entry::write_one(entry, text))
 }
 
 // The house and the record of exactly one entry.
@@ -94,7 +63,7 @@ pub extern "C" fn lamphudet_write_text(entry: &[u8], text: &mut [u8]) -> AnswerI
 pub extern "C" fn lamphudet_open_entry(entry: &[u8]) -> RecordInC
     ensures { λ r. ⌜ r ≡ openedInC (now (entry .entry)) ⌝ }
 {
-    as_entry::open_only(entry)
+    as_entry::open_one(entry)
 }
 
 // Where a run of entries goes on.

@@ -10,9 +10,9 @@ use Rattle.seal_fields.specs.declared.day.Day.{Day}
 use Rattle.seal_header.specs.declared.header.Header.{Header}
 use Rattle.seal_header.specs.Header.{blankHeader}
 use Rattle.seal.specs.Seal.{readSeal}
-use Rattle.lamphudet_seals.specs.declared.DayInC.{DayInC}
-use Rattle.lamphudet_seals.specs.declared.StretchInC.{StretchInC}
-use Rattle.lamphudet_seals.specs.declared.SealInC.{SealInC}
+use Rattle.lamphudet_seals.specs.declared.received.DayInC.{DayInC}
+use Rattle.lamphudet_seals.specs.declared.received.StretchInC.{StretchInC}
+use Rattle.lamphudet_seals.specs.declared.received.SealInC.{SealInC}
 
 unfoldable pub dayInC : Day → DayInC
 dayInC d = record { year = d .year; month = d .month; day = d .day }

@@ -2,9 +2,9 @@
 ghost use mathlib.Core.Path.{_≡_};
 ghost use Rattle.refusal.specs.Length.{lengthOf};
 ghost use Rattle.lamphudet_seals.specs.Answer.{dayInC, stretchInC, fieldsInC, sealInC};
-use crate::DayInC;
-use crate::SealInC;
-use crate::StretchInC;
+use crate::received::DayInC;
+use crate::received::SealInC;
+use crate::received::StretchInC;
 use refusal::NO_DIGIT;
 use refusal::Written;
 use seal_fields::day::Day;

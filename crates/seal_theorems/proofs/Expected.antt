@@ -29,7 +29,7 @@ use Rattle.seal.specs.Features.{features}
 use Rattle.seal.specs.Signature.{signatureAt}
 use Rattle.seal.specs.Seal.{featureOctets, textIn, placed, withText, withImage, withFeatures, withHeader, saidIn}
 use Rattle.seal.specs.Seal.{readSeal}
-use Rattle.lamphudet_seals.specs.declared.SealInC.{SealInC}
+use Rattle.lamphudet_seals.specs.declared.received.SealInC.{SealInC}
 use Rattle.lamphudet_seals.specs.Answer.{fieldsInC, sealInC, readSealInC}
 use Rattle.run_theorems.specs.Expected.{DigitTold}
 use Rattle.run_theorems.specs.Expected.{numberTold, expectedTold, valueTold}

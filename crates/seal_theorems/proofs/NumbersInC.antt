@@ -19,7 +19,7 @@ use Rattle.entry.specs.Entered.{enteredAnswer}
 use Rattle.entry.proofs.Entered.{Enters}
 use Rattle.seal_header.specs.declared.header.Header.{Header}
 use Rattle.seal.specs.Seal.{readSeal}
-use Rattle.lamphudet_seals.specs.declared.SealInC.{SealInC}
+use Rattle.lamphudet_seals.specs.declared.received.SealInC.{SealInC}
 use Rattle.lamphudet_seals.specs.Answer.{fieldsInC, sealInC, readSealInC, readSealOut}
 use Rattle.run_theorems.specs.EveryCall.{AnswersInC}
 use Rattle.run_theorems.proofs.EveryCall.{entered-answers, answers-in-c}

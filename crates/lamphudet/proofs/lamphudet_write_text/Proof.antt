@@ -10,4 +10,4 @@ lamphudet-write-text-spec =
     (λ c κs. search needs)
     (λ c κs. search needs)
     (λ c. search needs)
-    (λ c. let w = c .before .before .before .write-only .ensures in (rw (c .in-c .ensures, w .0), w .1)))
+    (λ c. let w = c .before .before .before .write-one .ensures in (rw (c .in-c .ensures, w .0), w .1)))

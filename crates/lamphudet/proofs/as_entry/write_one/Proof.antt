@@ -3,8 +3,8 @@ use borrow.Author.Needs.{needs}
 use mathlib.Core.Path.{sym, _∙_}
 use Rattle.entry.specs.Run.{standingOf}
 use Rattle.lamphudet.specs.Calls.{writtenAnswer, writtenOut}
-use Rattle.lamphudet.proofs.as_entry.write_only.Statement.{statement}
-use Rattle.lamphudet.proofs.as_entry.write_only.Tie as tie
+use Rattle.lamphudet.proofs.as_entry.write_one.Statement.{statement}
+use Rattle.lamphudet.proofs.as_entry.write_one.Tie as tie
 
 returns : tie.Need-returns
 unfolding standingOf writtenAnswer writtenOut
@@ -22,8 +22,8 @@ returns-2 c =
     let only = sym (c .before .is-only .ensures) ∙ c .if1 .left in
     (rw (← found, only), rw (← found, only))
 
-pub write-only-spec : {M : Type 1} → statement M
-write-only-spec =
+pub write-one-spec : {M : Type 1} → statement M
+write-one-spec =
     tie.close
     (tie.spec
     (λ c κs. search needs)

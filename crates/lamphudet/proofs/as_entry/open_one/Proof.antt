@@ -7,8 +7,8 @@ use Rattle.zone.specs.Record.{blank}
 use Rattle.entry.specs.Run.{standingOf}
 use Rattle.entry.proofs.Lengths.{short-read}
 use Rattle.lamphudet.specs.Opened.{openedInC}
-use Rattle.lamphudet.proofs.as_entry.open_only.Statement.{statement}
-use Rattle.lamphudet.proofs.as_entry.open_only.Tie as tie
+use Rattle.lamphudet.proofs.as_entry.open_one.Statement.{statement}
+use Rattle.lamphudet.proofs.as_entry.open_one.Tie as tie
 
 record-in-c-requires : tie.Need-record-in-c-requires
 unfolding standingOf
@@ -35,8 +35,8 @@ returns-2 c =
     let only = sym (c .before .before .before .before .is-only .ensures) ∙ c .before .before .before .if1 .left in
     rw (c .record-in-c2 .ensures, c .before .blank .ensures, c .before .before .number .ensures, ← found, only)
 
-pub open-only-spec : {M : Type 1} → statement M
-open-only-spec =
+pub open-one-spec : {M : Type 1} → statement M
+open-one-spec =
     tie.close
     (tie.spec
     (λ c κs. search needs)
