@@ -120,24 +120,22 @@ static int expected(void)
     return 1;
 }
 
-/* The words of each refusal are apart from each other, from those of an acceptance and from those of a number that is none. */
+/* The words of each number are apart from each other, but for numbers that are none, which all have the same. */
 static int in_words(void)
 {
-    static const uint32_t numbers[] = { 0,  1,  2,  3,  4,  5,  6,  7,  8,  9,  10, 11,
-                                        12, 13, 14, 15, 16, 17, 18, 24, 25, 26, 27, UINT32_MAX };
-    const size_t count = sizeof numbers / sizeof numbers[0];
-    size_t one;
-    size_t other;
+    const char *none = lamphudet_words(UINT32_MAX);
+    uint32_t one;
+    uint32_t other;
 
-    for (one = 0; one < count; one++) {
-        for (other = one + 1; other < count; other++) {
-            if (strcmp(lamphudet_words(numbers[one]), lamphudet_words(numbers[other])) == 0) {
+    for (one = 0; one < 100; one++) {
+        for (other = one + 1; other < 100; other++) {
+            if (lamphudet_words(one) != none && strcmp(lamphudet_words(one), lamphudet_words(other)) == 0) {
                 return 0;
             }
         }
     }
-    return strcmp(lamphudet_words(9), "check digit") == 0 && lamphudet_words(19) == lamphudet_words(UINT32_MAX)
-        && lamphudet_words(23) == lamphudet_words(UINT32_MAX) && lamphudet_words(28) == lamphudet_words(UINT32_MAX);
+    return strcmp(lamphudet_words(0), none) != 0 && strcmp(lamphudet_words(9), "check digit") == 0
+        && lamphudet_words(100) == none;
 }
 
 int main(void)
