@@ -22,8 +22,8 @@ use Rattle.text.specs.Order.{characters, fieldRows}
 use Rattle.text_digits.specs.Digits.{inOrder}
 use Rattle.text.specs.Order.{verdictBy}
 use Rattle.text.specs.Read.{recordBy, answered, readBy, readText}
-use Rattle.entry.specs.Bits.{put, gathered}
-use Rattle.entry.specs.Bits as bits
+use Rattle.cells.specs.Bits.{put, gathered}
+use Rattle.cells.specs.Bits as bits
 use Rattle.entry.specs.Codes.{formCode, sexCode}
 use Rattle.entry.specs.Entry.{puts, putKey, putRest, entryOf}
 use Rattle.tlv.specs.Element.{element, tagAt, tagWidth, sizeAt, sizeOf, sized, endsWithin}

@@ -8,13 +8,14 @@ use native.Mathlib.Omega.{arith}
 use lib.ListN.{length, take, replicate, length-take}
 use Rattle.zone.specs.declared.record.Record.{Record}
 use Rattle.zone.specs.Alphabet.{every}
-use Rattle.entry.proofs.Gather.{length-put, length-puts}
-use Rattle.entry.specs.Bits.{put, gathered, octets}
+use Rattle.cells.proofs.Gather.{length-put}
+use Rattle.entry.proofs.Gather.{length-puts}
+use Rattle.cells.specs.Bits.{put, gathered, octets}
 use Rattle.entry.specs.Codes.{formCode, sexCode}
 use Rattle.entry.specs.Entry.{putKey, putRest, entryOf, size}
 use Rattle.entry.specs.Run.{spare}
-use Rattle.entry.proofs.BitsOfOctets.{bitsOf, isBit, put-bits, put-followed, put-zeros}
-use Rattle.entry.proofs.OctetsOfBits.{gathered-zeros, bits-octets}
+use Rattle.cells.proofs.BitsOfOctets.{bitsOf, isBit, put-bits, put-followed, put-zeros}
+use Rattle.cells.proofs.OctetsOfBits.{gathered-zeros, bits-octets}
 use Rattle.entry.proofs.FieldBits.{puts-followed, puts-bits}
 use Rattle.sound.proofs.SoundRecord.{Sound}
 use Rattle.entry.proofs.Gather as gather

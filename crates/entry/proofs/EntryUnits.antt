@@ -17,21 +17,22 @@ use Rattle.zone.specs.declared.record.Record.{Record}
 use Rattle.zone.proofs.Every.{every-append, every-replicate}
 use Rattle.zone.proofs.Padded.{padded-trimmed, padded-exact, padded-spare}
 use Rattle.sound.proofs.SoundRecord.{Sound}
-use Rattle.entry.specs.Bits.{put, octets}
+use Rattle.cells.specs.Bits.{put, octets}
 use Rattle.entry.specs.Codes.{formCode, sexCode}
 use Rattle.entry.specs.Entry.{puts, putKey, putRest, entryOf, size}
 use Rattle.entry.specs.Inner.Units.{packed, before, front, unitsOf}
 use Rattle.entry.specs.Run.{spare}
-use Rattle.entry.proofs.Gather.{put-halves, puts-append, length-put, length-puts, length-gathered}
-use Rattle.entry.proofs.BitsOfOctets.{isBit, put-bits, put-followed, put-zeros}
-use Rattle.entry.proofs.OctetsOfBits.{gathered-eight, gathered-zeros}
+use Rattle.cells.proofs.Gather.{put-halves, length-put, length-gathered}
+use Rattle.entry.proofs.Gather.{puts-append, length-puts}
+use Rattle.cells.proofs.BitsOfOctets.{isBit, put-bits, put-followed, put-zeros}
+use Rattle.cells.proofs.OctetsOfBits.{gathered-eight, gathered-zeros, octets-append}
 use Rattle.entry.proofs.FieldBits.{puts-followed, puts-bits}
 use Rattle.entry.proofs.FormsAndSexes.{form-tells, sex-tells}
 use Rattle.entry.proofs.EntryBits.{name-taken, whole-octets, spare-few}
 use Rattle.entry.proofs.Packing.{length-packed, packed-cut}
 use Rattle.entry.proofs.Placing.{sound-before}
 use Rattle.entry.proofs.UnitBits.{putUnits, puts-units, units-append, units-followed, units-bits, length-units, isUnit}
-use Rattle.entry.proofs.UnitBits.{units-of, unit-more, octets-packed, octets-append}
+use Rattle.entry.proofs.UnitBits.{units-of, unit-more, octets-packed}
 
 -- ---- house and form, and the sex
 

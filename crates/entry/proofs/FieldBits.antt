@@ -9,13 +9,13 @@ use lib.ListN.{length, take, drop, length-drop}
 use lib.Seq.{drop-drop, take-add}
 use Rattle.lent.proofs.Bools.{and-both}
 use Rattle.zone.specs.Alphabet.{isCharacter, every}
-use Rattle.entry.specs.Bits.{put, bitsAt}
+use Rattle.cells.specs.Bits.{put, bitsAt}
 use Rattle.zone.specs.Codes.{codeOf, characterOf}
 use Rattle.entry.specs.Entry.{puts}
 use Rattle.entry.specs.Run.{charactersAt}
 use Rattle.zone.proofs.Every.{every-drop}
-use Rattle.entry.proofs.BitsOfOctets.{bitsOf, worth, number-place, worth-put, drop-put, isBit, put-bits, bits-of}
-use Rattle.entry.proofs.BitsOfOctets.{put-worth, put-followed}
+use Rattle.cells.proofs.BitsOfOctets.{bitsOf, worth, number-place, worth-put, drop-put, isBit, put-bits, bits-of}
+use Rattle.cells.proofs.BitsOfOctets.{put-worth, put-followed}
 use Rattle.zone.proofs.Coding.{isTold, code-tells, tells-code}
 
 -- ---- characters put

@@ -12,7 +12,7 @@ use lib.ListN.{length, take, drop, getD, set}
 use Rattle.lent.specs.Copied.{copied}
 use Rattle.lent.proofs.Bools.{and-both}
 use Rattle.lent.proofs.Lists.{copy-more, copy-ends}
-use Rattle.entry.specs.Bits.{bitsAt}
+use Rattle.cells.specs.Bits.{bitsAt}
 use Rattle.zone.specs.Codes.{characterOf}
 use Rattle.entry.specs.Parts.{allBits}
 use Rattle.entry.specs.Entry.{size}

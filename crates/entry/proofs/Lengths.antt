@@ -16,7 +16,7 @@ use Rattle.entry.specs.Parts as part
 use Rattle.entry.specs.Parts.{start, width}
 use Rattle.entry.specs.Run.{Standing, charactersIn, nameLength, recordIn, formIn, isEntry, noEntry, entryBy, readEntry}
 use Rattle.entry.proofs.Fields.{length-characters}
-use Rattle.entry.proofs.Shifts.{bits-below}
+use Rattle.cells.proofs.Shifts.{bits-below}
 
 pub record Short (r : Record) : Type 0 where
   pub number-short : r .«number_len» ≤ numberRoom

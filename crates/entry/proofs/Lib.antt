@@ -1,16 +1,13 @@
 -- The laws of this crate.
-pub mod Gather  -- `put` and `gathered`: numbers written in bits, one after the other, by eights; the octets of an entry
+pub mod Gather  -- the characters of an entry in bits, and its length
 pub mod Placing  -- the units of an entry, from the fields of a record
 pub mod Packing  -- the loops over units of six bits: their codes, and `packed`
 pub mod Fits  -- what may be entered fits the bits that it has
-pub mod Shifts  -- `bitsAt`: up to sixteen bits are a field of two octets
 pub mod Fields  -- `charactersAt`, and what a whole entry says of its octets
 pub mod Unpacking  -- three octets read as four characters
 pub mod Spreading  -- an entry spread out to whole units
 pub mod Lengths  -- the lengths of a record that is read fit an octet
 pub mod FormsAndSexes  -- the codes of forms and sexes tell them
-pub mod BitsOfOctets  -- a range of octets as its bits
-pub mod OctetsOfBits  -- bits gathered by eights
 pub mod FieldBits  -- numbers and characters in bits, put and read
 pub mod UnitBits  -- units of six bits as bits
 pub mod EntryBits  -- the bits of an entry

@@ -17,7 +17,7 @@ use Rattle.zone.specs.Alphabet.{filler}
 use Rattle.zone.specs.Codes.{characterOf}
 use Rattle.zone.specs.Record.{padded}
 use Rattle.zone.proofs.Padded.{copied-padded, padded-spare, padded-exact, length-padded}
-use Rattle.entry.specs.Bits.{bit, bitsAt}
+use Rattle.cells.specs.Bits.{bit, bitsAt}
 use Rattle.entry.specs.Entry.{size}
 use Rattle.entry.specs.Inner.Units.{spread, unpacked, unitsIn}
 use Rattle.entry.specs.Run.{charactersAt, spare}

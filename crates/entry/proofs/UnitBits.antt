@@ -1,4 +1,4 @@
--- Units of six bits as bits: what four of them say is what their three octets say, and whole octets stand before others.
+-- Units of six bits as bits: what four of them say is what their three octets say.
 use Prim.Native.Nat.{ℕ, zero, suc, _+_, _-_, _*_, _/_, _%_, _^_, _<_}
 use mathlib.Core.Path.{_≡_, refl, ap, sym, _∙_}
 use mathlib.Core.Bool.{Bool, true, _&&_}
@@ -13,12 +13,12 @@ use Rattle.zone.specs.Alphabet.{isCharacter, every}
 use Rattle.zone.specs.Codes.{codeOf}
 use Rattle.zone.proofs.Coding.{isTold, code-tells}
 use Rattle.zone.proofs.Every.{every-drop}
-use Rattle.entry.specs.Bits.{put, gathered, octets}
+use Rattle.cells.specs.Bits.{put, gathered, octets}
 use Rattle.entry.specs.Entry.{puts}
 use Rattle.entry.specs.Inner.Units.{four, packed}
-use Rattle.entry.proofs.Gather.{put-low, put-halves, length-put}
-use Rattle.entry.proofs.BitsOfOctets.{isBit, put-bits, put-followed, worth, worth-lt}
-use Rattle.entry.proofs.OctetsOfBits.{gathered-eight, first-eight, octets-first}
+use Rattle.cells.proofs.Gather.{put-low, put-halves, length-put}
+use Rattle.cells.proofs.BitsOfOctets.{isBit, put-bits, put-followed, worth, worth-lt}
+use Rattle.cells.proofs.OctetsOfBits.{gathered-eight, first-eight, octets-first}
 
 -- ---- units put one after the other
 
@@ -103,17 +103,3 @@ octets-packed k (a ∷ (b ∷ (c ∷ (d ∷ s)))) e p =
     ∙ octets-three (four a b c d) (putUnits s [])
     ∙ ap (λ (l : List ℕ). (four a b c d / 65536 % 256) ∷ (four a b c d / 256 % 256) ∷ (four a b c d % 256) ∷ l)
     (octets-packed (k - 1) s (omega arith) (pd .1))
-
--- ---- whole octets before others
-
-pub octets-append : (q : ℕ) (b t : List ℕ) → every isBit b ≡ true → length b ≡ 8 * q → octets (b ++ t) ≡ octets b ++ octets t
-unfolding octets gathered
-octets-append zero b t e h = let none : b ≡ [] = drop-of-length-le b {i = 0} (le-of-eq h) in rw none
-octets-append (suc q) b t e h =
-    let w = worth 8 b in
-    let left : length (drop 8 b) ≡ 8 * q = rw (length-drop 8 b) (omega arith) in
-    let front : b ++ t ≡ put 8 w (drop 8 b ++ t) = ap (λ (l : List ℕ). l ++ t) (first-eight b e (omega arith))
-    ∙ put-followed 8 w (drop 8 b) t in
-    ap octets front ∙ gathered-eight w (drop 8 b ++ t) (worth-lt 8 b e)
-    ∙ ap (λ (l : List ℕ). w ∷ l) (octets-append q (drop 8 b) t (every-drop isBit 8 b e) left)
-    ∙ sym (ap (λ (l : List ℕ). l ++ octets t) (octets-first b e (omega arith)))

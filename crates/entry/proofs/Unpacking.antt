@@ -9,9 +9,9 @@ use lib.ListN.{length, take, drop, getD, set}
 use lib.Pow.{pow-add}
 use Rattle.lent.specs.Copied.{copied}
 use Rattle.zone.specs.Codes.{characterOf}
-use Rattle.entry.specs.Bits.{bit, bitsAt}
+use Rattle.cells.specs.Bits.{bit, bitsAt}
 use Rattle.entry.specs.Run.{charactersAt}
-use Rattle.entry.proofs.Shifts.{pair, bits-of-pair, bits-below}
+use Rattle.cells.proofs.Shifts.{pair, bits-of-pair, bits-below}
 use Rattle.entry.proofs.Fields.{unpack-more, unpack-ends}
 
 -- ---- bits one behind the other

@@ -13,7 +13,7 @@ use Rattle.zone.specs.declared.record.Record.{Record}
 use Rattle.sound.specs.Sound.{isSound}
 use Rattle.entry.specs.Parts as part
 use Rattle.entry.specs.Parts.{width, allBits}
-use Rattle.entry.specs.Bits.{put, octets}
+use Rattle.cells.specs.Bits.{put, octets}
 use Rattle.entry.specs.Codes.{formCode, sexCode}
 use Rattle.zone.specs.Codes.{codeOf}
 

@@ -14,7 +14,7 @@ use Rattle.zone.specs.Record.{blank, trimmedLength, padded}
 use Rattle.sound.specs.Sound.{isSound}
 use Rattle.entry.specs.Parts as part
 use Rattle.entry.specs.Parts.{Part, start, width, allBits}
-use Rattle.entry.specs.Bits.{bitsAt}
+use Rattle.cells.specs.Bits.{bitsAt}
 use Rattle.entry.specs.Codes.{formBy, sexBy}
 use Rattle.zone.specs.Codes.{characterOf}
 use Rattle.entry.specs.Entry.{size, isHouse}

@@ -2,7 +2,7 @@
 // read bit by bit.
 ghost use mathlib.Core.Path.{_≡_};
 ghost use Prim.Native.Nat.{_+_, _%_, _≤_, _<_};
-ghost use Rattle.entry.specs.Bits.{bitsAt};
+ghost use Rattle.cells.specs.Bits.{bitsAt};
 
 pub(crate) fn wide(octet: u8) -> u32
     ensures { λ r. ⌜ (r ≡ octet) × (r < 256) ⌝ }

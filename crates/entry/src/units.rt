@@ -5,7 +5,7 @@ ghost use Prim.Native.Nat.{_+_, _*_, _/_, _%_, _≤_, _<_};
 ghost use lib.ListN.{length, set};
 ghost use Rattle.lent.specs.Copied.{copied};
 ghost use Rattle.zone.specs.Codes.{codeOf};
-ghost use Rattle.entry.specs.Bits.{bitsAt};
+ghost use Rattle.cells.specs.Bits.{bitsAt};
 ghost use Rattle.entry.specs.Inner.Units.{fourAt, packed};
 ghost use Rattle.entry.specs.Run.{charactersAt};
 use crate::bits::wide;

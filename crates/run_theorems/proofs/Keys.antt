@@ -16,13 +16,13 @@ use Rattle.zone.proofs.Padded.{padded-exact, padded-trimmed}
 use Rattle.zone.specs.Alphabet.{every}
 use Rattle.sound.specs.Sound.{isSound}
 use Rattle.text.specs.Read.{readText}
-use Rattle.entry.specs.Bits.{put, octets}
+use Rattle.cells.specs.Bits.{put, octets}
 use Rattle.entry.specs.Entry.{putKey, putRest, size, isHouse}
 use Rattle.entry.specs.Run.{spare}
 use Rattle.run_theorems.specs.Keys.{keyOf, wholeNumber, SameKey}
 use Rattle.text_theorems.proofs.RecordOfText.{kept-and-sound}
-use Rattle.entry.proofs.BitsOfOctets.{bitsOf, isBit}
-use Rattle.entry.proofs.OctetsOfBits.{bits-octets, take-octets}
+use Rattle.cells.proofs.BitsOfOctets.{bitsOf, isBit}
+use Rattle.cells.proofs.OctetsOfBits.{bits-octets, take-octets}
 use Rattle.sound.proofs.SoundRecord.{Sound, taken-apart}
 use Rattle.entry.proofs.EntryBits.{entryBits, key-followed, key-bits, length-key, length-entry-bits, entry-bits-bits}
 use Rattle.entry.proofs.EntryBits.{entry-filled}

@@ -21,8 +21,8 @@ use Rattle.zone.specs.Alphabet.{isCharacter, every}
 use Rattle.zone.proofs.Padded.{take-padded}
 use Rattle.sound.specs.Sound.{isSound}
 use Rattle.entry.proofs.Fields.{length-characters}
-use Rattle.entry.proofs.Shifts.{bits-below}
-use Rattle.entry.specs.Bits.{put, octets, bitsAt}
+use Rattle.cells.proofs.Shifts.{bits-below}
+use Rattle.cells.specs.Bits.{put, octets, bitsAt}
 use Rattle.entry.specs.Codes.{formCode, sexCode, sexBy}
 use Rattle.entry.specs.Entry.{puts, putKey, putRest, entryOf, size, isHouse}
 use Rattle.entry.specs.Run.{Standing, next, none, refused, charactersAt, houseIn, formIn, nameLength, recordIn, spare, isWhole}
@@ -30,8 +30,8 @@ use Rattle.entry.specs.Run.{isEntry, entryBy, noEntry, readEntry}
 use Rattle.zone.specs.Octets.{isOctet, areOctets}
 use Rattle.run_theorems.specs.Runs.{Passed}
 use Rattle.zone.proofs.Every.{every-take, every-drop, every-each}
-use Rattle.entry.proofs.BitsOfOctets.{bitsOf, length-bits, bits-append}
-use Rattle.entry.proofs.OctetsOfBits.{octets-bits}
+use Rattle.cells.proofs.BitsOfOctets.{bitsOf, length-bits, bits-append}
+use Rattle.cells.proofs.OctetsOfBits.{octets-bits}
 use Rattle.entry.proofs.FormsAndSexes.{tells-form, tells-sex}
 use Rattle.sound.proofs.SoundRecord.{Sound, taken-apart}
 use Rattle.entry.proofs.FieldBits.{put-number, puts-characters}

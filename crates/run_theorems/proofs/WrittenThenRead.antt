@@ -16,13 +16,13 @@ use Rattle.zone.specs.declared.record.Record.{Record}
 use Rattle.zone.specs.Record.{trimmedLength, trimmed, padded}
 use Rattle.zone.proofs.Padded.{padded-exact, padded-trimmed}
 use Rattle.sound.specs.Sound.{isSound}
-use Rattle.entry.specs.Bits.{put, bitsAt}
+use Rattle.cells.specs.Bits.{put, bitsAt}
 use Rattle.entry.specs.Codes.{formCode, formBy, sexCode, sexBy}
 use Rattle.entry.specs.Entry.{puts, putKey, putRest, entryOf, size, isHouse}
 use Rattle.entry.specs.Run.{next, charactersAt, houseIn, formIn, nameLength, recordIn, spare, isWhole, isEntry, entryBy}
 use Rattle.entry.specs.Run.{readEntry}
 use Rattle.zone.proofs.Every.{every-take}
-use Rattle.entry.proofs.BitsOfOctets.{bitsOf, bits-append, put-followed}
+use Rattle.cells.proofs.BitsOfOctets.{bitsOf, bits-append, put-followed}
 use Rattle.entry.proofs.FormsAndSexes.{form-tells, sex-tells}
 use Rattle.sound.proofs.SoundRecord.{Sound, taken-apart}
 use Rattle.entry.proofs.FieldBits.{next-put, next-puts, number-read, characters-read}

@@ -3,7 +3,7 @@ use borrow.Author.Needs.{needs}
 use denote.Ref.{now}
 use mathlib.Core.Path.{_∙_}
 use native.Mathlib.Omega.{arith}
-use Rattle.entry.proofs.Shifts.{power-kept-above, bits-read}
+use Rattle.cells.proofs.Shifts.{power-kept-above, bits-read}
 use Rattle.entry.proofs.bits.bits.Statement.{statement}
 use Rattle.entry.proofs.bits.bits.Tie as tie
 

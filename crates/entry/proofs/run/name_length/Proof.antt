@@ -2,7 +2,7 @@
 use borrow.Author.Needs.{needs}
 use denote.Ref.{now}
 use Rattle.entry.specs.Run.{nameLength}
-use Rattle.entry.proofs.Shifts.{bits-below}
+use Rattle.cells.proofs.Shifts.{bits-below}
 use Rattle.entry.proofs.run.name_length.Statement.{statement}
 use Rattle.entry.proofs.run.name_length.Tie as tie
 

@@ -14,9 +14,9 @@ use Rattle.lent.proofs.Bools.{and-both}
 use Rattle.zone.specs.Alphabet.{every}
 use Rattle.zone.specs.Octets.{isOctet, areOctets}
 use Rattle.zone.proofs.Every.{every-drop}
-use Rattle.entry.proofs.Gather.{gathered-over}
-use Rattle.entry.specs.Bits.{put, gathered, octets}
-use Rattle.entry.proofs.BitsOfOctets.{bitsOf, isBit, put-worth, put-zeros, worth, worth-lt}
+use Rattle.cells.proofs.Gather.{gathered-over}
+use Rattle.cells.specs.Bits.{put, gathered, octets}
+use Rattle.cells.proofs.BitsOfOctets.{bitsOf, isBit, put-followed, put-worth, put-zeros, worth, worth-lt}
 
 pub gathered-eight : (c : ℕ) (t : List ℕ) → c < 256 → octets (put 8 c t) ≡ c ∷ octets t
 unfolding octets
@@ -31,6 +31,19 @@ first-eight b e h = sym (put-worth 8 b (drop 8 b) e h ∙ take-append-drop 8 b)
 
 pub octets-first : (b : List ℕ) → every isBit b ≡ true → 8 ≤ length b → octets b ≡ worth 8 b ∷ octets (drop 8 b)
 octets-first b e h = ap octets (first-eight b e h) ∙ gathered-eight (worth 8 b) (drop 8 b) (worth-lt 8 b e)
+
+-- whole octets before others
+pub octets-append : (q : ℕ) (b t : List ℕ) → every isBit b ≡ true → length b ≡ 8 * q → octets (b ++ t) ≡ octets b ++ octets t
+unfolding octets gathered
+octets-append zero b t e h = let none : b ≡ [] = drop-of-length-le b {i = 0} (le-of-eq h) in rw none
+octets-append (suc q) b t e h =
+    let w = worth 8 b in
+    let left : length (drop 8 b) ≡ 8 * q = rw (length-drop 8 b) (omega arith) in
+    let front : b ++ t ≡ put 8 w (drop 8 b ++ t) = ap (λ (l : List ℕ). l ++ t) (first-eight b e (omega arith))
+    ∙ put-followed 8 w (drop 8 b) t in
+    ap octets front ∙ gathered-eight w (drop 8 b ++ t) (worth-lt 8 b e)
+    ∙ ap (λ (l : List ℕ). w ∷ l) (octets-append q (drop 8 b) t (every-drop isBit 8 b e) left)
+    ∙ sym (ap (λ (l : List ℕ). l ++ octets t) (octets-first b e (omega arith)))
 
 -- the bits of whole octets are those that were gathered
 pub bits-octets : (q : ℕ) (b : List ℕ) → every isBit b ≡ true → length b ≡ 8 * q → bitsOf (octets b) ≡ b

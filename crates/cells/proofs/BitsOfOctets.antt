@@ -14,8 +14,8 @@ use lib.Pow.{mod-pow-add, high}
 use lib.Seq.{getD-drop, drop-drop}
 use Rattle.lent.proofs.Bools.{and-both}
 use Rattle.zone.specs.Alphabet.{every}
-use Rattle.entry.proofs.Gather.{put-above, length-put}
-use Rattle.entry.specs.Bits.{put, bit, bitsAt}
+use Rattle.cells.proofs.Gather.{put-above, length-put}
+use Rattle.cells.specs.Bits.{put, bit, bitsAt}
 
 -- ---- bits read
 

@@ -10,7 +10,7 @@ use lib.Arith.{digits-lt}
 use lib.Dec.{ltb, lit<}
 use lib.ListN.{getD}
 use lib.Pow.{pow-pos, pow-lt, shr-shr, field, mod-mod-pow, mod-pow-add, high, low}
-use Rattle.entry.specs.Bits.{bit, bitsAt}
+use Rattle.cells.specs.Bits.{bit, bitsAt}
 
 -- a bit of the first octet of two, with m bits below it in the octet
 first-octet : (a b m : ℕ) → b < 256 → (a / 2 ^ m) % 2 ≡ ((a * 256 + b) / 2 ^ (8 + m)) % 2

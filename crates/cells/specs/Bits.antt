@@ -1,6 +1,5 @@
 -- Bits, the most significant first: document 01, "The entry". Written, a number goes before the bits that follow it; read, it
--- is the bits
--- from a place on.
+-- is the bits from a place on.
 use Prim.Native.Nat.{ℕ, zero, suc, _+_, _-_, _*_, _/_, _%_, _^_}
 use mathlib.Core.Bool.{cond}
 use mathlib.Core.List.{List, [], _∷_}
