@@ -3,3 +3,7 @@ pub mod Gather  -- `put` and `gathered`: numbers written in bits, one after the 
 pub mod BitsOfOctets  -- a range of octets as its bits
 pub mod OctetsOfBits  -- bits gathered by eights
 pub mod Shifts  -- `bitsAt`: up to sixteen bits are a field of two octets
+pub mod Fitting  -- what fits a row
+pub mod Putting  -- the values of a row put into bits
+pub mod ReadingBack  -- the values of a row read from bits, and put again
+pub mod RowOctets  -- the octets of a row: read back, whole, and the first cells
