@@ -135,3 +135,11 @@ pub put-zeros : (m : ℕ) (t : List ℕ) → put m 0 t ≡ replicate m 0 ++ t
 unfolding put
 put-zeros zero t = refl
 put-zeros (suc m) t = rw (zero-div (2 ^ m), put-zeros m t)
+
+pub drop-bits : (n : ℕ) (s : List ℕ) → drop (8 * n) (bitsOf s) ≡ bitsOf (drop n s)
+unfolding bitsOf
+drop-bits zero s = refl
+drop-bits (suc n) [] = let none : 8 * suc n ≡ suc (7 + 8 * n) = omega arith in rw none
+drop-bits (suc n) (c ∷ s) =
+    let e : 8 * suc n ≡ 8 + 8 * n = omega arith in
+    rw e (sym (drop-drop (8 * n) 8 (put 8 c (bitsOf s))) ∙ ap (drop (8 * n)) (drop-put 8 c (bitsOf s)) ∙ drop-bits n s)

@@ -10,7 +10,7 @@ use Rattle.cells.specs.Bits.{put}
 use Rattle.cells.specs.Cells.{Cell, fixed, counted, putAll, putCell, putRow, rowBits}
 use Rattle.cells.proofs.Gather.{length-put}
 use Rattle.cells.proofs.BitsOfOctets.{isBit, put-bits, put-followed}
-use Rattle.cells.proofs.Fitting.{FitsCell, Fits, counts}
+use Rattle.cells.proofs.Fitting.{Sized, counts}
 
 -- ---- numbers of one width
 
@@ -62,20 +62,20 @@ row-bits [] vs t e = e
 row-bits (c ∷ cs) [] t e = e
 row-bits (c ∷ cs) (v ∷ vs) t e = cell-bits c v (putRow cs vs t) (row-bits cs vs t e)
 
-pub length-row : (cs : List Cell) (vs : List (List ℕ)) (t : List ℕ) → Fits cs vs
+pub length-row : (cs : List Cell) (vs : List (List ℕ)) (t : List ℕ) → Sized cs vs
     → length (putRow cs vs t) ≡ rowBits cs (counts cs vs) + length t
 unfolding putRow putCell
 length-row [] [] t f = omega arith
 length-row [] (v ∷ vs) t f = absurd f
 length-row (c ∷ cs) [] t f = absurd f
 length-row (fixed n w ∷ cs) (v ∷ vs) t f =
-    length-all w v (putRow cs vs t) ∙ rw (f .0 .0, length-row cs vs t (f .1)) (omega arith)
+    length-all w v (putRow cs vs t) ∙ rw (f .0, length-row cs vs t (f .1)) (omega arith)
 length-row (counted k w ∷ cs) (v ∷ vs) t f =
     length-put k (length v) (putAll w v (putRow cs vs t))
     ∙ rw (length-all w v (putRow cs vs t), length-row cs vs t (f .1)) (omega arith)
 
 -- one row behind another
-pub row-append : (a b : List Cell) (u v : List (List ℕ)) (t : List ℕ) → Fits a u
+pub row-append : (a b : List Cell) (u v : List (List ℕ)) (t : List ℕ) → Sized a u
     → putRow (a ++ b) (u ++ v) t ≡ putRow a u (putRow b v t)
 unfolding putRow
 row-append [] b [] v t f = refl

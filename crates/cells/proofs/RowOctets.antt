@@ -1,25 +1,25 @@
 -- The octets of a row: what they say, whatever follows them; how many they are; that octets which are whole are those of what
 -- they say; and that a row begins with the octets of its first cells.
-use Prim.Native.Nat.{ℕ, zero, suc, _+_, _-_, _*_, _/_, _^_, _≤_, _<_}
+use Prim.Native.Nat.{ℕ, _+_, _-_, _*_, _≤_, _<_}
 use mathlib.Core.Path.{_≡_, refl, ap, sym, _∙_}
 use mathlib.Core.Bool.{true}
-use mathlib.Core.List.{List, [], _∷_, _++_, append-nil}
+use mathlib.Core.List.{List, [], _∷_, _++_, append-nil, append-assoc}
 use native.Mathlib.Omega.{arith}
 use borrow.Author.Tests.{leb-true, le-leb, eqb-true}
 use lib.Dec.{leb, eqb}
-use lib.ListN.{length, take, drop, replicate, length-append, length-drop}
+use lib.ListN.{length, take, drop, replicate, length-append, replicate-append-replicate}
 use lib.Pow.{pow-pos}
-use lib.Seq.{drop-drop, take-at}
+use lib.Seq.{take-at}
 use Rattle.lent.proofs.Bools.{and-both}
 use Rattle.zone.specs.Alphabet.{every}
 use Rattle.zone.specs.Octets.{isOctet, areOctets}
-use Rattle.zone.proofs.Every.{every-drop}
+use Rattle.zone.proofs.Every.{every-append, every-drop}
 use Rattle.cells.specs.Bits.{put, gathered, octets, bitsAt}
 use Rattle.cells.specs.Cells.{Cell, putRow, octetsOf, rowBits, roundedUp, valuesAt, rowEnd, spareBits, isWholeRow}
 use Rattle.cells.proofs.Gather.{length-gathered, length-put}
-use Rattle.cells.proofs.BitsOfOctets.{bitsOf, isBit, put-bits, put-zeros, put-followed, drop-put, length-bits, bits-append}
+use Rattle.cells.proofs.BitsOfOctets.{bitsOf, isBit, put-bits, put-zeros, put-followed, length-bits, bits-append, drop-bits}
 use Rattle.cells.proofs.OctetsOfBits.{bits-octets, octets-append, octets-bits, gathered-zeros}
-use Rattle.cells.proofs.Fitting.{Fits, counts}
+use Rattle.cells.proofs.Fitting.{Fits, Sized, fits-sized, counts}
 use Rattle.cells.proofs.Putting.{row-followed, row-bits, length-row, row-append}
 use Rattle.cells.proofs.ReadingBack.{RowRead, row-read, row-fits, row-end, row-there, number-read, number-there}
 
@@ -42,24 +42,53 @@ octets-filled b =
     ap (λ (l : List ℕ). gathered 0 0 (b ++ l)) (put-zeros m [] ∙ append-nil (replicate m 0))
     ∙ gathered-zeros (roundedUp (length b)) m 0 0 b (omega arith) (spare-few (length b)) (omega (arith, whole-octets (length b)))
 
+pub length-octets : (b : List ℕ) → length (octets b) ≡ roundedUp (length b)
+unfolding octets
+length-octets b = length-gathered 0 0 b (omega arith) ∙ omega arith
+
+-- and with more zero bits than that the first octets are the same
+cut-behind : (b z more : List ℕ) (q : ℕ) → every isBit (b ++ z) ≡ true → length (b ++ z) ≡ 8 * q → octets (b ++ z) ≡ octets b
+    → length (octets b) ≡ q → take q (octets (b ++ (z ++ more))) ≡ octets b
+cut-behind b z more q e h same long =
+    ap (λ (l : List ℕ). take q (octets l)) (sym (append-assoc b z more))
+    ∙ ap (take q) (octets-append q (b ++ z) more e h ∙ ap (λ (l : List ℕ). l ++ octets more) same)
+    ∙ take-at (octets b) (octets more) q long
+
+zeros-parted : (j m : ℕ) → j ≤ m → replicate {A = ℕ} m 0 ≡ put j 0 [] ++ replicate (m - j) 0
+zeros-parted j m h =
+    let same : j + (m - j) ≡ m = omega arith in
+    rw (put-zeros j [], append-nil, replicate-append-replicate, same)
+
+pub octets-cut : (b : List ℕ) (m : ℕ) → every isBit b ≡ true → spareBits (length b) ≤ m
+    → take (roundedUp (length b)) (octets (b ++ replicate m 0)) ≡ octets b
+octets-cut b m e h =
+    let j = spareBits (length b) in
+    rw (zeros-parted j m h)
+    (cut-behind b (put j 0 []) (replicate (m - j) 0) (roundedUp (length b))
+    (every-append isBit b (put j 0 []) e (put-bits j 0 [] no-bits))
+    (length-append b (put j 0 []) ∙ omega (arith, length-put j 0 [], whole-octets (length b))) (octets-filled b) (length-octets b))
+
 -- ---- written
+
+module _ (cs : List Cell) (vs : List (List ℕ)) (z : Sized cs vs) where
+  row-long : length (putRow cs vs []) ≡ rowBits cs (counts cs vs)
+  row-long = length-row cs vs [] z ∙ omega arith
+
+  pub length-octets-of : length (octetsOf cs vs) ≡ roundedUp (rowBits cs (counts cs vs))
+  unfolding octetsOf
+  length-octets-of = length-octets (putRow cs vs []) ∙ ap (λ (n : ℕ). roundedUp n) row-long
 
 module _ (cs : List Cell) (vs : List (List ℕ)) (f : Fits cs vs) where
   abbrev bits : ℕ
   bits = rowBits cs (counts cs vs)
 
-  row-long : length (putRow cs vs []) ≡ bits
-  row-long = length-row cs vs [] f ∙ omega arith
-
-  -- 278 + 6n bits rounded up, of today's row
-  pub length-octets-of : length (octetsOf cs vs) ≡ roundedUp bits
-  unfolding octetsOf octets
-  length-octets-of = length-gathered 0 0 (putRow cs vs []) (omega arith) ∙ omega (arith, row-long)
+  sized : Sized cs vs
+  sized = fits-sized cs vs f
 
   octets-of-filled : octetsOf cs vs ≡ octets (putRow cs vs (put (spareBits bits) 0 []))
   unfolding octetsOf
   octets-of-filled =
-      let e : spareBits (length (putRow cs vs [])) ≡ spareBits bits = ap (λ (n : ℕ). spareBits n) row-long in
+      let e : spareBits (length (putRow cs vs [])) ≡ spareBits bits = ap (λ (n : ℕ). spareBits n) (row-long cs vs sized) in
       sym (ap octets (sym (row-followed cs vs [] (put (spareBits bits) 0 []))
       ∙ ap (λ (n : ℕ). putRow cs vs [] ++ put n 0 []) (sym e)) ∙ octets-filled (putRow cs vs []))
 
@@ -67,7 +96,7 @@ module _ (cs : List Cell) (vs : List (List ℕ)) (f : Fits cs vs) where
   bits-octets-of =
       let b = putRow cs vs (put (spareBits bits) 0 []) in
       let long : length b ≡ 8 * roundedUp bits =
-      length-row cs vs (put (spareBits bits) 0 []) f ∙ omega (arith, length-put (spareBits bits) 0 [], whole-octets bits) in
+      length-row cs vs (put (spareBits bits) 0 []) sized ∙ omega (arith, length-put (spareBits bits) 0 [], whole-octets bits) in
       ap bitsOf octets-of-filled
       ∙ bits-octets (roundedUp bits) b (row-bits cs vs _ (put-bits (spareBits bits) 0 [] no-bits)) long
 
@@ -95,7 +124,7 @@ module _ (cs : List Cell) (vs : List (List ℕ)) (f : Fits cs vs) where
     pub octets-whole : isWholeRow cs (octetsOf cs vs ++ rest) ≡ true
     unfolding isWholeRow
     octets-whole =
-        let long : roundedUp bits ≤ length s = rw (length-append (octetsOf cs vs) rest) (omega (arith, length-octets-of)) in
+        let long : roundedUp bits ≤ length s = rw (length-append (octetsOf cs vs) rest) (omega (arith, length-octets-of cs vs sized)) in
         let there : drop bits (bitsOf s) ≡ put (spareBits bits) 0 (bitsOf rest) = rw octets-end at (read .rest-read) in
         let zeros : bitsAt s bits (spareBits bits) ≡ 0 =
         number-read s bits (spareBits bits) 0 (bitsOf rest) (pow-pos (spareBits bits)) there in
@@ -107,14 +136,6 @@ octets-tell cs u v f g e =
     sym (octets-say cs u f []) ∙ ap (λ (l : List ℕ). valuesAt cs (l ++ []) 0) e ∙ octets-say cs v g []
 
 -- ---- read
-
-drop-bits : (n : ℕ) (s : List ℕ) → drop (8 * n) (bitsOf s) ≡ bitsOf (drop n s)
-unfolding bitsOf
-drop-bits zero s = refl
-drop-bits (suc n) [] = let none : 8 * suc n ≡ suc (7 + 8 * n) = omega arith in rw none
-drop-bits (suc n) (c ∷ s) =
-    let e : 8 * suc n ≡ 8 + 8 * n = omega arith in
-    rw e (sym (drop-drop (8 * n) 8 (put 8 c (bitsOf s))) ∙ ap (drop (8 * n)) (drop-put 8 c (bitsOf s)) ∙ drop-bits n s)
 
 pub record Whole (cs : List Cell) (s : List ℕ) : Type 0 where
   pub long : roundedUp (rowEnd cs s 0) ≤ length s
@@ -129,6 +150,12 @@ whole-told cs s e =
       long = leb-true (roundedUp n) (length s) (both .0);
       zeros = eqb-true (bitsAt s n (spareBits n)) 0 (both .1);
     }
+
+-- the octets of what a range says are as many as it takes
+pub whole-length : (cs : List Cell) (s : List ℕ) → length (octetsOf cs (valuesAt cs s 0)) ≡ roundedUp (rowEnd cs s 0)
+whole-length cs s =
+    let end : rowBits cs (counts cs (valuesAt cs s 0)) ≡ rowEnd cs s 0 = sym (row-end cs s 0 ∙ omega arith) in
+    length-octets-of cs (valuesAt cs s 0) (fits-sized cs (valuesAt cs s 0) (row-fits cs s 0)) ∙ ap (λ (n : ℕ). roundedUp n) end
 
 -- octets that are whole are those of what they say, and then the rest
 pub whole-is : (cs : List Cell) (s : List ℕ) → Whole cs s → areOctets s
@@ -148,7 +175,7 @@ whole-is cs s h small =
     row-followed cs vs (put m 0 []) (bitsOf rest) ∙ ap (putRow cs vs) (put-followed m 0 [] (bitsOf rest) ∙ spare)
     ∙ row-there cs s 0 (omega arith) in
     let end : rowBits cs (counts cs vs) ≡ n = sym (row-end cs s 0 ∙ omega arith) in
-    let long : length b ≡ 8 * roundedUp n = length-row cs vs (put m 0 []) (row-fits cs s 0)
+    let long : length b ≡ 8 * roundedUp n = length-row cs vs (put m 0 []) (fits-sized cs vs (row-fits cs s 0))
     ∙ omega (arith, length-put m 0 []) in
     let front : octets b ≡ octetsOf cs vs = sym (rw end at (octets-of-filled cs vs (row-fits cs s 0))) in
     sym (octets-bits s small) ∙ ap octets (sym parts)
@@ -158,13 +185,13 @@ whole-is cs s h small =
 
 -- ---- the first cells
 
-module _ (a b : List Cell) (u v : List (List ℕ)) (q : ℕ) (f : Fits a u) (e : rowBits a (counts a u) ≡ 8 * q) where
+module _ (a b : List Cell) (u v : List (List ℕ)) (q : ℕ) (z : Sized a u) (e : rowBits a (counts a u) ≡ 8 * q) where
   pub octets-begin : take q (octetsOf (a ++ b) (u ++ v)) ≡ octetsOf a u
   unfolding octetsOf
   octets-begin =
       let t = putRow b v [] in
-      let long : length (putRow a u []) ≡ 8 * q = row-long a u f ∙ e in
-      let l : length (octets (putRow a u [])) ≡ q = length-octets-of a u f ∙ omega arith in
-      ap (λ (x : List ℕ). take q (octets x)) (row-append a b u v [] f ∙ sym (row-followed a u [] t))
+      let long : length (putRow a u []) ≡ 8 * q = row-long a u z ∙ e in
+      let l : length (octets (putRow a u [])) ≡ q = length-octets-of a u z ∙ omega arith in
+      ap (λ (x : List ℕ). take q (octets x)) (row-append a b u v [] z ∙ sym (row-followed a u [] t))
       ∙ ap (take q) (octets-append q (putRow a u []) t (row-bits a u [] no-bits) long)
       ∙ take-at (octets (putRow a u [])) (octets t) q l

@@ -17,7 +17,7 @@ use Rattle.sound.proofs.SoundRecord.{taken-apart}
 use Rattle.text.specs.Read.{Answer, readText}
 use Rattle.writing.specs.Text.{textOf}
 use Rattle.entry.specs.Entry.{entryOf, isHouse}
-use Rattle.entry.proofs.EntryBits.{length-sound-entry}
+use Rattle.entry.proofs.Values.{length-entry}
 use Rattle.entry.proofs.Entered.{entered}
 use Rattle.lamphudet.specs.Answer.{inC}
 use Rattle.lamphudet.specs.Calls.{readAnswer, readOut, isOnly, writtenAnswer, writtenOut}
@@ -46,7 +46,7 @@ module _ (out back : List ℕ) where
     again : inC (writtenAnswer (entryOf h r) out) .number ≡ 0 → length (entryOf h r) ≤ length back → Again h (entryOf h r)
     unfolding inC readAnswer readOut
     again e room =
-        let long = length-sound-entry r (taken-apart r sound) h in
+        let long = length-entry r (taken-apart r sound) h in
         let w = entered h r back passed (record { read = refl; housed = house; sound = sound; room = rw (← long) room }) in
         rw (read-as e, w .0) (refl, record { told = sym long; in-front = rw long (w .1) })
 

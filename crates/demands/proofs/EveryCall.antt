@@ -26,8 +26,8 @@ use Rattle.sha256.specs.Hash.{sha256}
 use Rattle.sha256.specs.Answer.{digestAnswer, digestOut}
 use Rattle.sha256.proofs.DigestLength.{digest-length}
 use Rattle.writing.specs.Answer.{textAnswer, textOut}
-use Rattle.entry.specs.Run as run
-use Rattle.entry.specs.Run.{readEntry}
+use Rattle.runs.specs.Run as run
+use Rattle.runs.specs.Run.{readEntry}
 use Rattle.chip.specs.Presentation.{readPresentation}
 use Rattle.lamphudet.specs.Answer.{inC}
 use Rattle.lamphudet.specs.Calls.{readAnswer, readOut, isOnly, writtenAnswer, writtenOut, nextInC}

@@ -10,7 +10,7 @@ use Rattle.refusal.specs.Length as told
 use Rattle.text.specs.Read.{readText}
 use Rattle.chip.specs.Presentation.{readPresentation}
 use Rattle.sha256.specs.Answer.{digestAnswer}
-use Rattle.entry.specs.Run as run
+use Rattle.runs.specs.Run as run
 use Rattle.lamphudet.specs.Answer.{inC}
 use Rattle.lamphudet.specs.Calls.{readAnswer, writtenAnswer, nextInC}
 use Rattle.text_theorems.proofs.Expected.{nine-tells}

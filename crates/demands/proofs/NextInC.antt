@@ -7,7 +7,7 @@ use mathlib.Core.List.{List}
 use native.Mathlib.Omega.{arith}
 use lib.ListN.{length}
 use Rattle.refusal.specs.Numbers.{Why, by}
-use Rattle.entry.specs.Run.{Onward, next, none, refused, readEntry}
+use Rattle.runs.specs.Run.{Onward, next, none, refused, readEntry}
 use Rattle.lamphudet.specs.declared.received.AnswerInC.{AnswerInC}
 use Rattle.lamphudet.specs.Calls.{nextInC}
 use Rattle.run_theorems.proofs.ListReadBack.{end-read}

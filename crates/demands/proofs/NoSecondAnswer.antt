@@ -13,10 +13,10 @@ use Rattle.text.specs.declared.read.Reading.{Reading}
 use Rattle.text.specs.Read.{Answer, answerOf, readText}
 use Rattle.writing.specs.Answer as text
 use Rattle.entry.specs.Entry.{Writes}
-use Rattle.entry.specs.Run as run
-use Rattle.entry.specs.declared.run.Step.{Step}
-use Rattle.entry.specs.declared.run.Step.the-variants.{Next, End, Refused as Stopped}
-use Rattle.entry.specs.declared.run.Standing.{Standing}
+use Rattle.runs.specs.Run as run
+use Rattle.runs.specs.declared.run.Step.{Step}
+use Rattle.runs.specs.declared.run.Step.the-variants.{Next, End, Refused as Stopped}
+use Rattle.runs.specs.declared.run.Standing.{Standing}
 
 pub answer-tells : (r s : Reading) → answerOf r ≡ answerOf s → r ≡ s
 unfolding answerOf

@@ -14,7 +14,7 @@ use Rattle.refusal.proofs.Outcomes.{refused-not-written}
 use Rattle.text.specs.Read.{readText}
 use Rattle.chip.specs.Presentation.{readPresentation}
 use Rattle.sha256.specs.Answer.{digestAnswer}
-use Rattle.entry.specs.Run.{readEntry}
+use Rattle.runs.specs.Run.{readEntry}
 use Rattle.lamphudet.specs.Answer.{inC}
 use Rattle.lamphudet.specs.Calls.{readAnswer, isOnly, writtenAnswer}
 use Rattle.lamphudet.specs.Opened.{openedInC, recordInC}

@@ -20,7 +20,7 @@ use Rattle.sound.specs.Sound.{isSound}
 use Rattle.writing.specs.Text.{textOf}
 use Rattle.writing.specs.Answer.{textAnswer, textOut}
 use Rattle.entry.specs.Entry.{entryOf, isHouse}
-use Rattle.entry.specs.Run.{Onward, next, none, refused, readEntry}
+use Rattle.runs.specs.Run.{Onward, next, none, refused, readEntry}
 use Rattle.lamphudet.specs.Answer.{inC}
 use Rattle.lamphudet.specs.Calls.{isOnly, writtenAnswer, writtenOut}
 use Rattle.text_theorems.proofs.RoundTrip.{text-length}

@@ -16,7 +16,7 @@ use Rattle.zone.specs.Form.{total}
 use Rattle.sound.specs.Sound.{isSound}
 use Rattle.sha256.specs.Answer.{digestAnswer}
 use Rattle.writing.specs.Answer.{textAnswer}
-use Rattle.entry.specs.Run.{readEntry}
+use Rattle.runs.specs.Run.{readEntry}
 use Rattle.lamphudet.specs.Calls.{isOnly, writtenAnswer}
 
 module _ (P : Length → Type 0) (ends : (n : ℕ) → P (written n))

@@ -21,7 +21,7 @@ pub record Enters (o : Outcome) (house : ℕ) (r : Record) (out : List ℕ) : Ty
   pub read : o ≡ passed
   pub housed : isHouse house ≡ true
   pub sound : isSound r ≡ true
-  pub room : size (r .«name_len») ≤ length out
+  pub room : size r ≤ length out
 
 module _ (house : ℕ) (r : Record) (out : List ℕ) where
   -- the tests before 16
@@ -30,17 +30,17 @@ module _ (house : ℕ) (r : Record) (out : List ℕ) where
 
   -- the entry is written
   pub entered : (o : Outcome) → Enters o house r out
-      → (enteredAnswer o house r out ≡ told.written (size (r .«name_len»)))
-      × (enteredOut o house r out ≡ entryOf house r ++ drop (size (r .«name_len»)) out)
+      → (enteredAnswer o house r out ≡ told.written (size r))
+      × (enteredOut o house r out ≡ entryOf house r ++ drop (size r) out)
   unfolding enteredAnswer enteredOut
   entered o h =
-      writes (size (r .«name_len»)) (entryOf house r) out (tests o) (rw (h .read, h .housed, h .sound)) (h .room)
+      writes (size r) (entryOf house r) out (tests o) (rw (h .read, h .housed, h .sound)) (h .room)
 
   -- it is written in no other case
   pub entered-only : (o : Outcome) (n : ℕ) → enteredAnswer o house r out ≡ told.written n → Enters o house r out
   unfolding enteredAnswer
   entered-only o n e =
-      let w = writes-only (size (r .«name_len»)) (entryOf house r) out (tests o) n e in
+      let w = writes-only (size r) (entryOf house r) out (tests o) n e in
       let t = both-passed o (unless (isHouse house && isSound r) 17 0) (w .0) in
       let both = and-both (isHouse house) (isSound r) (unless-kept (isHouse house && isSound r) 17 0 (t .1)) in
       record { read = t .0; housed = both .0; sound = both .1; room = w .1 }
@@ -49,4 +49,4 @@ module _ (house : ℕ) (r : Record) (out : List ℕ) where
   pub not-entered : (o : Outcome) (n : Why) (p : ℕ) → enteredAnswer o house r out ≡ told.refused n p
       → enteredOut o house r out ≡ out
   unfolding enteredAnswer enteredOut
-  not-entered o n p e = refused-leaves (size (r .«name_len»)) (entryOf house r) out (tests o) n p e
+  not-entered o n p e = refused-leaves (size r) (entryOf house r) out (tests o) n p e

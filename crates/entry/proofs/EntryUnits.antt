@@ -1,38 +1,42 @@
--- The octets of an entry's units are those of the entry: 34 before the length of the name, two more, and then the name's, with
--- zeros behind them.
+-- The octets of an entry's units are those of the entry: the front's, and then the rest's, with zeros behind them.
 use Prim.Native.Nat.{ℕ, zero, suc, _+_, _-_, _*_, _/_, _%_, _^_, _≤_, _<_}
 use mathlib.Core.Path.{_≡_, refl, ap, sym, _∙_}
 use mathlib.Core.Bool.{true}
-use mathlib.Core.List.{List, [], _∷_, _++_, map, append-assoc, append-nil}
+use mathlib.Core.List.{List, [], _∷_, _++_, map, map-append, append-assoc, append-nil}
 use native.Mathlib.Omega.{arith}
 use borrow.Author.Tests.{lt-ltb}
 use lib.ListN.{length, take, drop, replicate, length-append, length-map, length-drop, length-replicate}
 use lib.ListN.{replicate-append-replicate}
-use lib.Seq.{take-at, drop-at, take-all, take-add, take-take, take-append-le, drop-drop, drop-append-add, length-take-le}
+use lib.Seq.{take-at, drop-at, take-all, take-add, take-append-le, length-take-le}
 use Rattle.lent.specs.Copied.{copied, copiedAt}
-use Rattle.zone.specs.Alphabet.{filler, isCharacter, every, isDigit, isLetter}
+use Rattle.zone.specs.Alphabet.{filler, isCharacter, isFiller, every, isDigit, isLetter}
 use Rattle.zone.specs.Codes.{codeOf}
 use Rattle.zone.specs.Record.{trimmed, padded}
+use Rattle.zone.specs.Rooms.{nameRoom}
 use Rattle.zone.specs.declared.record.Record.{Record}
 use Rattle.zone.proofs.Every.{every-append, every-replicate}
 use Rattle.zone.proofs.Padded.{padded-trimmed, padded-exact, padded-spare}
 use Rattle.sound.proofs.SoundRecord.{Sound}
 use Rattle.cells.specs.Bits.{put, octets}
-use Rattle.entry.specs.Codes.{formCode, sexCode}
-use Rattle.entry.specs.Entry.{puts, putKey, putRest, entryOf, size}
-use Rattle.entry.specs.Inner.Units.{packed, before, front, unitsOf}
-use Rattle.entry.specs.Run.{spare}
-use Rattle.cells.proofs.Gather.{put-halves, length-put, length-gathered}
-use Rattle.entry.proofs.Gather.{puts-append, length-puts}
+use Rattle.cells.specs.Cells.{putAll, putCell, putRow, octetsOf, roundedUp, spareBits}
+use Rattle.cells.proofs.Gather.{put-halves, length-put}
 use Rattle.cells.proofs.BitsOfOctets.{isBit, put-bits, put-followed, put-zeros}
-use Rattle.cells.proofs.OctetsOfBits.{gathered-eight, gathered-zeros, octets-append}
-use Rattle.entry.proofs.FieldBits.{puts-followed, puts-bits}
+use Rattle.cells.proofs.OctetsOfBits.{octets-append}
+use Rattle.cells.proofs.Fitting.{isHeld}
+use Rattle.cells.proofs.Putting.{all-append, all-followed, all-bits, length-all}
+use Rattle.cells.proofs.RowOctets.{length-octets, octets-cut, whole-octets}
+use Rattle.entry.specs.Codes.{formCode, sexCode}
+use Rattle.entry.specs.Row as part
+use Rattle.entry.specs.Row.{row, cells}
+use Rattle.entry.specs.Entry.{keyValues, restValues, valuesOf, entryOf, size, isHouse}
+use Rattle.entry.specs.Inner.Units.{packed, frontOctets, frontFours, frontUnits, allUnits, allOctets, unitOf, on, restFours}
+use Rattle.entry.specs.Inner.Units.{before, front, rest, unitsOf}
+use Rattle.entry.proofs.Coded.{codes-held}
 use Rattle.entry.proofs.FormsAndSexes.{form-tells, sex-tells}
-use Rattle.entry.proofs.EntryBits.{name-taken, whole-octets, spare-few}
-use Rattle.entry.proofs.Packing.{length-packed, packed-cut}
+use Rattle.entry.proofs.Packing.{length-packed}
 use Rattle.entry.proofs.Placing.{sound-before}
-use Rattle.entry.proofs.UnitBits.{putUnits, puts-units, units-append, units-followed, units-bits, length-units, isUnit}
-use Rattle.entry.proofs.UnitBits.{units-of, unit-more, octets-packed}
+use Rattle.entry.proofs.UnitBits.{put-more, octets-packed}
+use Rattle.entry.proofs.Values.{house-range, name-taken, name-coded}
 
 -- ---- house and form, and the sex
 
@@ -41,280 +45,249 @@ head-units : (house form : ℕ) (t : List ℕ) → form < 8
     ≡ put 6 ((house * 8 + form) / 4096) (put 6 ((house * 8 + form) / 64 % 64) (put 6 ((house * 8 + form) % 64) t))
 head-units house form t h =
     let head = house * 8 + form in
-    let q : head / 2 ^ 3 ≡ house = omega arith in
-    let m : head % 2 ^ 3 ≡ form = omega arith in
     let high : head / 4096 ≡ head / 64 / 64 = omega arith in
-    (rw (q, m) at (put-halves 15 3 head t))
+    put-more 15 3 house form t h
     ∙ sym (ap (λ (x : ℕ). put 6 x (put 6 (head / 64 % 64) (put 6 (head % 64) t))) high
     ∙ put-halves 6 6 (head / 64) (put 6 (head % 64) t) ∙ put-halves 12 6 head t)
 
--- sixteen bits behind it
-sex-units : (x : ℕ) (t : List ℕ) → put 6 (x * 16) (put 6 0 (put 6 0 t)) ≡ put 2 x (put 8 0 (put 8 0 t))
+-- zero bits behind it to whole units
+sex-units : (x : ℕ) (t : List ℕ) → put 6 (x * 16) (put 6 0 (put 6 0 t)) ≡ put 2 x (put 16 0 t)
 sex-units x t =
-    let q : ((x * 16) * 64 + 0) * 64 + 0 ≡ x * 65536 = omega arith in
-    let d : x * 65536 / 2 ^ 16 ≡ x = omega arith in
-    let m : x * 65536 % 2 ^ 16 ≡ 0 = omega arith in
-    unit-more 6 (x * 16) 0 (put 6 0 t) (omega arith) ∙ unit-more 12 (x * 16 * 64 + 0) 0 t (omega arith)
-    ∙ ap (λ (v : ℕ). put 18 v t) q
-    ∙ sym (ap (put 2 x) (put-halves 8 8 0 t) ∙ (rw (d, m) at (put-halves 2 16 (x * 65536) t)))
+    let q : ((x * 16) * 64 + 0) * 64 + 0 ≡ x * 65536 + 0 = omega arith in
+    put-more 6 6 (x * 16) 0 (put 6 0 t) (omega arith) ∙ put-more 12 6 (x * 16 * 64 + 0) 0 t (omega arith)
+    ∙ ap (λ (v : ℕ). put 18 v t) q ∙ sym (put-more 2 16 x 0 t (omega arith))
 
--- ---- the bits before the length of the name
+-- ---- the front in bits
+
+abbrev head : ℕ → Record → ℕ
+head house r = house * 8 + formCode (r .form)
 
 abbrev opening : ℕ → Record → List ℕ → List ℕ
-opening house r t = putUnits (front house r) (put 2 (sexCode (r .sex)) t)
+opening house r t =
+    putAll 6 ((head house r / 4096) ∷ (head house r / 64 % 64) ∷ (head house r % 64) ∷ map codeOf (before r))
+    (put 2 (sexCode (r .sex)) t)
+
+-- the name's codes, and its bits
+abbrev named : Record → List ℕ
+named r = map codeOf (take (r .«name_len») (r .name))
+
+abbrev namedBits : Record → List ℕ
+namedBits r = put 6 (length (named r)) (putAll 6 (named r) [])
 
 characters-put : (r : Record) (t : List ℕ)
-    → putUnits (map codeOf (before r)) t
-    ≡ puts (r .state) (puts (r .number) (puts (r .birth) (puts (r .expiry) (puts (r .code) (puts (r .nationality) t)))))
+    → putAll 6 (map codeOf (before r)) t
+    ≡ putAll 6 (map codeOf (r .state)) (putAll 6 (map codeOf (r .number)) (putAll 6 (map codeOf (r .birth))
+    (putAll 6 (map codeOf (r .expiry)) (putAll 6 (map codeOf (r .code)) (putAll 6 (map codeOf (r .nationality)) t)))))
 unfolding before
-characters-put r t = sym (puts-units (before r) t) ∙ rw (puts-append, puts-append, puts-append, puts-append, puts-append)
+characters-put r t = simp (map-append, all-append)
 
-entry-opened : (house : ℕ) (r : Record)
-    → putKey house r (putRest r []) ≡ opening house r (put 6 (r .«name_len») (puts (take (r .«name_len») (r .name)) []))
-unfolding putKey putRest front putUnits
+entry-opened : (house : ℕ) (r : Record) → putRow (cells row) (valuesOf house r) [] ≡ opening house r (namedBits r)
+unfolding putRow putCell putAll valuesOf keyValues restValues
 entry-opened house r =
-    let head = house * 8 + formCode (r .form) in
-    let t = put 2 (sexCode (r .sex)) (put 6 (r .«name_len») (puts (take (r .«name_len») (r .name)) [])) in
+    let t = put 2 (sexCode (r .sex)) (namedBits r) in
     head-units house (formCode (r .form)) _ (form-tells (r .form) .1)
-    ∙ ap (λ (l : List ℕ). put 6 (head / 4096) (put 6 (head / 64 % 64) (put 6 (head % 64) l))) (sym (characters-put r t))
+    ∙ ap (λ (l : List ℕ). put 6 (head house r / 4096) (put 6 (head house r / 64 % 64) (put 6 (head house r % 64) l)))
+    (sym (characters-put r t))
 
-units-opened : (house : ℕ) (r : Record)
-    → putUnits (unitsOf house r) [] ≡ opening house r (put 8 0 (put 8 0 (put 6 (r .«name_len») (puts (r .name) []))))
-unfolding unitsOf putUnits
+units-opened : (house : ℕ) (r : Record) → putAll 6 (unitsOf house r) [] ≡ opening house r (put 16 0 (putAll 6 (rest r) []))
+unfolding unitsOf front putAll
 units-opened house r =
-    let n = r .«name_len» in
-    units-append (front house r) (sexCode (r .sex) * 16 ∷ 0 ∷ 0 ∷ n ∷ map codeOf (r .name)) []
-    ∙ ap (putUnits (front house r)) (sex-units (sexCode (r .sex)) (put 6 n (putUnits (map codeOf (r .name)) []))
-    ∙ ap (λ (l : List ℕ). put 2 (sexCode (r .sex)) (put 8 0 (put 8 0 (put 6 n l)))) (sym (puts-units (r .name) [])))
+    let x = sexCode (r .sex) * 16 ∷ 0 ∷ 0 ∷ [] in
+    ap (λ (l : List ℕ). put 6 (head house r / 4096) (put 6 (head house r / 64 % 64) (put 6 (head house r % 64) l)))
+    (all-append 6 (map codeOf (before r) ++ x) (rest r) [] ∙ all-append 6 (map codeOf (before r)) x (putAll 6 (rest r) [])
+    ∙ ap (putAll 6 (map codeOf (before r))) (sex-units (sexCode (r .sex)) (putAll 6 (rest r) [])))
 
 opening-followed : (house : ℕ) (r : Record) (t : List ℕ) → opening house r [] ++ t ≡ opening house r t
 opening-followed house r t =
-    units-followed (front house r) (put 2 (sexCode (r .sex)) []) t
-    ∙ ap (putUnits (front house r)) (put-followed 2 (sexCode (r .sex)) [] t)
+    all-followed 6 _ (put 2 (sexCode (r .sex)) []) t ∙ ap (putAll 6 _) (put-followed 2 (sexCode (r .sex)) [] t)
+
+no-bits : every isBit [] ≡ true
+unfolding every
+no-bits = refl
 
 -- ---- fillers are zero bits
 
-zeros-put : (m : ℕ) (t : List ℕ) → puts (replicate m filler) t ≡ replicate (6 * m) 0 ++ t
-unfolding puts codeOf isDigit isLetter
-zeros-put zero t = refl
-zeros-put (suc m) t =
+fillers-put : (m : ℕ) → putAll 6 (map codeOf (replicate m filler)) [] ≡ replicate (6 * m) 0
+unfolding putAll codeOf isDigit isLetter
+fillers-put zero = refl
+fillers-put (suc m) =
     let e : 6 * suc m ≡ suc (suc (suc (suc (suc (suc (6 * m)))))) = omega arith in
-    ap (put 6 0) (zeros-put m t) ∙ put-zeros 6 (replicate (6 * m) 0 ++ t)
-    ∙ sym (ap (λ (k : ℕ). replicate k 0 ++ t) e)
+    ap (put 6 0) (fillers-put m) ∙ put-zeros 6 (replicate (6 * m) 0) ∙ sym (ap (λ (k : ℕ). replicate k 0) e)
 
-pub size-most : (n : ℕ) → n ≤ 39 → size n ≤ 64
-unfolding size
-size-most n h = omega arith
+-- ---- two lists put one behind the other over a third
 
-pub size-least : (n : ℕ) → 34 ≤ size n
-unfolding size
-size-least n = omega arith
+front-and-rest : (z p r : List ℕ) (n q : ℕ) → n ≤ length p → length p ≤ length z → n + length r ≤ length z → q ≤ length r
+    → take (n + q) (copiedAt (copied z p) n r) ≡ take n p ++ take q r
+front-and-rest z p r n q a b c d =
+    let x = p ++ drop (length p) z in
+    let whole : copied z p ≡ x = ap (λ (l : List ℕ). l ++ drop (length p) z) (take-all (length z) p b) in
+    let long : length x ≡ length z = length-append p (drop (length p) z) ∙ omega (arith, length-drop (length p) z) in
+    let first : take n x ≡ take n p = take-append-le n p (drop (length p) z) a in
+    let f : length (take n p) ≡ n = length-take-le n p a in
+    let y = drop n x in
+    let t = drop (length r) y in
+    let second : copied y r ≡ r ++ t = ap (λ (l : List ℕ). l ++ t) (take-all (length y) r (omega (arith, length-drop n x))) in
+    ap (λ (l : List ℕ). take (n + q) (copiedAt l n r)) whole
+    ∙ ap (λ (l : List ℕ). take (n + q) (l ++ copied y r)) first
+    ∙ ap (λ (l : List ℕ). take (n + q) (take n p ++ l)) second
+    ∙ take-add n q (take n p ++ (r ++ t))
+    ∙ rw (take-at (take n p) (r ++ t) n f, drop-at (take n p) (r ++ t) n f, take-append-le q r t d)
 
-module _ (house : ℕ) (r : Record) (s : Sound r) where
-  length-front : length (front house r) ≡ 45
-  unfolding front
-  length-front = omega (arith, length-map (before r) codeOf, sound-before r s)
-
-  length-opening : length (opening house r []) ≡ 8 * 34
+module _ (house : ℕ) (r : Record) (housed : isHouse house ≡ true) (s : Sound r) where
+  length-opening : length (opening house r []) ≡ 8 * frontOctets
   length-opening =
-      length-units (front house r) (put 2 (sexCode (r .sex)) [])
-      ∙ omega (arith, length-front, length-put 2 (sexCode (r .sex)) [])
+      let x = (head house r / 4096) ∷ (head house r / 64 % 64) ∷ (head house r % 64) ∷ map codeOf (before r) in
+      length-all 6 x (put 2 (sexCode (r .sex)) [])
+      ∙ omega (arith, length-put 2 (sexCode (r .sex)) [], length-map (before r) codeOf, sound-before r s)
 
   octets-opened : (t : List ℕ) → octets (opening house r t) ≡ octets (opening house r []) ++ octets t
-  unfolding every
   octets-opened t =
       ap octets (sym (opening-followed house r t))
-      ∙ octets-append 34 (opening house r []) t
-      (units-bits (front house r) (put 2 (sexCode (r .sex)) []) (put-bits 2 (sexCode (r .sex)) [] refl)) length-opening
+      ∙ octets-append frontOctets (opening house r []) t (all-bits 6 _ _ (put-bits 2 (sexCode (r .sex)) [] no-bits)) length-opening
 
-  length-octets : length (octets (opening house r [])) ≡ 34
-  unfolding octets
-  length-octets = length-gathered 0 0 (opening house r []) (omega arith) ∙ omega (arith, length-opening)
+  -- ---- the units
 
-  -- ---- the name, with fillers to the end of its room
+  length-front : length (front house r) ≡ frontUnits
+  unfolding front
+  length-front =
+      let x = sexCode (r .sex) * 16 ∷ 0 ∷ 0 ∷ [] in
+      omega (arith, length-append (map codeOf (before r)) x, length-map (before r) codeOf, sound-before r s)
 
-  name-filled : r .name ≡ take (r .«name_len») (r .name) ++ replicate (39 - r .«name_len») filler
-  unfolding trimmed
-  name-filled =
-      let n = r .«name_len» in
-      let l : length (take n (r .name)) ≡ n = name-taken r s in
-      let held : padded 39 (take n (r .name)) ≡ padded 39 (r .name) = rw (s .name-ends) at (padded-trimmed 39 (r .name)) in
-      sym (padded-exact 39 (r .name) (s .name-places)) ∙ sym held
-      ∙ (rw l at (padded-spare 39 (take n (r .name)) (omega (arith, s .name-most))))
+  length-rest : length (rest r) ≡ frontUnits
+  unfolding rest
+  length-rest =
+      let x = r .name ++ replicate (frontUnits - nameRoom - 1) filler in
+      omega (
+        arith,
+        length-map x codeOf,
+        length-append (r .name) (replicate (frontUnits - nameRoom - 1) filler),
+        s .name-places,
+      )
 
-  abbrev named : List ℕ → List ℕ
-  named t = put 6 (r .«name_len») (puts (take (r .«name_len») (r .name)) t)
+  length-units : length (unitsOf house r) ≡ allUnits
+  unfolding unitsOf
+  length-units = length-append (front house r) (rest r) ∙ omega (arith, length-front, length-rest)
 
-  named-filled : put 6 (r .«name_len») (puts (r .name) []) ≡ named [] ++ replicate (6 * (39 - r .«name_len»)) 0
-  named-filled =
-      let n = r .«name_len» in
-      let x = take n (r .name) in
-      let z : List ℕ = replicate (6 * (39 - n)) 0 in
-      ap (put 6 n) (ap (λ (l : List ℕ). puts l []) name-filled ∙ puts-append x (replicate (39 - n) filler) []
-      ∙ ap (puts x) (zeros-put (39 - n) [] ∙ append-nil z) ∙ sym (puts-followed x [] z))
-      ∙ sym (put-followed 6 n (puts x []) z)
+  rest-held : every (isHeld 6) (rest r) ≡ true
+  unfolding rest every isHeld isCharacter isFiller isDigit isLetter
+  rest-held =
+      rw (lt-ltb (r .«name_len») 64 (omega (arith, s .name-most)))
+      (codes-held (r .name ++ replicate (frontUnits - nameRoom - 1) filler)
+      (every-append isCharacter (r .name) _ (s .name-characters) (every-replicate isCharacter (frontUnits - nameRoom - 1) filler refl)))
 
-  length-named : length (named []) ≡ 6 + 6 * r .«name_len»
-  length-named =
-      let n = r .«name_len» in
-      length-put 6 n (puts (take n (r .name)) []) ∙ omega (arith, length-puts (take n (r .name)) [], name-taken r s)
-
-  octets-named : octets (put 6 (r .«name_len») (puts (r .name) []))
-      ≡ octets (named []) ++ octets (replicate (6 * (39 - r .«name_len») - spare (r .«name_len»)) 0)
-  unfolding octets every isBit
-  octets-named =
-      let n = r .«name_len» in
-      let j = spare n in
-      let k = 6 * (39 - n) in
-      let few : j ≤ k = omega (arith, whole-octets n, s .name-most, size-most n (s .name-most)) in
-      let e : j + (k - j) ≡ k = omega arith in
-      let whole : 0 + (length (named []) + j) ≡ 8 * (size n - 34) = omega (arith, length-named, whole-octets n, size-least n) in
-      let split : replicate {A = ℕ} k 0 ≡ replicate j 0 ++ replicate (k - j) 0 =
-      ap (λ (m : ℕ). replicate {A = ℕ} m 0) (sym e) ∙ sym (replicate-append-replicate j (k - j) 0) in
-      let long : length (named [] ++ replicate j 0) ≡ 8 * (size n - 34) =
-      length-append (named []) (replicate j 0) ∙ omega (arith, whole, length-replicate {A = ℕ} j 0) in
-      let bits : every isBit (named [] ++ replicate j 0) ≡ true =
-      every-append isBit (named []) (replicate j 0) (put-bits 6 n _ (puts-bits (take n (r .name)) [] refl))
-      (every-replicate isBit j 0 refl) in
-      ap octets (named-filled ∙ ap (λ (l : List ℕ). named [] ++ l) split
-      ∙ sym (append-assoc (named []) (replicate j 0) (replicate (k - j) 0)))
-      ∙ octets-append (size n - 34) (named [] ++ replicate j 0) (replicate (k - j) 0) bits long
-      ∙ ap (λ (l : List ℕ). l ++ octets (replicate (k - j) 0))
-      (gathered-zeros (size n - 34) j 0 0 (named []) (omega arith) (spare-few n) whole)
-
-  length-octets-named : length (octets (named [])) ≡ size (r .«name_len») - 34
-  unfolding octets size
-  length-octets-named = length-gathered 0 0 (named []) (omega arith) ∙ omega (arith, length-named)
-
-  -- ---- the whole
-
-  units-fit : house ≤ 32767 → every isUnit (unitsOf house r) ≡ true
-  unfolding unitsOf front before every isUnit
-  units-fit h =
-      let head = house * 8 + formCode (r .form) in
+  units-held : every (isHeld 6) (unitsOf house r) ≡ true
+  unfolding unitsOf front before every isHeld
+  units-held =
       let sex = sex-tells (r .sex) (s .sex-kept) .1 in
+      let form = form-tells (r .form) .1 in
+      let most = house-range house housed .1 in
       let characters : every isCharacter (before r) ≡ true =
       every-append isCharacter (r .state) _ (s .state-characters)
       (every-append isCharacter (r .number) _ (s .number-characters)
       (every-append isCharacter (r .birth) _ (s .birth-characters)
       (every-append isCharacter (r .expiry) _ (s .expiry-characters)
       (every-append isCharacter (r .code) _ (s .code-characters) (s .nationality-characters))))) in
-      every-append isUnit (front house r) _
+      every-append (isHeld 6) (front house r) (rest r)
       (rw (
-        lt-ltb (head / 4096) 64 (omega (arith, form-tells (r .form) .1)),
-        lt-ltb (head / 64 % 64) 64 (omega arith),
-        lt-ltb (head % 64) 64 (omega arith),
+        lt-ltb (head house r / 4096) 64 (omega arith),
+        lt-ltb (head house r / 64 % 64) 64 (omega arith),
+        lt-ltb (head house r % 64) 64 (omega arith),
       )
-      (units-of (before r) characters))
-      (rw (
-        lt-ltb (sexCode (r .sex) * 16) 64 (omega arith),
-        lt-ltb (r .«name_len») 64 (omega (arith, s .name-most)),
-      )
-      (units-of (r .name) (s .name-characters)))
+      (every-append (isHeld 6) (map codeOf (before r)) (sexCode (r .sex) * 16 ∷ 0 ∷ 0 ∷ []) (codes-held (before r) characters)
+      (rw (lt-ltb (sexCode (r .sex) * 16) 64 (omega arith)))))
+      rest-held
 
-  pub length-units-of : length (unitsOf house r) ≡ 88
-  unfolding unitsOf
-  length-units-of =
-      length-append (front house r) (sexCode (r .sex) * 16 ∷ 0 ∷ 0 ∷ r .«name_len» ∷ map codeOf (r .name))
-      ∙ omega (arith, length-front, length-map (r .name) codeOf, s .name-places)
-
-  packed-opened : house ≤ 32767
-      → packed (unitsOf house r)
-      ≡ octets (opening house r []) ++ (0 ∷ 0 ∷ octets (put 6 (r .«name_len») (puts (r .name) [])))
-  packed-opened h =
-      let t = put 6 (r .«name_len») (puts (r .name) []) in
-      sym (octets-packed 22 (unitsOf house r) length-units-of (units-fit h)) ∙ ap octets (units-opened house r)
-      ∙ octets-opened (put 8 0 (put 8 0 t))
-      ∙ ap (λ (l : List ℕ). octets (opening house r []) ++ l)
-      (gathered-eight 0 (put 8 0 t) (omega arith) ∙ ap (λ (l : List ℕ). 0 ∷ l) (gathered-eight 0 t (omega arith)))
-
-  pub entry-packed : house ≤ 32767
-      → entryOf house r
-      ≡ take 34 (packed (unitsOf house r)) ++ take (size (r .«name_len») - 34) (drop 36 (packed (unitsOf house r)))
-  unfolding entryOf
-  entry-packed h =
+  front-packed : take frontOctets (packed 0 frontFours (unitsOf house r)) ≡ octets (opening house r [])
+  front-packed =
+      let u = unitsOf house r in
       let o = octets (opening house r []) in
-      let t = octets (put 6 (r .«name_len») (puts (r .name) [])) in
-      let front : take 34 (o ++ (0 ∷ 0 ∷ t)) ≡ o = take-at o (0 ∷ 0 ∷ t) 34 length-octets in
-      let back : drop 36 (o ++ (0 ∷ 0 ∷ t)) ≡ t = rw length-octets at (drop-append-add o (0 ∷ 0 ∷ t) 2) in
-      let name : take (size (r .«name_len») - 34) t ≡ octets (named []) = ap (take (size (r .«name_len») - 34)) octets-named
-      ∙ take-at (octets (named [])) _ (size (r .«name_len») - 34) length-octets-named in
-      ap octets (entry-opened house r) ∙ octets-opened (named [])
-      ∙ rw (packed-opened h, front, back, name)
+      let t = put 16 0 (putAll 6 (rest r) []) in
+      let p = packed 0 frontFours u in
+      let more = octets (putAll 6 (drop (4 * frontFours) u) []) in
+      let both : p ++ more ≡ o ++ octets t =
+      sym (octets-packed 0 (omega arith) frontFours u [] units-held (omega (arith, length-units)) (λ i. omega (arith, i)))
+      ∙ ap octets (units-opened house r) ∙ octets-opened t in
+      let long : length o ≡ frontOctets = length-octets (opening house r []) ∙ omega (arith, length-opening) in
+      sym (take-append-le frontOctets p more (omega (arith, length-packed 0 frontFours u))) ∙ ap (take frontOctets) both
+      ∙ take-at o (octets t) frontOctets long
 
--- what stands between two places is the same in two lists that begin alike
-cut-alike : (a b : List ℕ) (i k : ℕ) → i ≤ length a → i ≤ length b → take (i + k) a ≡ take (i + k) b
-    → take k (drop i a) ≡ take k (drop i b)
-cut-alike a b i k ha hb e =
-    let one : drop i (take (i + k) a) ≡ take k (drop i a) = ap (drop i) (take-add i k a)
-    ∙ drop-at (take i a) (take k (drop i a)) i (length-take-le i a ha) in
-    let two : drop i (take (i + k) b) ≡ take k (drop i b) = ap (drop i) (take-add i k b)
-    ∙ drop-at (take i b) (take k (drop i b)) i (length-take-le i b hb) in
-    sym one ∙ ap (drop i) e ∙ two
+  -- ---- the name, with fillers to the end of the units
 
--- an entry needs no more units than those of its name, to whole fours
-module _ (u : List ℕ) (n : ℕ) (l : length u ≡ 88) (h : n ≤ 39) where
-  abbrev pub shortened : List ℕ
-  shortened = copied (replicate 66 0) (packed (take (48 + (n + 4) / 4 * 4) u))
+  abbrev over : ℕ
+  over = frontUnits - 1 - r .«name_len»
 
-  long : length (packed u) ≡ 66
-  long = length-packed u ∙ omega arith
+  name-filled : r .name ++ replicate (frontUnits - nameRoom - 1) filler ≡ take (r .«name_len») (r .name) ++ replicate over filler
+  unfolding trimmed
+  name-filled =
+      let n = r .«name_len» in
+      let most = s .name-most in
+      let x = take n (r .name) in
+      let k = nameRoom - n in
+      let all : k + (frontUnits - nameRoom - 1) ≡ over = omega arith in
+      let held : padded nameRoom x ≡ padded nameRoom (r .name) = rw (s .name-ends) at (padded-trimmed nameRoom (r .name)) in
+      let name : r .name ≡ x ++ replicate k filler =
+      sym (padded-exact nameRoom (r .name) (s .name-places)) ∙ sym held
+      ∙ (rw (name-taken r s) at (padded-spare nameRoom x (omega (arith, name-taken r s)))) in
+      ap (λ (l : List ℕ). l ++ replicate (frontUnits - nameRoom - 1) filler) name
+      ∙ (append-assoc x (replicate k filler) (replicate (frontUnits - nameRoom - 1) filler)
+      ∙ ap (λ (l : List ℕ). x ++ l) (replicate-append-replicate k (frontUnits - nameRoom - 1) filler
+      ∙ ap (λ (i : ℕ). replicate i filler) all))
 
-  shortened-parts : shortened ≡ take (36 + (n + 4) / 4 * 3) (packed u) ++ drop (36 + (n + 4) / 4 * 3) (replicate 66 0)
-  shortened-parts =
-      let j = 12 + (n + 4) / 4 in
-      let e : 48 + (n + 4) / 4 * 4 ≡ 4 * j = omega arith in
-      let f : 3 * j ≡ 36 + (n + 4) / 4 * 3 = omega arith in
-      let p = take (36 + (n + 4) / 4 * 3) (packed u) in
-      let c : packed (take (48 + (n + 4) / 4 * 4) u) ≡ p = ap (λ (m : ℕ). packed (take m u)) e ∙ packed-cut j u
-      ∙ ap (λ (m : ℕ). take m (packed u)) f in
-      let k : length p ≡ 36 + (n + 4) / 4 * 3 = length-take-le (36 + (n + 4) / 4 * 3) (packed u) (omega (arith, long)) in
-      rw (c, k, length-replicate {A = ℕ} 66 0, take-all 66 p (omega arith))
+  rest-filled : putAll 6 (rest r) [] ≡ namedBits r ++ replicate (6 * over) 0
+  unfolding rest putAll
+  rest-filled =
+      let n = r .«name_len» in
+      let x = take n (r .name) in
+      let z : List ℕ = replicate (6 * over) 0 in
+      ap (λ (l : List ℕ). put 6 n (putAll 6 (map codeOf l) [])) name-filled
+      ∙ ap (λ (l : List ℕ). put 6 n (putAll 6 l [])) (map-append codeOf x (replicate over filler))
+      ∙ ap (put 6 n) (all-append 6 (named r) (map codeOf (replicate over filler)) [] ∙ ap (putAll 6 (named r)) (fillers-put over))
+      ∙ ap (λ (m : ℕ). put 6 m (putAll 6 (named r) z)) (sym (name-coded r s))
+      ∙ sym (put-followed 6 (length (named r)) (putAll 6 (named r) []) z
+      ∙ ap (put 6 (length (named r))) (all-followed 6 (named r) [] z))
 
-  shortened-alike : (m : ℕ) → m ≤ 36 + (n + 4) / 4 * 3 → take m shortened ≡ take m (packed u)
-  shortened-alike m k =
-      let p = take (36 + (n + 4) / 4 * 3) (packed u) in
-      ap (take m) shortened-parts
-      ∙ take-append-le m p _ (omega (arith, length-take-le (36 + (n + 4) / 4 * 3) (packed u) (omega (arith, long))))
-      ∙ take-take m (36 + (n + 4) / 4 * 3) (packed u) k
+  length-named : length (namedBits r) ≡ 6 + 6 * r .«name_len»
+  length-named = length-put 6 (length (named r)) (putAll 6 (named r) []) ∙ omega (arith, length-all 6 (named r) [], name-coded r s)
 
-  pub shortened-opening : take 34 shortened ≡ take 34 (packed u)
-  shortened-opening = shortened-alike 34 (omega arith)
+  rest-packed : take (roundedUp (length (namedBits r))) (packed on (restFours (r .«name_len»)) (rest r)) ≡ octets (namedBits r)
+  rest-packed =
+      let b = namedBits r in
+      let k = restFours (r .«name_len») in
+      let q = roundedUp (length b) in
+      let p = packed on k (rest r) in
+      let more = octets (putAll 6 (drop (4 * k) (rest r)) []) in
+      let most = s .name-most in
+      let long = length-named in
+      let both : p ++ more ≡ octets (b ++ replicate (6 * over) 0) =
+      sym (octets-packed on (omega arith) k (rest r) [] rest-held (omega (arith, length-rest)) (λ i. omega (arith, i)))
+      ∙ ap octets rest-filled in
+      sym (take-append-le q p more (omega (arith, length-packed on k (rest r)))) ∙ ap (take q) both
+      ∙ octets-cut b (6 * over) (put-bits 6 (length (named r)) _ (all-bits 6 (named r) [] no-bits))
+      (omega (arith, whole-octets (length b)))
 
-  pub shortened-name : take (size n - 34) (drop 36 shortened) ≡ take (size n - 34) (drop 36 (packed u))
-  unfolding size
-  shortened-name =
-      cut-alike shortened (packed u) 36 (size n - 34) (omega (arith, shortened-long)) (omega (arith, long))
-      (shortened-alike (36 + (size n - 34)) (omega arith))
-    where
-      shortened-long : length shortened ≡ 66
-      shortened-long =
-          ap length shortened-parts
-          ∙ length-append (take (36 + (n + 4) / 4 * 3) (packed u)) (drop (36 + (n + 4) / 4 * 3) (replicate 66 0))
-          ∙ omega (
-            arith,
-            length-take-le (36 + (n + 4) / 4 * 3) (packed u) (omega (arith, long)),
-            length-drop {A = ℕ} (36 + (n + 4) / 4 * 3) (replicate 66 0),
-            length-replicate {A = ℕ} 66 0,
-          )
+  -- ---- the whole
 
--- these copied into a range, one behind the other
-pub entry-copied : (out p : List ℕ) (n : ℕ) → length p ≡ 66 → 34 ≤ n → n ≤ 64 → n ≤ length out
-    → copiedAt (copied out (take 34 p)) 34 (take (n - 34) (drop 36 p)) ≡ (take 34 p ++ take (n - 34) (drop 36 p)) ++ drop n out
-entry-copied out p n l h k o =
-    let a : length (take 34 p) ≡ 34 = length-take-le 34 p (omega arith) in
-    let d : length (drop 36 p) ≡ 30 = length-drop 36 p ∙ omega arith in
-    let b : length (take (n - 34) (drop 36 p)) ≡ n - 34 = length-take-le (n - 34) (drop 36 p) (omega arith) in
-    let e : 34 + (n - 34) ≡ n = omega arith in
-    let f : length (drop 34 out) ≡ length out - 34 = length-drop 34 out in
-    rw (
-      take-all (length out) (take 34 p) (omega arith),
-      a,
-      take-at (take 34 p) (drop 34 out) 34 a,
-      drop-at (take 34 p) (drop 34 out) 34 a,
-      take-all (length (drop 34 out)) (take (n - 34) (drop 36 p)) (omega arith),
-      b,
-      drop-drop (n - 34) 34 out,
-      e,
-    )
-    (sym (append-assoc (take 34 p) (take (n - 34) (drop 36 p)) (drop n out)))
+  -- the front, and the rest over what the front's fours have too many
+  abbrev pub entryOctets : List ℕ
+  entryOctets =
+      copiedAt (copied (replicate allOctets 0) (packed 0 frontFours (unitsOf house r))) frontOctets
+      (packed on (restFours (r .«name_len»)) (drop frontUnits (unitsOf house r)))
+
+  pub entry-packed : take (size r) entryOctets ≡ entryOf house r
+  unfolding entryOf octetsOf size unitsOf
+  entry-packed =
+      let u = unitsOf house r in
+      let k = restFours (r .«name_len») in
+      let q = roundedUp (length (namedBits r)) in
+      let p = packed 0 frontFours u in
+      let most = s .name-most in
+      let long = length-named in
+      let n : size r ≡ frontOctets + q = omega arith in
+      let back : drop frontUnits u ≡ rest r = drop-at (front house r) (rest r) frontUnits length-front in
+      rw (n, back)
+      (front-and-rest (replicate allOctets 0) p (packed on k (rest r)) frontOctets q
+      (omega (arith, length-packed 0 frontFours u))
+      (omega (arith, length-packed 0 frontFours u, length-replicate {A = ℕ} allOctets 0))
+      (omega (arith, length-packed on k (rest r), length-replicate {A = ℕ} allOctets 0))
+      (omega (arith, length-packed on k (rest r)))
+      ∙ rw (front-packed, rest-packed) (sym (ap octets (entry-opened house r) ∙ octets-opened (namedBits r))))

@@ -1,81 +1,33 @@
--- Units of six bits as bits: what four of them say is what their three octets say.
-use Prim.Native.Nat.{ℕ, zero, suc, _+_, _-_, _*_, _/_, _%_, _^_, _<_}
+-- Units of six bits as bits: four of them say what their three octets say, also some bits on.
+use Prim.Native.Nat.{ℕ, zero, suc, _+_, _-_, _*_, _/_, _%_, _^_, _≤_, _<_}
 use mathlib.Core.Path.{_≡_, refl, ap, sym, _∙_}
-use mathlib.Core.Bool.{Bool, true, _&&_}
-use mathlib.Core.List.{List, [], _∷_, _++_, map}
-use native.Mathlib.Nat.{le-of-eq}
+use mathlib.Core.Bool.{true, _&&_}
+use mathlib.Core.List.{List, [], _∷_, _++_}
+use native.Mathlib.Nat.{mod-eq-of-lt}
 use native.Mathlib.Omega.{arith}
-use borrow.Author.Tests.{lt-ltb, ltb-true}
+use borrow.Author.Tests.{ltb-true}
 use lib.Dec.{ltb}
-use lib.ListN.{length, drop, drop-of-length-le, length-drop}
+use lib.ListN.{length, drop, getD}
+use lib.Pow.{high, low, shr-lt}
 use Rattle.lent.proofs.Bools.{and-both}
-use Rattle.zone.specs.Alphabet.{isCharacter, every}
-use Rattle.zone.specs.Codes.{codeOf}
-use Rattle.zone.proofs.Coding.{isTold, code-tells}
-use Rattle.zone.proofs.Every.{every-drop}
-use Rattle.cells.specs.Bits.{put, gathered, octets}
-use Rattle.entry.specs.Entry.{puts}
-use Rattle.entry.specs.Inner.Units.{four, packed}
-use Rattle.cells.proofs.Gather.{put-low, put-halves, length-put}
-use Rattle.cells.proofs.BitsOfOctets.{isBit, put-bits, put-followed, worth, worth-lt}
-use Rattle.cells.proofs.OctetsOfBits.{gathered-eight, first-eight, octets-first}
+use Rattle.zone.specs.Alphabet.{every}
+use Rattle.cells.specs.Bits.{put, octets}
+use Rattle.cells.specs.Cells.{putAll}
+use Rattle.cells.proofs.Gather.{put-low, put-halves, put-split}
+use Rattle.cells.proofs.BitsOfOctets.{drop-put}
+use Rattle.cells.proofs.OctetsOfBits.{gathered-eight}
+use Rattle.cells.proofs.Fitting.{isHeld}
+use Rattle.entry.specs.Inner.Units.{four, fourAt, fourOn, packed}
 
--- ---- units put one after the other
-
-unfoldable pub putUnits : List ℕ → List ℕ → List ℕ
-putUnits [] t = t
-putUnits (u ∷ s) t = put 6 u (putUnits s t)
-
-pub puts-units : (s t : List ℕ) → puts s t ≡ putUnits (map codeOf s) t
-unfolding puts putUnits
-puts-units [] t = refl
-puts-units (c ∷ s) t = ap (put 6 (codeOf c)) (puts-units s t)
-
-pub units-append : (a b t : List ℕ) → putUnits (a ++ b) t ≡ putUnits a (putUnits b t)
-unfolding putUnits
-units-append [] b t = refl
-units-append (u ∷ a) b t = ap (put 6 u) (units-append a b t)
-
-pub units-followed : (s t u : List ℕ) → putUnits s t ++ u ≡ putUnits s (t ++ u)
-unfolding putUnits
-units-followed [] t u = refl
-units-followed (x ∷ s) t u = put-followed 6 x (putUnits s t) u ∙ ap (put 6 x) (units-followed s t u)
-
-pub units-bits : (s t : List ℕ) → every isBit t ≡ true → every isBit (putUnits s t) ≡ true
-unfolding putUnits
-units-bits [] t e = e
-units-bits (x ∷ s) t e = put-bits 6 x (putUnits s t) (units-bits s t e)
-
-pub length-units : (s t : List ℕ) → length (putUnits s t) ≡ 6 * length s + length t
-unfolding putUnits
-length-units [] t = omega arith
-length-units (x ∷ s) t = rw (length-put 6 x (putUnits s t), length-units s t) (omega arith)
-
--- six bits hold it
-unfoldable pub isUnit : ℕ → Bool
-isUnit u = ltb u 64
-
-pub units-of : (s : List ℕ) → every isCharacter s ≡ true → every isUnit (map codeOf s) ≡ true
-unfolding every isUnit isTold
-units-of [] e = refl
-units-of (c ∷ s) e =
-    let both = and-both (isCharacter c) (every isCharacter s) e in
-    rw (lt-ltb (codeOf c) 64 (code-tells c (both .0) .1), units-of s (both .1))
-
--- ---- four of them are three octets
-
--- a unit behind a number
-pub unit-more : (k v u : ℕ) (t : List ℕ) → u < 64 → put k v (put 6 u t) ≡ put (k + 6) (v * 64 + u) t
-unit-more k v u t h =
-    let q : (v * 64 + u) / 2 ^ 6 ≡ v = omega arith in
-    let m : (v * 64 + u) % 2 ^ 6 ≡ u = omega arith in
-    rw (q, m) at (put-halves k 6 (v * 64 + u) t)
+-- a number behind another
+pub put-more : (k w v u : ℕ) (t : List ℕ) → u < 2 ^ w → put k v (put w u t) ≡ put (k + w) (v * 2 ^ w + u) t
+put-more k w v u t h = rw (high v w h, low v w h) at (put-halves k w (v * 2 ^ w + u) t)
 
 four-units : (a b c d : ℕ) (t : List ℕ) → b < 64 → c < 64 → d < 64
     → put 6 a (put 6 b (put 6 c (put 6 d t))) ≡ put 24 (four a b c d) t
 four-units a b c d t h k l =
-    unit-more 6 a b (put 6 c (put 6 d t)) h ∙ unit-more 12 (a * 64 + b) c (put 6 d t) k
-    ∙ unit-more 18 ((a * 64 + b) * 64 + c) d t l
+    put-more 6 6 a b (put 6 c (put 6 d t)) h ∙ put-more 12 6 (a * 64 + b) c (put 6 d t) k
+    ∙ put-more 18 6 ((a * 64 + b) * 64 + c) d t l
 
 octets-three : (v : ℕ) (t : List ℕ) → octets (put 24 v t) ≡ (v / 65536 % 256) ∷ (v / 256 % 256) ∷ (v % 256) ∷ octets t
 octets-three v t =
@@ -88,18 +40,70 @@ octets-three v t =
     ∙ ap (λ (l : List ℕ). (v / 65536 % 256) ∷ l) (gathered-eight (v / 256 % 256) _ (omega arith))
     ∙ ap (λ (l : List ℕ). (v / 65536 % 256) ∷ (v / 256 % 256) ∷ l) (gathered-eight (v % 256) t (omega arith))
 
-pub octets-packed : (k : ℕ) (s : List ℕ) → length s ≡ 4 * k → every isUnit s ≡ true → octets (putUnits s []) ≡ packed s
-unfolding putUnits packed every isUnit octets gathered
-octets-packed k [] e p = refl
-octets-packed k (a ∷ []) e p = absurd (omega arith)
-octets-packed k (a ∷ (b ∷ [])) e p = absurd (omega arith)
-octets-packed k (a ∷ (b ∷ (c ∷ []))) e p = absurd (omega arith)
-octets-packed k (a ∷ (b ∷ (c ∷ (d ∷ s)))) e p =
-    let pa = and-both (ltb a 64) (ltb b 64 && (ltb c 64 && (ltb d 64 && every isUnit s))) p in
-    let pb = and-both (ltb b 64) (ltb c 64 && (ltb d 64 && every isUnit s)) (pa .1) in
-    let pc = and-both (ltb c 64) (ltb d 64 && every isUnit s) (pb .1) in
-    let pd = and-both (ltb d 64) (every isUnit s) (pc .1) in
-    ap octets (four-units a b c d (putUnits s []) (ltb-true b 64 (pb .0)) (ltb-true c 64 (pc .0)) (ltb-true d 64 (pd .0)))
-    ∙ octets-three (four a b c d) (putUnits s [])
-    ∙ ap (λ (l : List ℕ). (four a b c d / 65536 % 256) ∷ (four a b c d / 256 % 256) ∷ (four a b c d % 256) ∷ l)
-    (octets-packed (k - 1) s (omega arith) (pd .1))
+-- the first bits left out
+drop-first : (j w v : ℕ) (t : List ℕ) → drop j (put (j + w) v t) ≡ put w v t
+drop-first j w v t = ap (drop j) (put-split j w v t) ∙ drop-put j (v / 2 ^ w) (put w v t)
+
+-- ---- j bits on
+
+unit-left : (j e : ℕ) (t : List ℕ) → j ≤ 6 → drop j (put 6 e t) ≡ put (6 - j) e t
+unit-left j e t h = let same : j + (6 - j) ≡ 6 = omega arith in rw same at (drop-first j (6 - j) e t)
+
+module _ (j : ℕ) (few : j ≤ 6) where
+  -- a number of 24 bits before a unit
+  number-on : (f e : ℕ) (t : List ℕ) → e < 64
+      → drop j (put 24 f (put 6 e t)) ≡ put 24 (f * 2 ^ j + e / 2 ^ (6 - j)) (drop j (put 6 e t))
+  number-on f e t h =
+      let z = put (6 - j) e t in
+      let n = f * 2 ^ j + e / 2 ^ (6 - j) in
+      let same : j + (6 - j) ≡ 6 = omega arith in
+      let turned : 24 + j ≡ j + 24 = omega arith in
+      let parted : put 6 e t ≡ put j (e / 2 ^ (6 - j)) z = rw same at (put-split j (6 - j) e t) in
+      let less : e / 2 ^ (6 - j) < 2 ^ j = shr-lt j (6 - j) (rw same h) in
+      ap (λ (l : List ℕ). drop j (put 24 f l)) parted
+      ∙ ap (drop j) (put-more 24 j f (e / 2 ^ (6 - j)) z less ∙ ap (λ (w : ℕ). put w n z) turned)
+      ∙ drop-first j 24 n z ∙ ap (put 24 n) (sym (unit-left j e t few))
+
+  -- the first four of some
+  abbrev Held : List ℕ → Type 0
+  Held s = every (isHeld 6) s ≡ true
+
+  first-four : (a b c d : ℕ) (s t : List ℕ) → b < 64 → c < 64 → d < 64 → Held s → (0 < j → 0 < length s)
+      → octets (drop j (putAll 6 (a ∷ b ∷ c ∷ d ∷ s) t))
+      ≡ packed j 1 (a ∷ b ∷ c ∷ d ∷ s) ++ octets (drop j (putAll 6 s t))
+  unfolding putAll packed fourOn fourAt every isHeld
+  first-four a b c d [] t hb hc hd p more =
+      let none : j ≡ 0 = ends j more in
+      let same : four a b c d * 2 ^ 0 + 0 ≡ four a b c d = omega arith in
+      ap (λ (l : List ℕ). octets (drop j l)) (four-units a b c d t hb hc hd) ∙ rw (none, same) (octets-three (four a b c d) t)
+    where
+      ends : (j : ℕ) → (0 < j → 0 < 0) → j ≡ 0
+      ends zero f = refl
+      ends (suc j) f = absurd (omega (arith, f (omega arith)))
+  first-four a b c d (e ∷ s) t hb hc hd p more =
+      let x = putAll 6 s t in
+      let less : e < 64 = ltb-true e 64 (and-both (ltb e 64) (every (isHeld 6) s) p .0) in
+      let same : e % 64 ≡ e = mod-eq-of-lt less in
+      ap (λ (l : List ℕ). octets (drop j l)) (four-units a b c d (put 6 e x) hb hc hd)
+      ∙ rw same (ap octets (number-on (four a b c d) e x less)
+      ∙ octets-three (four a b c d * 2 ^ j + e / 2 ^ (6 - j)) (drop j (put 6 e x)))
+
+  -- units by fours, with one behind them where they are some bits on: their octets, and those of what follows
+  pub octets-packed : (k : ℕ) (s t : List ℕ) → Held s → 4 * k ≤ length s → (0 < j → 4 * k < length s)
+      → octets (drop j (putAll 6 s t)) ≡ packed j k s ++ octets (drop j (putAll 6 (drop (4 * k) s) t))
+  unfolding packed every isHeld
+  octets-packed zero s t p h more = refl
+  octets-packed (suc k) [] t p h more = absurd (omega arith)
+  octets-packed (suc k) (a ∷ []) t p h more = absurd (omega arith)
+  octets-packed (suc k) (a ∷ (b ∷ [])) t p h more = absurd (omega arith)
+  octets-packed (suc k) (a ∷ (b ∷ (c ∷ []))) t p h more = absurd (omega arith)
+  octets-packed (suc k) (a ∷ (b ∷ (c ∷ (d ∷ s)))) t p h more =
+      let pa = and-both (ltb a 64) (ltb b 64 && (ltb c 64 && (ltb d 64 && every (isHeld 6) s))) p in
+      let pb = and-both (ltb b 64) (ltb c 64 && (ltb d 64 && every (isHeld 6) s)) (pa .1) in
+      let pc = and-both (ltb c 64) (ltb d 64 && every (isHeld 6) s) (pb .1) in
+      let pd = and-both (ltb d 64) (every (isHeld 6) s) (pc .1) in
+      let e : 4 * suc k ≡ suc (suc (suc (suc (4 * k)))) = omega arith in
+      let rest = octets-packed k s t (pd .1) (omega arith) (λ (i : 0 < j). omega (arith, more i)) in
+      first-four a b c d s t (ltb-true b 64 (pb .0)) (ltb-true c 64 (pc .0)) (ltb-true d 64 (pd .0)) (pd .1)
+      (λ (i : 0 < j). omega (arith, more i))
+      ∙ rw (e, rest)

@@ -11,8 +11,8 @@ use Rattle.entry.specs.Entry.{size, isHouse, entryOf}
 
 -- a call that reads is given a house too and tests 17, then 16, after all the reader's refusals
 unfoldable pub enteredAnswer : Outcome → ℕ → Record → List ℕ → Length
-enteredAnswer o house r out = writeAnswer (orElse o (unless (isHouse house && isSound r) 17 0)) (size (r .«name_len»)) out
+enteredAnswer o house r out = writeAnswer (orElse o (unless (isHouse house && isSound r) 17 0)) (size r) out
 
 unfoldable pub enteredOut : Outcome → ℕ → Record → List ℕ → List ℕ
 enteredOut o house r out =
-    writeOut (orElse o (unless (isHouse house && isSound r) 17 0)) (size (r .«name_len»)) (entryOf house r) out
+    writeOut (orElse o (unless (isHouse house && isSound r) 17 0)) (size r) (entryOf house r) out

@@ -1,6 +1,5 @@
 pub mod Codes
-pub mod Parts
+pub mod Row
 pub mod Entry
 pub mod Entered
-pub mod Run
 pub mod Inner

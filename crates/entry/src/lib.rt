@@ -1,9 +1,6 @@
-// The entry under which a line's session keeps a record: written from a house and a record, and read back from a run of entries.
-mod bits;
-mod characters;
+// The entry under which a line's session keeps a record: written from a house and a record.
 pub mod codes;
 pub mod enter;
-mod places;
-pub mod run;
+pub mod places;
 mod units;
 pub mod write;

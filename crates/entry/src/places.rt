@@ -1,71 +1,67 @@
-// Where each part of an entry begins and how wide it is, in bits: each begins where the one before it ends.
+// Where each part of an entry begins, in bits: each begins where the one before it ends. An entry is written and read in units
+// of six bits, each in an octet of its own, of which four are three octets.
 use zone::form::Form;
 
-pub(crate) const CHARACTER: usize = 6;
+pub const CHARACTER: usize = 6;
 
-pub(crate) const HOUSE: usize = 0;
+pub const HOUSE: usize = 0;
 
-pub(crate) const HOUSE_BITS: usize = 15;
+pub const HOUSE_BITS: usize = 15;
 
-pub(crate) const FORM: usize = HOUSE + HOUSE_BITS;
+pub const FORM: usize = HOUSE + HOUSE_BITS;
 
-pub(crate) const FORM_BITS: usize = 3;
+pub const FORM_BITS: usize = 3;
 
-pub(crate) const STATE: usize = FORM + FORM_BITS;
+pub const STATE: usize = FORM + FORM_BITS;
 
-pub(crate) const STATE_BITS: usize = CHARACTER * Form::STATE;
+pub const NUMBER: usize = STATE + CHARACTER * Form::STATE;
 
-pub(crate) const NUMBER: usize = STATE + STATE_BITS;
+pub const BIRTH: usize = NUMBER + CHARACTER * Form::NUMBER;
 
-pub(crate) const NUMBER_BITS: usize = CHARACTER * Form::NUMBER;
+pub const EXPIRY: usize = BIRTH + CHARACTER * Form::DATE;
 
-pub(crate) const BIRTH: usize = NUMBER + NUMBER_BITS;
+pub const CODE: usize = EXPIRY + CHARACTER * Form::DATE;
 
-pub(crate) const DATE_BITS: usize = CHARACTER * Form::DATE;
+pub const NATIONALITY: usize = CODE + CHARACTER * Form::CODE;
 
-pub(crate) const EXPIRY: usize = BIRTH + DATE_BITS;
+pub const SEX: usize = NATIONALITY + CHARACTER * Form::STATE;
 
-pub(crate) const CODE: usize = EXPIRY + DATE_BITS;
+pub const SEX_BITS: usize = 2;
 
-pub(crate) const CODE_BITS: usize = CHARACTER * Form::CODE;
+pub const NAME_LENGTH: usize = SEX + SEX_BITS;
 
-pub(crate) const NATIONALITY: usize = CODE + CODE_BITS;
+pub const NAME_LENGTH_BITS: usize = 6;
 
-pub(crate) const SEX: usize = NATIONALITY + STATE_BITS;
+pub const NAME: usize = NAME_LENGTH + NAME_LENGTH_BITS;
 
-pub(crate) const SEX_BITS: usize = 2;
+// What stands before the length of the name, the front, is whole octets, of which the fours of units hold two more.
+pub const FRONT: usize = NAME_LENGTH / 8;
 
-pub(crate) const NAME_LENGTH: usize = SEX + SEX_BITS;
+pub const FRONT_FOURS: usize = FRONT / 3 + 1;
 
-pub(crate) const NAME_LENGTH_BITS: usize = 6;
+pub const FRONT_UNITS: usize = 4 * FRONT_FOURS;
 
-pub(crate) const NAME: usize = NAME_LENGTH + NAME_LENGTH_BITS;
+// As many units as the front has are enough for the rest, with one behind it.
+pub const UNITS: usize = 2 * FRONT_UNITS;
 
-// An entry is written and read in units of six bits. Behind the sex, with which its 34th octet ends, stand two octets more there,
-// so that the length of the name is one unit, too, and each of its characters.
-pub(crate) const OPENING: usize = NAME_LENGTH / 8;
+// How many times the rest is doubled as it is packed: once for each bit of a unit that its first number does not have.
+pub const DOUBLED: u32 = 1;
 
-pub(crate) const SPREAD: usize = OPENING + 2;
+// Room for the octets of the longest entry, to whole fours.
+pub const OCTETS: usize = UNITS / 4 * 3;
 
-// The units and the octets of the longest entry.
-pub(crate) const UNITS: usize = NAME_UNIT + Form::NAME;
+pub const STATE_UNIT: usize = STATE / CHARACTER;
 
-pub(crate) const OCTETS: usize = UNITS / 4 * 3;
+pub const NUMBER_UNIT: usize = NUMBER / CHARACTER;
 
-pub(crate) const STATE_UNIT: usize = STATE / CHARACTER;
+pub const BIRTH_UNIT: usize = BIRTH / CHARACTER;
 
-pub(crate) const NUMBER_UNIT: usize = NUMBER / CHARACTER;
+pub const EXPIRY_UNIT: usize = EXPIRY / CHARACTER;
 
-pub(crate) const BIRTH_UNIT: usize = BIRTH / CHARACTER;
+pub const CODE_UNIT: usize = CODE / CHARACTER;
 
-pub(crate) const EXPIRY_UNIT: usize = EXPIRY / CHARACTER;
+pub const NATIONALITY_UNIT: usize = NATIONALITY / CHARACTER;
 
-pub(crate) const CODE_UNIT: usize = CODE / CHARACTER;
+pub const SEX_UNIT: usize = SEX / CHARACTER;
 
-pub(crate) const NATIONALITY_UNIT: usize = NATIONALITY / CHARACTER;
-
-pub(crate) const SEX_UNIT: usize = SEX / CHARACTER;
-
-pub(crate) const NAME_LENGTH_UNIT: usize = 8 * SPREAD / CHARACTER;
-
-pub(crate) const NAME_UNIT: usize = NAME_LENGTH_UNIT + 1;
+pub const NAME_UNIT: usize = FRONT_UNITS + 1;

@@ -5,11 +5,8 @@ ghost use Prim.Native.Nat.{_+_, _*_, _/_, _%_, _≤_, _<_};
 ghost use lib.ListN.{length, set};
 ghost use Rattle.lent.specs.Copied.{copied};
 ghost use Rattle.zone.specs.Codes.{codeOf};
-ghost use Rattle.cells.specs.Bits.{bitsAt};
-ghost use Rattle.entry.specs.Inner.Units.{fourAt, packed};
-ghost use Rattle.entry.specs.Run.{charactersAt};
-use crate::bits::wide;
-use zone::codes::characters;
+ghost use Rattle.entry.specs.Inner.Units.{fourAt, fourOn, packed, on};
+use crate::places::DOUBLED;
 use zone::codes::code_of;
 
 // Every character becomes its code. Every octet is stored, so that the compiler takes many at a time.
@@ -23,16 +20,30 @@ pub(crate) fn to_codes(s: &mut [u8])
     }
 }
 
+fn wide(octet: u8) -> u32
+    ensures { λ r. ⌜ (r ≡ octet) × (r < 256) ⌝ }
+{
+    octet as u32
+}
+
 // The number that four units say.
 fn four_at(s: &[u8], at: usize) -> u32
     requires { ⌜ at + 4 ≤ length (now s) ⌝ }
-    ensures { λ r. ⌜ r ≡ fourAt (now (s .entry)) at ⌝ }
+    ensures { λ r. ⌜ (r ≡ fourAt (now (s .entry)) at) × (r < 134217728) ⌝ }
 {
     let two = wide(s[at]) * 64 + wide(s[at + 1]);
     (two * 64 + wide(s[at + 2])) * 64 + wide(s[at + 3])
 }
 
-// Its three octets.
+// The number that they say some bits on, with the first bits of the next unit behind them.
+fn four_on(s: &[u8], at: usize) -> u32
+    requires { ⌜ at + 5 ≤ length (now s) ⌝ }
+    ensures { λ r. ⌜ r ≡ fourOn on (now (s .entry)) at ⌝ }
+{
+    four_at(s, at) * DOUBLED + wide(s[at + 4]) % 64 / (64 / DOUBLED)
+}
+
+// Three octets of a number.
 fn put_three(out: &mut [u8], at: usize, number: u32)
     requires { ⌜ at + 3 ≤ length (now out) ⌝ }
     ensures { λ _. ⌜ now (out .exit) ≡ set (set (set (now (out .entry)) at (number / 65536 % 256))
@@ -44,40 +55,27 @@ fn put_three(out: &mut [u8], at: usize, number: u32)
 }
 
 // The octets of units, at the front of a range that has room for them.
-pub(crate) fn pack(out: &mut [u8], s: &[u8])
-    requires { ⌜ length (now s) / 4 * 3 ≤ length (now out) ⌝ }
-    ensures { λ _. ⌜ now (out .exit) ≡ copied (now (out .entry)) (packed (now (s .entry))) ⌝ }
+pub(crate) fn pack(out: &mut [u8], s: &[u8], fours: usize)
+    requires { ⌜ (4 * fours ≤ length (now s)) × (3 * fours ≤ length (now out)) ⌝ }
+    ensures { λ _. ⌜ now (out .exit) ≡ copied (now (out .entry)) (packed 0 fours (now (s .entry))) ⌝ }
 {
     let mut i = 0;
-    while i < s.len() / 4 {
+    while i < fours {
         let number = four_at(s, 4 * i);
         put_three(out, 3 * i, number);
         i += 1;
     }
 }
 
-// The number that three octets say.
-fn three_at(s: &[u8], at: usize) -> u32
-    requires { ⌜ at + 3 ≤ length (now s) ⌝ }
-    ensures { λ r. ⌜ (r ≡ bitsAt (now (s .entry)) (8 * at) 24) × (r < 16777216) ⌝ }
+// The same some bits on: a unit more stands behind them.
+pub(crate) fn pack_on(out: &mut [u8], s: &[u8], fours: usize)
+    requires { ⌜ (4 * fours < length (now s)) × (3 * fours ≤ length (now out)) ⌝ }
+    ensures { λ _. ⌜ now (out .exit) ≡ copied (now (out .entry)) (packed on fours (now (s .entry))) ⌝ }
 {
-    (wide(s[at]) * 256 + wide(s[at + 1])) * 256 + wide(s[at + 2])
-}
-
-// The characters of octets, at the front of a range that has room for them.
-pub(crate) fn unpack(to: &mut [u8], s: &[u8])
-    requires { ⌜ length (now s) / 3 * 4 ≤ length (now to) ⌝ }
-    ensures { λ _. ⌜ now (to .exit) ≡
-        copied (now (to .entry)) (charactersAt (now (s .entry)) 0 (length (now (s .entry)) / 3 * 4)) ⌝ }
-{
-    let table = characters();
     let mut i = 0;
-    while i < s.len() / 3 {
-        let number = three_at(s, 3 * i);
-        to[4 * i] = table[(number / 262144) as usize];
-        to[4 * i + 1] = table[(number / 4096 % 64) as usize];
-        to[4 * i + 2] = table[(number / 64 % 64) as usize];
-        to[4 * i + 3] = table[(number % 64) as usize];
+    while i < fours {
+        let number = four_on(s, 4 * i);
+        put_three(out, 3 * i, number);
         i += 1;
     }
 }

@@ -2,22 +2,37 @@
 ghost use mathlib.Core.Path.{_≡_};
 ghost use mathlib.Core.Bool.{true};
 ghost use mathlib.Core.List.{_++_};
-ghost use Prim.Native.Nat.{_≤_};
+ghost use Prim.Native.Nat.{_≤_, _<_};
 ghost use lib.ListN.{length, drop};
+ghost use Rattle.lent.specs.Copied.{copied, copiedAt};
 ghost use Rattle.zone.specs.Rooms.{nameRoom};
 ghost use Rattle.sound.specs.Sound.{isSound};
-ghost use Rattle.entry.specs.Entry.{entryOf, size, Writes};
-ghost use Rattle.entry.specs.Inner.Units.{placed, unitsOf};
+ghost use Rattle.entry.specs.Entry as E;
+ghost use Rattle.entry.specs.Inner.Units.{allUnits, allOctets, frontFours, frontOctets, frontUnits, on, packed};
+ghost use Rattle.entry.specs.Inner.Units.{placed, restFours, sizeBy, unitsOf};
 use crate::codes;
 use crate::places;
-use crate::run::is_house;
-use crate::run::size;
 use crate::units::pack;
+use crate::units::pack_on;
 use crate::units::to_codes;
 use refusal::Refusal;
 use refusal::Written;
 use zone::alphabet::FILLER;
 use zone::record::Record;
+
+pub fn is_house(house: u32) -> bool
+    ensures { λ r. ⌜ r ≡ E.isHouse house ⌝ }
+{
+    (1 <= house) & (house <= 32767)
+}
+
+// The octets of an entry whose name has n characters.
+fn size(n: usize) -> usize
+    requires { ⌜ n ≤ nameRoom ⌝ }
+    ensures { λ r. ⌜ r ≡ sizeBy n ⌝ }
+{
+    (places::NAME + places::CHARACTER * n + 7) / 8
+}
 
 // The characters of a record, each at its unit, and fillers where numbers go.
 fn characters_of(r: Record) -> [u8; places::UNITS]
@@ -48,34 +63,39 @@ fn units_of(house: u32, r: Record) -> [u8; places::UNITS]
     units[1] = (head / 64 % 64) as u8;
     units[2] = (head % 64) as u8;
     units[places::SEX_UNIT] = sex * 16;
-    units[places::NAME_LENGTH_UNIT] = r.name_len as u8;
+    units[places::FRONT_UNITS] = r.name_len as u8;
     units
+}
+
+// The front, and the rest behind it, over the octets that the front's fours have too many.
+fn pack_units(octets: &mut [u8], units: &[u8], n: usize)
+    requires { ⌜ (n ≤ nameRoom) × (length (now units) ≡ allUnits) × (length (now octets) ≡ allOctets) ⌝ }
+    ensures { λ _. ⌜ now (octets .exit) ≡ copiedAt (copied (now (octets .entry)) (packed 0 frontFours (now (units .entry))))
+        frontOctets (packed on (restFours n) (drop frontUnits (now (units .entry)))) ⌝ }
+{
+    pack(octets, units, places::FRONT_FOURS);
+    pack_on(
+        &mut octets[places::FRONT..],
+        &units[places::FRONT_UNITS..],
+        (n + 4) / 4,
+    );
 }
 
 // The octets of an entry, into a range that has room for them.
 fn write_octets(house: u32, r: Record, out: &mut [u8])
-    requires { ⌜ (house ≤ 32767) × (isSound r ≡ true) × (r .«name_len» ≤ nameRoom) × (size (r .«name_len») ≤ length (now out)) ⌝ }
-    ensures { λ _. ⌜ now (out .exit) ≡ entryOf house r ++ drop (size (r .«name_len»)) (now (out .entry)) ⌝ }
+    requires { ⌜ (E.isHouse house ≡ true) × (isSound r ≡ true) × (E.size r ≤ length (now out)) ⌝ }
+    ensures { λ _. ⌜ now (out .exit) ≡ E.entryOf house r ++ drop (E.size r) (now (out .entry)) ⌝ }
 {
     let units = units_of(house, r);
-    let n = r.name_len;
     let mut octets = [0; places::OCTETS];
-    pack(
-        &mut octets,
-        lent::part(&units, 0, places::NAME_LENGTH_UNIT + (n + 4) / 4 * 4),
-    );
-    lent::copy(out, lent::part(&octets, 0, places::OPENING));
-    let name = size(n) - places::OPENING;
-    lent::copy_at(
-        out,
-        places::OPENING,
-        lent::part(&octets, places::SPREAD, name),
-    );
+    let n = r.name_len;
+    pack_units(&mut octets, &units, n);
+    lent::copy(out, lent::part(&octets, 0, size(n)));
 }
 
 // The entry of a record: 17 for a house or a record that is not sound, then 16 for an output that is too short.
 pub fn write(house: u32, r: Record, out: &mut [u8]) -> Written
-    ensures { λ w. ⌜ Writes house r (now (out .entry)) (now (out .exit)) w ⌝ }
+    ensures { λ w. ⌜ E.Writes house r (now (out .entry)) (now (out .exit)) w ⌝ }
 {
     if is_house(house) & sound::is_sound(r) {
         let octets = size(r.name_len);

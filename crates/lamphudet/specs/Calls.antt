@@ -9,7 +9,7 @@ use Rattle.refusal.specs.Length.{Length, refused}
 use Rattle.text.specs.Read as reading
 use Rattle.writing.specs.Answer.{textAnswer, textOut}
 use Rattle.entry.specs.Entered.{enteredAnswer, enteredOut}
-use Rattle.entry.specs.Run as run
+use Rattle.runs.specs.Run as run
 use Rattle.tlv.specs.declared.Stretch as tlv
 use Rattle.lamphudet.specs.declared.received.AnswerInC.{AnswerInC}
 use Rattle.lamphudet.specs.Answer.{notRefused, refusedInC}

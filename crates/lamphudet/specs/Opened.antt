@@ -7,7 +7,7 @@ use lib.ListN.{length}
 use Rattle.zone.specs.declared.record.Record.{Record}
 use Rattle.zone.specs.Record.{blank}
 use Rattle.entry.specs.Codes.{formCode}
-use Rattle.entry.specs.Run.{readEntry}
+use Rattle.runs.specs.Run.{readEntry}
 use Rattle.lamphudet.specs.Calls.{isOnly}
 use Rattle.lamphudet.specs.declared.received.RecordInC.{RecordInC}
 

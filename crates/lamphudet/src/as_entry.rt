@@ -1,15 +1,15 @@
 // A record that passes as its entry: the one entry that is lent is written as a text, or opened.
 ghost use mathlib.Core.Path.{_≡_};
 ghost use Rattle.refusal.specs.Length.{lengthOf};
-ghost use Rattle.entry.specs.Run.{onwardOf};
+ghost use Rattle.runs.specs.Run.{onwardOf};
 ghost use Rattle.lamphudet.specs.Calls.{isOnly, writtenAnswer, writtenOut};
 ghost use Rattle.lamphudet.specs.Opened.{openedInC};
 use crate::border::record_in_c;
 use crate::received::RecordInC;
-use entry::run::Step;
 use refusal::Cause;
 use refusal::Refusal;
 use refusal::Written;
+use runs::run::Step;
 use zone::record::Record;
 
 const NOT_ONE_ENTRY: Refusal = Refusal {
@@ -32,7 +32,7 @@ pub(crate) fn write_one(only: &[u8], out: &mut [u8]) -> Written
     ensures { λ w. ⌜ lengthOf w ≡ writtenAnswer (now (only .entry)) (now (out .entry)) ⌝ }
     ensures { λ _. ⌜ now (out .exit) ≡ writtenOut (now (only .entry)) (now (out .entry)) ⌝ }
 {
-    let standing = entry::run::next(only, 0);
+    let standing = runs::run::next(only, 0);
     let kept = standing.kept;
     let step = standing.step;
     if is_only(step, only.len()) {
@@ -45,7 +45,7 @@ pub(crate) fn write_one(only: &[u8], out: &mut [u8]) -> Written
 pub(crate) fn open_one(only: &[u8]) -> RecordInC
     ensures { λ r. ⌜ r ≡ openedInC (now (only .entry)) ⌝ }
 {
-    let standing = entry::run::next(only, 0);
+    let standing = runs::run::next(only, 0);
     let kept = standing.kept;
     let step = standing.step;
     if is_only(step, only.len()) {

@@ -3,7 +3,7 @@ ghost use mathlib.Core.Path.{_≡_};
 ghost use Prim.Native.Nat.{_<_};
 ghost use Rattle.refusal.specs.Length.{lengthOf, refused};
 ghost use Rattle.refusal.specs.Numbers.{whyOf};
-ghost use Rattle.entry.specs.Run.{onwardOf};
+ghost use Rattle.runs.specs.Run.{onwardOf};
 ghost use Rattle.lamphudet.specs.Answer.{notRefused, inC};
 ghost use Rattle.lamphudet.specs.Calls.{nextInC, stretchInC};
 ghost use Rattle.lamphudet.specs.Opened.{recordInC};
@@ -11,10 +11,10 @@ use crate::received::AnswerInC;
 use crate::received::RecordInC;
 use crate::received::StretchInC;
 use entry::codes::form_code;
-use entry::run::Step;
 use refusal::NO_DIGIT;
 use refusal::Refusal;
 use refusal::Written;
+use runs::run::Step;
 use zone::record::Record;
 
 fn not_refused(value: u64) -> AnswerInC

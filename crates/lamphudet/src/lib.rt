@@ -5,7 +5,7 @@ ghost use Rattle.zone.specs.declared.form.Source.the-variants.{Alone};
 ghost use Rattle.text.specs.Read.{readText};
 ghost use Rattle.chip.specs.Presentation.{readPresentation, groupStretch};
 ghost use Rattle.sha256.specs.Answer.{digestAnswer, digestOut};
-ghost use Rattle.entry.specs.Run.{readEntry};
+ghost use Rattle.runs.specs.Run.{readEntry};
 ghost use Rattle.lamphudet.specs.Answer.{inC};
 ghost use Rattle.lamphudet.specs.Calls.{readAnswer, readOut, writtenAnswer, writtenOut, nextInC, stretchInC};
 ghost use Rattle.lamphudet.specs.Opened.{openedInC};
@@ -71,7 +71,7 @@ pub extern "C" fn lamphudet_open_entry(entry: &[u8]) -> RecordInC
 pub extern "C" fn lamphudet_next_entry(run: &[u8], offset: u64) -> AnswerInC
     ensures { λ r. ⌜ r ≡ nextInC (readEntry (now (run .entry)) offset .onward) ⌝ }
 {
-    let standing = entry::run::next(run, offset as usize);
+    let standing = runs::run::next(run, offset as usize);
     let step = standing.step;
     next_in_c(step)
 }

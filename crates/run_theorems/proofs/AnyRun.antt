@@ -11,7 +11,7 @@ use native.Mathlib.Omega.{arith}
 use lib.ListN.{length, drop, length-append, drop-of-length-le}
 use Rattle.refusal.specs.Numbers.{by}
 use Rattle.entry.specs.Entry.{entryOf}
-use Rattle.entry.specs.Run.{Onward, next, none, refused, readEntry}
+use Rattle.runs.specs.Run.{Onward, next, none, refused, readEntry}
 use Rattle.zone.specs.Octets.{areOctets}
 use Rattle.run_theorems.specs.Runs.{Line, isKept, allKept, joined, Reading, onwards, lineAt, readFrom, readRun, Passed}
 use Rattle.run_theorems.specs.Runs.{NoEntry, Ends, ended, broken}

@@ -1,7 +1,7 @@
 -- DEMAND 3, lengths: the entry of a sound record with a name of n characters has 278 + 6n bits rounded up to bytes, 36 at n = 1
 -- and 64 at n = 39, and no entry has fewer or more.
 use Prim.Native.Nat.{ℕ, _≤_}
-use mathlib.Core.Path.{_≡_, refl}
+use mathlib.Core.Path.{_≡_}
 use mathlib.Core.Bool.{true}
 use native.Mathlib.Omega.{arith}
 use lib.ListN.{length}
@@ -9,19 +9,19 @@ use Rattle.zone.specs.declared.record.Record.{Record}
 use Rattle.sound.specs.Sound.{isSound}
 use Rattle.entry.specs.Entry.{entryOf, size}
 use Rattle.sound.proofs.SoundRecord.{taken-apart}
-use Rattle.entry.proofs.EntryBits.{length-sound-entry}
+use Rattle.entry.proofs.Values.{length-entry}
 
-pub shortest-entry : size 1 ≡ 36
+pub shortest-entry : (r : Record) → r .«name_len» ≡ 1 → size r ≡ 36
 unfolding size
-shortest-entry = refl
+shortest-entry r e = rw e
 
-pub longest-entry : size 39 ≡ 64
+pub longest-entry : (r : Record) → r .«name_len» ≡ 39 → size r ≡ 64
 unfolding size
-longest-entry = refl
+longest-entry r e = rw e
 
 module _ (house : ℕ) (r : Record) (sound : isSound r ≡ true) where
-  pub entry-length : length (entryOf house r) ≡ size (r .«name_len»)
-  entry-length = length-sound-entry r (taken-apart r sound) house
+  pub entry-length : length (entryOf house r) ≡ size r
+  entry-length = length-entry r (taken-apart r sound) house
 
   pub entry-bounds : (36 ≤ length (entryOf house r)) × (length (entryOf house r) ≤ 64)
   unfolding size

@@ -28,8 +28,8 @@ use Rattle.writing.specs.Text.{textOf}
 use Rattle.writing.specs.Answer.{textAnswer, textOut}
 use Rattle.entry.specs.Entry.{entryOf, size, isHouse, entryAnswer, entryOut}
 use Rattle.entry.specs.Entered.{enteredAnswer, enteredOut}
-use Rattle.entry.specs.Run as run
-use Rattle.entry.proofs.EntryBits.{length-sound-entry}
+use Rattle.runs.specs.Run as run
+use Rattle.entry.proofs.Values.{length-entry}
 use Rattle.text_theorems.proofs.RoundTrip.{text-length}
 use Rattle.run_theorems.specs.Expected.{numberTold, valueTold}
 use Rattle.run_theorems.specs.EveryCall.{Steps, AnswersInC}
@@ -45,13 +45,13 @@ module _ (end house : ℕ) (r : Record) (out : List ℕ) where
   entered-answers numbers o each =
       let b = isHouse house && isSound r in
       let all = entered numbers in
-      write-answers (size (r .«name_len»)) (entryOf house r) out all refl end (orElse o (unless b 17 0))
+      write-answers (size r) (entryOf house r) out all refl end (orElse o (unless b 17 0))
       (each-else (Told all end) o (unless b 17 0)
       (λ why p e. let h = each why p e in (entered-of numbers (numberOf why) (h .0), h .1))
       (each-unless (Told all end) b 17 0 (refl, omega arith)))
       (λ e.
       let sound = and-both (isHouse house) (isSound r) (unless-kept b 17 0 (both-passed o (unless b 17 0) e .1)) .1 in
-      length-sound-entry r (taken-apart r sound) house)
+      length-entry r (taken-apart r sound) house)
 
   pub entry-answers : Answers ofEntry end out (entryAnswer house r out) (entryOut house r out)
   unfolding entryAnswer entryOut enteredAnswer enteredOut
@@ -97,7 +97,7 @@ module _ (at : ℕ) where
   unfolding run.entryBy
   entry-steps Unknown s = refused-steps
   entry-steps (As f) s = either-way (Steps at) (run.isEntry f s) _ _
-      (next-steps (at + size (run.nameLength s)) (run.houseIn s) (run.recordIn f s)) refused-steps
+      (next-steps (at + run.sizeIn s) (run.houseIn s) (run.recordIn f s)) refused-steps
 
   pub run-steps : (w : List ℕ) → Steps at (run.readEntry w at)
   unfolding run.readEntry

@@ -33,7 +33,7 @@ module _ (house : ℕ) (r : Record) (out : List ℕ) where
       write-each NoDigit none-written (none-refused 16 0 (λ e. omega arith)) (unless (isHouse house && isSound r) 17 0)
       (each-unless (λ why p. NoDigit (told.refused why p)) (isHouse house && isSound r) 17 0
       (none-refused 17 0 (λ e. omega arith)))
-      (size (r .«name_len»)) out
+      (size r) out
 
   -- of a reader whose refusals 9 carry a digit
   pub entered-told : (o : Outcome) → ((n : Why) (p : ℕ) → o ≡ refused n p → numberOf n ≡ 9 → (d : ℕ) × (n ≡ expecting d))

@@ -4,59 +4,49 @@ use Prim.Native.Nat.{ℕ}
 use mathlib.Core.Path.{_≡_, refl, ap, sym, _∙_}
 use mathlib.Core.Logic.{_↔_}
 use mathlib.Core.Bool.{true}
-use mathlib.Core.List.{List, []}
-use native.Mathlib.Omega.{arith}
+use mathlib.Core.List.{List, [], _∷_, map}
 use lib.ListN.{length, take}
-use lib.Seq.{take-at}
 use Rattle.refusal.specs.Outcome.{passed}
+use Rattle.zone.specs.declared.form.Form.{Form}
 use Rattle.zone.specs.declared.form.Source.the-variants.{Alone}
 use Rattle.zone.specs.declared.record.Record.{Record}
+use Rattle.zone.specs.Alphabet.{isCharacter, every}
+use Rattle.zone.specs.Codes.{codeOf, characterOf}
 use Rattle.zone.specs.Record.{trimmedLength, trimmed, padded}
+use Rattle.zone.proofs.FormTold.{as-same}
 use Rattle.zone.proofs.Padded.{padded-exact, padded-trimmed}
-use Rattle.zone.specs.Alphabet.{every}
 use Rattle.sound.specs.Sound.{isSound}
+use Rattle.sound.proofs.SoundRecord.{Sound, taken-apart}
 use Rattle.text.specs.Read.{readText}
-use Rattle.cells.specs.Bits.{put, octets}
-use Rattle.entry.specs.Entry.{putKey, putRest, size, isHouse}
-use Rattle.entry.specs.Run.{spare}
+use Rattle.cells.specs.Cells.{octetsOf}
+use Rattle.cells.proofs.RowOctets.{octets-begin, octets-tell}
+use Rattle.entry.specs.Codes.{formCode, formBy}
+use Rattle.entry.specs.Row.{key, afterKey, cells}
+use Rattle.entry.specs.Entry.{keyValues, restValues, valuesOf, entryOf, isHouse}
+use Rattle.entry.proofs.Coded.{codes-tell}
+use Rattle.entry.proofs.FormsAndSexes.{form-tells}
+use Rattle.entry.proofs.Values.{key-fits, key-sized}
 use Rattle.run_theorems.specs.Keys.{keyOf, wholeNumber, SameKey}
 use Rattle.text_theorems.proofs.RecordOfText.{kept-and-sound}
-use Rattle.cells.proofs.BitsOfOctets.{bitsOf, isBit}
-use Rattle.cells.proofs.OctetsOfBits.{bits-octets, take-octets}
-use Rattle.sound.proofs.SoundRecord.{Sound, taken-apart}
-use Rattle.entry.proofs.EntryBits.{entryBits, key-followed, key-bits, length-key, length-entry-bits, entry-bits-bits}
-use Rattle.entry.proofs.EntryBits.{entry-filled}
-use Rattle.run_theorems.proofs.WrittenThenRead.{key-read}
-use Rattle.zone.proofs.FormTold.{as-same}
 
--- ---- the thirty bytes are those of the key's bits
-
-no-bits : every isBit [] ≡ true
-unfolding every
-no-bits = refl
+-- ---- the thirty bytes are those of the row's beginning
 
 module _ (h : ℕ) (r : Record) (o : Sound r) where
-  key-length : length (putKey h r []) ≡ 240
-  key-length = length-key r o h []
-
-  key-octets : keyOf h r ≡ octets (putKey h r [])
-  unfolding keyOf size
-  key-octets =
-      let t = putRest r (put (spare (r .«name_len»)) 0 []) in
-      let front : take 240 (putKey h r t) ≡ putKey h r [] = ap (take 240) (sym (key-followed h r [] t))
-      ∙ take-at (putKey h r []) t 240 key-length in
-      ap (take 30) (entry-filled r o h)
-      ∙ take-octets 30 (size (r .«name_len»)) (entryBits h r []) (entry-bits-bits r o h) (length-entry-bits r o h) (omega arith)
-      ∙ ap octets front
-
-  bits-key : bitsOf (keyOf h r) ≡ putKey h r []
-  bits-key = ap bitsOf key-octets ∙ bits-octets 30 (putKey h r []) (key-bits h r [] no-bits) key-length
+  key-octets : keyOf h r ≡ octetsOf (cells key) (keyValues h r)
+  unfolding keyOf entryOf valuesOf keyValues
+  key-octets = octets-begin (cells key) (cells afterKey) (keyValues h r) (restValues r) 30 (key-sized r o h) refl
 
   number-whole : r .number ≡ padded 22 (wholeNumber r)
   unfolding trimmed wholeNumber
   number-whole = sym (rw (o .number-ends) at (padded-trimmed 22 (r .number)) ∙ padded-exact 22 (r .number) (o .number-places))
 
 -- ---- agreeing keys
+
+same-codes : (a b : List ℕ) → every isCharacter a ≡ true → every isCharacter b ≡ true → map codeOf a ≡ map codeOf b → a ≡ b
+same-codes a b p q e = sym (codes-tell a p) ∙ ap (map characterOf) e ∙ codes-tell b q
+
+same-form : (f g : Form) → formCode f ≡ formCode g → f ≡ g
+same-form f g e = as-same f g (sym (form-tells f .0) ∙ ap formBy e ∙ form-tells g .0)
 
 module _ (h k : ℕ) (r q : Record) (house : isHouse h ≡ true) (sound : isSound r ≡ true) (house′ : isHouse k ≡ true)
     (sound′ : isSound q ≡ true) where
@@ -66,30 +56,33 @@ module _ (h k : ℕ) (r q : Record) (house : isHouse h ≡ true) (sound : isSoun
   o′ : Sound q
   o′ = taken-apart q sound′
 
+  same-values : keyOf h r ≡ keyOf k q → keyValues h r ≡ keyValues k q
+  same-values e =
+      octets-tell (cells key) (keyValues h r) (keyValues k q) (key-fits r o h house) (key-fits q o′ k house′)
+      (sym (key-octets h r o) ∙ e ∙ key-octets k q o′)
+
   agreeing : keyOf h r ≡ keyOf k q → SameKey h r k q
-  unfolding wholeNumber
+  unfolding wholeNumber keyValues
   agreeing e =
-      let s = keyOf h r in
-      let a = key-read h r house o s [] (bits-key h r o) .0 in
-      let b = key-read k q house′ o′ s [] (ap bitsOf e ∙ bits-key k q o′) .0 in
-      let number : r .number ≡ q .number = sym (a .number-read-back) ∙ b .number-read-back in
+      let v = same-values e in
+      let number : r .number ≡ q .number = same-codes (r .number) (q .number) (o .number-characters) (o′ .number-characters) (cc v) in
       let count : r .«number_len» ≡ q .«number_len» = sym (o .number-ends) ∙ ap trimmedLength number ∙ o′ .number-ends in
       record {
-        same-house = sym (a .house-read) ∙ b .house-read;
-        same-form = as-same (r .form) (q .form) (sym (a .form-read) ∙ b .form-read);
-        same-state = sym (a .state-read) ∙ b .state-read;
+        same-house = cc v;
+        same-form = same-form (r .form) (q .form) (cc v);
+        same-state = same-codes (r .state) (q .state) (o .state-characters) (o′ .state-characters) (cc v);
         same-number = rw (number, count);
-        same-birth = sym (a .birth-read) ∙ b .birth-read;
-        same-expiry = sym (a .expiry-read) ∙ b .expiry-read;
+        same-birth = same-codes (r .birth) (q .birth) (o .birth-characters) (o′ .birth-characters) (cc v);
+        same-expiry = same-codes (r .expiry) (q .expiry) (o .expiry-characters) (o′ .expiry-characters) (cc v);
       }
 
   agreed : SameKey h r k q → keyOf h r ≡ keyOf k q
-  unfolding putKey
+  unfolding keyValues
   agreed e =
       let number : r .number ≡ q .number = number-whole h r o ∙ ap (padded 22) (e .same-number) ∙ sym (number-whole k q o′) in
-      let bits : putKey h r [] ≡ putKey k q [] = rw
+      let values : keyValues h r ≡ keyValues k q = rw
       (e .same-house, e .same-form, e .same-state, number, e .same-birth, e .same-expiry) in
-      key-octets h r o ∙ ap octets bits ∙ sym (key-octets k q o′)
+      key-octets h r o ∙ ap (octetsOf (cells key)) values ∙ sym (key-octets k q o′)
 
   pub key-exactly : (keyOf h r ≡ keyOf k q) ↔ SameKey h r k q
   key-exactly = (agreeing, agreed)

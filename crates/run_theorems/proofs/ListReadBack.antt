@@ -12,7 +12,7 @@ use Rattle.lent.proofs.Bools.{and-both}
 use Rattle.zone.specs.Record.{blank}
 use Rattle.sound.specs.Sound.{isSound}
 use Rattle.entry.specs.Entry.{entryOf, isHouse}
-use Rattle.entry.specs.Run.{none, readEntry}
+use Rattle.runs.specs.Run.{none, readEntry}
 use Rattle.run_theorems.specs.Runs.{Line, isKept, allKept, joined, Reading, onwards, lineAt, readFrom, readRun}
 use Rattle.run_theorems.proofs.WrittenThenRead.{some-octets, read-back}
 

@@ -22,7 +22,7 @@ use Rattle.sound.specs.Sound.{isSound}
 use Rattle.sound.proofs.SoundRecord.{taken-apart}
 use Rattle.entry.specs.Entry.{entryOf, size, isHouse}
 use Rattle.entry.specs.Entered.{enteredAnswer, enteredOut}
-use Rattle.entry.proofs.EntryBits.{length-sound-entry}
+use Rattle.entry.proofs.Values.{length-entry}
 use Rattle.entry.proofs.Entered.{Enters, entered}
 use Rattle.run_theorems.specs.Entered.{Allowed, Leaves}
 use Rattle.run_theorems.specs.Expected.{numberTold, valueTold}
@@ -53,7 +53,7 @@ Apart numbers = (isOf numbers 0 ≡ false) × (isOf numbers 16 ≡ false) × (is
 module _ (house : ℕ) (r : Record) (out : List ℕ) where
   -- the octets of the entry
   abbrev octets : ℕ
-  octets = size (r .«name_len»)
+  octets = size r
 
   abbrev answer : Outcome → told.Length
   answer o = enteredAnswer o house r out
@@ -132,7 +132,7 @@ module _ (house : ℕ) (r : Record) (out : List ℕ) where
     pub zero-leaves : numberTold (answer o) ≡ 0 → Leaves (entryOf house r) out (valueTold (answer o)) (enteredOut o house r out)
     zero-leaves e =
         let h = zero-enters e in
-        let long = length-sound-entry r (taken-apart r (h .sound)) house in
+        let long = length-entry r (taken-apart r (h .sound)) house in
         let w = entered house r out o h in
         record {
           told = ap valueTold (w .0) ∙ sym long;

@@ -13,9 +13,9 @@ use Rattle.lent.proofs.Bools.{both-and}
 use Rattle.zone.specs.declared.form.Recognised.{Recognised}
 use Rattle.zone.specs.declared.form.Recognised.the-variants.{As, Unknown}
 use Rattle.zone.specs.Record.{blank}
-use Rattle.entry.specs.Entry.{entryOf, size}
-use Rattle.entry.specs.Run.{Standing, Onward, next, none, refused, houseIn, formIn, nameLength, recordIn, isEntry, entryBy}
-use Rattle.entry.specs.Run.{noEntry, readEntry}
+use Rattle.entry.specs.Entry.{entryOf}
+use Rattle.runs.specs.Run.{Standing, Onward, next, none, refused, houseIn, formIn, recordIn, sizeIn, isEntry, entryBy}
+use Rattle.runs.specs.Run.{noEntry, readEntry}
 use Rattle.zone.specs.Octets.{areOctets}
 use Rattle.run_theorems.specs.Runs.{Line, isKept, lineAt, NoEntry}
 use Rattle.run_theorems.proofs.WrittenThenRead.{read-where-stands}
@@ -33,15 +33,15 @@ next-not-none n e = let z : _≡_ {A = ℕ} 0 1 = cc in omega arith
 
 -- an entry is passed over, or the answer is 18 here
 entry-or-not : (told : Recognised) (s : List ℕ) (at : ℕ) (o : Onward) → entryBy told s at .onward ≡ o
-    → (o ≡ next (at + size (nameLength s))) ⊎ (o ≡ refused (by 18) at)
+    → (o ≡ next (at + sizeIn s)) ⊎ (o ≡ refused (by 18) at)
 unfolding entryBy noEntry
 entry-or-not Unknown s at o e = inr (sym e)
 entry-or-not (As f) s at o e = go (isEntry f s) e
   where
     go : (x : Bool)
-        → cond x (record { onward = next (at + size (nameLength s)); house = houseIn s; kept = recordIn f s })
+        → cond x (record { onward = next (at + sizeIn s); house = houseIn s; kept = recordIn f s })
         (noEntry at) .onward ≡ o
-        → (o ≡ next (at + size (nameLength s))) ⊎ (o ≡ refused (by 18) at)
+        → (o ≡ next (at + sizeIn s)) ⊎ (o ≡ refused (by 18) at)
     go true h = inl (sym h)
     go false h = inr (sym h)
 
@@ -50,8 +50,8 @@ module _ (w : List ℕ) (at : ℕ) where
   unfolding readEntry noEntry
   none-end e = go (eqb at (length w)) refl (ltb (length w) at) e
     where
-      other : (none ≡ next (at + size (nameLength (drop at w)))) ⊎ (none ≡ refused (by 18) at) → ⊥
-      other (inl h) = next-not-none (at + size (nameLength (drop at w))) (sym h)
+      other : (none ≡ next (at + sizeIn (drop at w))) ⊎ (none ≡ refused (by 18) at) → ⊥
+      other (inl h) = next-not-none (at + sizeIn (drop at w)) (sym h)
       other (inr h) = none-not-refused _ at h
 
       go : (a : Bool) → eqb at (length w) ≡ a → (b : Bool)
@@ -64,11 +64,11 @@ module _ (w : List ℕ) (at : ℕ) where
 
   -- the next offset is behind this one
   pub next-behind : (n : ℕ) → readEntry w at .onward ≡ next n → at < n
-  unfolding readEntry noEntry size
+  unfolding readEntry noEntry sizeIn
   next-behind n e = go (eqb at (length w)) (ltb (length w) at) e
     where
-      other : (next n ≡ next (at + size (nameLength (drop at w)))) ⊎ (next n ≡ refused (by 18) at) → at < n
-      other (inl h) = let same : n ≡ at + size (nameLength (drop at w)) = cc in omega (arith, same)
+      other : (next n ≡ next (at + sizeIn (drop at w))) ⊎ (next n ≡ refused (by 18) at) → at < n
+      other (inl h) = let same : n ≡ at + sizeIn (drop at w) = cc in omega (arith, same)
       other (inr h) = absurd (next-not-refused n _ at h)
 
       go : (a b : Bool)
@@ -84,9 +84,9 @@ module _ (w : List ℕ) (at : ℕ) where
   unfolding readEntry noEntry
   refused-here k p e = go (eqb at (length w)) refl (ltb (length w) at) e
     where
-      other : (refused k p ≡ next (at + size (nameLength (drop at w)))) ⊎ (refused k p ≡ refused (by 18) at)
+      other : (refused k p ≡ next (at + sizeIn (drop at w))) ⊎ (refused k p ≡ refused (by 18) at)
           → refused k p ≡ refused (by 18) at
-      other (inl h) = absurd (next-not-refused (at + size (nameLength (drop at w))) k p (sym h))
+      other (inl h) = absurd (next-not-refused (at + sizeIn (drop at w)) k p (sym h))
       other (inr h) = h
 
       go : (a : Bool) → eqb at (length w) ≡ a → (b : Bool)

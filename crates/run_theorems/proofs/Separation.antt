@@ -17,7 +17,7 @@ use Rattle.zone.specs.declared.record.Record.{Record}
 use Rattle.zone.specs.Octets.{areOctets}
 use Rattle.entry.specs.Entry.{entryOf, size}
 use Rattle.entry.specs.Entered.{enteredOut}
-use Rattle.entry.specs.Run.{houseIn}
+use Rattle.runs.specs.Run.{houseIn}
 use Rattle.entry.proofs.Entered.{Enters, entered}
 use Rattle.run_theorems.specs.Keys.{keyOf, SameKey}
 use Rattle.run_theorems.specs.Runs.{Line, isKept, allKept, readRun, Ends}
@@ -35,7 +35,7 @@ unfolding keyOf
 entered-begins o house r out h =
     let w = entered house r out o h in
     let long = entry-bounds house r (h .sound) in
-    ap (take 30) (w .1) ∙ take-append-le 30 (entryOf house r) (drop (size (r .«name_len»)) out) (omega (arith, long .0))
+    ap (take 30) (w .1) ∙ take-append-le 30 (entryOf house r) (drop (size r) out) (omega (arith, long .0))
 
 module _ (h k : ℕ) (o p : Outcome) (r q : Record) (out to : List ℕ) (x : Enters o h r out) (y : Enters p k q to) where
   pub entries-apart : (take 30 (enteredOut o h r out) ≡ take 30 (enteredOut p k q to)) ↔ SameKey h r k q

@@ -12,7 +12,7 @@ use Rattle.entry.specs.Entry.{size, isHouse}
 pub record Allowed (Rules : Type 0) (house : ℕ) (r : Record) (out : List ℕ) : Type 0 where
   pub kept : Rules
   pub housed : isHouse house ≡ true
-  pub room : size (r .«name_len») ≤ length out
+  pub room : size r ≤ length out
 
 -- the octets stand in front of the range, what stood behind them stands there as it was, and their number is told
 pub record Leaves (octets out : List ℕ) (value : ℕ) (after : List ℕ) : Type 0 where

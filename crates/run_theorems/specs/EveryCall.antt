@@ -12,7 +12,7 @@ use Rattle.refusal.specs.Outcome.{refused}
 use Rattle.refusal.specs.Output.{Told}
 use Rattle.zone.specs.Record.{blank}
 use Rattle.text.specs.Read.{Answer}
-use Rattle.entry.specs.Run as run
+use Rattle.runs.specs.Run as run
 
 -- what was lent ends at `end`: a refusal has one of the reader's numbers and a place no further, and gives the blank record
 pub record Reads (numbers : List ℕ) (end : ℕ) (a : Answer) : Type 0 where

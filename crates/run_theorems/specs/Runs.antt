@@ -9,7 +9,7 @@ use Rattle.refusal.specs.Numbers.{by}
 use Rattle.zone.specs.declared.record.Record.{Record}
 use Rattle.sound.specs.Sound.{isSound}
 use Rattle.entry.specs.Entry.{isHouse, entryOf}
-use Rattle.entry.specs.Run.{Onward, next, none, refused, readEntry}
+use Rattle.runs.specs.Run.{Onward, next, none, refused, readEntry}
 
 -- what one entry holds: "an entry from a house and a record"
 pub record Line : Type 0 where

@@ -5,7 +5,7 @@ use mathlib.Core.Bool.{cond}
 use mathlib.Core.List.{List, [], _∷_}
 use lib.Dec.{eqb}
 use Rattle.entry.specs.Entry.{entryOf}
-use Rattle.entry.specs.Run.{houseIn}
+use Rattle.runs.specs.Run.{houseIn}
 use Rattle.run_theorems.specs.Runs.{Line}
 
 -- the lines of a list that are a house's

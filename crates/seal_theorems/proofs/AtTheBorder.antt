@@ -20,7 +20,7 @@ module _ (house : ℕ) (s out : List ℕ) where
   Kept = Enters (readSeal s .outcome) house (readSeal s .kept) out
 
   abbrev octets : ℕ
-  octets = size (readSeal s .kept .«name_len»)
+  octets = size (readSeal s .kept)
 
   abbrev answer : Length
   answer = enteredAnswer (readSeal s .outcome) house (readSeal s .kept) out

@@ -1,7 +1,7 @@
 -- The run reader's own promise, told in numbers.
 use borrow.Author.Needs.{needs}
 use mathlib.Core.Path.{ap, _∙_}
-use Rattle.entry.specs.Run.{Standing, standingOf}
+use Rattle.runs.specs.Run.{Standing, standingOf}
 use Rattle.lamphudet.specs.Calls.{nextInC}
 use Rattle.lamphudet.proofs.lamphudet_next_entry.Statement.{statement}
 use Rattle.lamphudet.proofs.lamphudet_next_entry.Tie as tie

@@ -7,12 +7,14 @@ use Rattle.entry.proofs.units.four_at.Tie as tie
 returns : tie.Need-returns
 unfolding fourAt
 returns c =
-    let b = c .before .before in
-    rw (
-      c .wide4 .ensures .0,
-      b .wide3 .ensures .0,
-      b .before .before .wide2 .ensures .0,
-      b .before .before .before .before .wide .ensures .0,
+    let b = c .before .before in (
+      rw (
+        c .wide4 .ensures .0,
+        b .wide3 .ensures .0,
+        b .before .before .wide2 .ensures .0,
+        b .before .before .before .before .wide .ensures .0,
+      ),
+      search needs,
     )
 
 pub four-at-spec : {M : Type 1} → statement M

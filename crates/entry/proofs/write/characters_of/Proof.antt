@@ -1,12 +1,10 @@
 -- Each field is copied behind the one before it, over fillers (`copied-placed`).
 use borrow.Author.Needs.{needs}
-use Rattle.entry.specs.Inner.Units.{before, placed}
 use Rattle.entry.proofs.Placing.{copied-placed}
 use Rattle.entry.proofs.write.characters_of.Statement.{statement}
 use Rattle.entry.proofs.write.characters_of.Tie as tie
 
 returns : tie.Need-returns
-unfolding placed before
 returns c =
     let name = c .before in
     let nationality = name .before .before .before .before .before .before in
@@ -27,8 +25,8 @@ returns c =
       number .copy-at2 .ensures,
       state .copy-at .ensures,
     )
-    (copied-placed (r .state) (r .number) (r .birth) (r .expiry) (r .code) (r .nationality) (r .name) (search (needs, g))
-    (search (needs, g)) (search (needs, g)) (search (needs, g)) (search (needs, g)) (search (needs, g)) (search (needs, g)))
+    (copied-placed r (search (needs, g)) (search (needs, g)) (search (needs, g)) (search (needs, g)) (search (needs, g))
+    (search (needs, g)) (search (needs, g)))
 
 pub characters-of-spec : {M : Type 1} → statement M
 characters-of-spec =

@@ -2,7 +2,7 @@
 use borrow.Author.Needs.{needs}
 use native.Mathlib.Omega.{arith}
 use Rattle.sound.proofs.SoundRecord.{taken-apart}
-use Rattle.entry.proofs.Placing.{numbers-placed, sound-before}
+use Rattle.entry.proofs.Placing.{numbers-placed}
 use Rattle.entry.proofs.write.units_of.Statement.{statement}
 use Rattle.entry.proofs.write.units_of.Tie as tie
 
@@ -18,7 +18,7 @@ returns c =
       told .before .sex-code .ensures .0,
       told .before .before .form-code .ensures .0,
     )
-    (numbers-placed (a .house) (a .r) (sound-before (a .r) s))
+    (numbers-placed (a .house) (a .r) s)
 
 pub units-of-spec : {M : Type 1} → statement M
 units-of-spec =

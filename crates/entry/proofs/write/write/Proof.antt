@@ -1,10 +1,10 @@
--- What may be entered fits (`kept-fits`), and its entry has the size that was tested.
+-- What may be entered has the size that was tested.
 use borrow.Author.Tests.{le-leb, lt-leb}
 use borrow.Author.Needs.{needs}
 use Rattle.lent.proofs.Bools.{and-both}
 use Rattle.sound.specs.Sound.{isSound}
-use Rattle.entry.specs.Entry.{isHouse, entryAnswer, entryOut}
-use Rattle.entry.proofs.Fits.{kept-fits}
+use Rattle.sound.proofs.SoundRecord.{taken-apart}
+use Rattle.entry.specs.Entry.{size, isHouse, entryAnswer, entryOut}
 use Rattle.entry.proofs.write.write.Statement.{statement}
 use Rattle.entry.proofs.write.write.Tie as tie
 
@@ -12,40 +12,37 @@ size-requires : tie.Need-size-requires
 size-requires c κs =
     let a = c .before .before .before .before .args in
     let kept = rw (c .before .is-sound .ensures, c .before .before .is-house .ensures) at (c .if1 .taken) in
-    let fits = kept-fits (a .house) (a .r) kept in
-    search needs
+    taken-apart (a .r) (and-both (isHouse (a .house)) (isSound (a .r)) kept .1) .name-most
 
 write-octets-requires : tie.Need-write-octets-requires
+unfolding size
 write-octets-requires c κs =
     let sized = c .before .before in
     let early = sized .before in
     let a = early .before .before .before .before .args in
-    let kept = rw (early .before .is-sound .ensures, early .before .before .is-house .ensures) at (early .if1 .taken) in (
-      kept-fits (a .house) (a .r) kept .0,
-      and-both (isHouse (a .house)) (isSound (a .r)) kept .1,
-      kept-fits (a .house) (a .r) kept .1,
-      rw (sized .size .ensures .0) at (c .before .if2 .taken),
-    )
+    let kept = rw (early .before .is-sound .ensures, early .before .before .is-house .ensures) at (early .if1 .taken) in
+    let both = and-both (isHouse (a .house)) (isSound (a .r)) kept in
+    (both .0, both .1, rw (sized .size .ensures) at (c .before .if2 .taken))
 
 returns : tie.Need-returns
-unfolding entryAnswer entryOut
+unfolding size entryAnswer entryOut
 returns c =
     let early = c .before .before .before .before .before .before in
-    let s = c .before .before .before .before .before .size .ensures .0 in
+    let s = c .before .before .before .before .before .size .ensures in
     let kept = rw (early .before .is-sound .ensures, early .before .before .is-house .ensures) at (early .if1 .taken) in
     let h = le-leb _ _ (rw s at (c .before .before .before .before .if2 .taken)) in
     record { answer = rw (kept, h, s); output = rw (kept, h) (c .before .before .write-octets .ensures) }
 
 returns-2 : tie.Need-returns-2
-unfolding entryAnswer entryOut
+unfolding size entryAnswer entryOut
 returns-2 c =
     let early = c .before .before in
     let kept = rw (early .before .is-sound .ensures, early .before .before .is-house .ensures) at (early .if1 .taken) in
-    let h = rw (c .before .size .ensures .0) at (lt-leb _ _ (c .if2 .left)) in
+    let h = rw (c .before .size .ensures) at (lt-leb _ _ (c .if2 .left)) in
     record { answer = rw (kept, h); output = rw (kept, h) }
 
 returns-3 : tie.Need-returns-3
-unfolding entryAnswer entryOut
+unfolding size entryAnswer entryOut
 returns-3 c =
     let kept = rw (c .before .is-sound .ensures, c .before .before .is-house .ensures) at (c .if1 .left) in
     record { answer = rw kept; output = rw kept }

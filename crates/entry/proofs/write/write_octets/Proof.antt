@@ -1,81 +1,65 @@
--- The octets of the units are those of the entry (`entry-packed`), copied one part behind the other (`entry-copied`).
+-- The first octets of the packed units are those of the entry (`entry-packed`).
 use borrow.Author.Needs.{needs}
 use denote.Ref.{now}
 use mathlib.Core.Path.{_≡_, _∙_}
 use native.Mathlib.Omega.{arith}
-use Prim.Native.Nat.{_+_, _*_, _/_}
-use lib.ListN.{length, length-take}
+use lib.ListN.{length}
+use lib.Seq.{take-all}
 use Rattle.sound.proofs.SoundRecord.{taken-apart}
-use Rattle.entry.specs.Entry.{size}
-use Rattle.entry.specs.Inner.Units.{packed, unitsOf}
-use Rattle.entry.proofs.EntryUnits.{entry-packed, entry-copied, shortened-opening, shortened-name}
-use Rattle.entry.proofs.EntryUnits.{length-units-of, size-least, size-most}
-use Rattle.entry.proofs.Packing.{length-packed}
+use Rattle.entry.specs.Entry.{entryOf, size}
+use Rattle.entry.proofs.EntryUnits.{entry-packed}
+use Rattle.entry.proofs.Values.{house-range, length-entry}
 use Rattle.entry.proofs.write.write_octets.Statement.{statement}
 use Rattle.entry.proofs.write.write_octets.Tie as tie
 
-pack-requires : tie.Need-pack-requires
-pack-requires c κs =
-    let unit = c .before .before .before in
-    let n = unit .before .before .args .r .«name_len» in
-    let s = taken-apart (unit .before .before .args .r) (unit .before .before .pre .1) in
-    let u = unitsOf (unit .before .before .args .house) (unit .before .before .args .r) in
-    rw (c .part .ensures, unit .units-of .ensures)
-    (omega (arith, length-take (48 + (n + 4) / 4 * 4) u, length-units-of (unit .before .before .args .house) _ s))
+units-of-requires : tie.Need-units-of-requires
+units-of-requires c κs = (house-range (c .before .args .house) (c .before .pre .0) .1, search needs)
 
-sub-name : tie.Need-sub-name
-sub-name c =
-    let unit = c .before .before .before .before .before .before .before .before .before .before .before .before in
-    omega (arith, size-least (unit .before .before .args .r .«name_len»))
+pack-units-requires : tie.Need-pack-units-requires
+pack-units-requires c κs =
+    let start = c .before .before .before .before in
+    (taken-apart (start .args .r) (start .pre .1) .name-most, search needs, search needs)
+
+size-requires : tie.Need-size-requires
+size-requires c κs =
+    let start = c .before .before .before .before .before .before .before .before in
+    taken-apart (start .args .r) (start .pre .1) .name-most
 
 returns : tie.Need-returns
+unfolding size
 returns c =
-    let second = c .before .before in
-    let sized = second .before .before .before .before in
-    let first = sized .before .before .before in
-    let packing = first .before .before .before .before .before in
-    let unit = packing .before .before .before .before in
+    let copied = c .before .before in
+    let cut = copied .before in
+    let sized = cut .before in
+    let packed = sized .before .before .before .before in
+    let unit = packed .before .before .before in
     let start = unit .before .before in
     let house = start .args .house in
     let r = start .args .r in
     let s = taken-apart r (start .pre .1) in
-    let u = unitsOf house r in
-    let long = length-units-of house r s in
-    let l : length (packed u) ≡ 66 = length-packed u ∙ omega arith in
+    let e = entryOf house r in
+    let long : length e ≡ size r = length-entry r s house in
     rw (
-      second .copy-at .ensures,
-      second .before .part3 .ensures,
-      sized .size .ensures .0,
-      first .copy .ensures,
-      first .before .part2 .ensures,
-      packing .pack .ensures,
-      packing .before .part .ensures,
+      copied .copy .ensures,
+      cut .part .ensures,
+      sized .size .ensures,
+      packed .pack-units .ensures,
       unit .units-of .ensures,
-      shortened-opening u (r .«name_len») long (s .name-most),
-      shortened-name u (r .«name_len») long (s .name-most),
-      entry-packed house r s (start .pre .0),
+      entry-packed house r (start .pre .0) s,
+      long,
+      take-all (length (now (start .args .out))) e (omega (arith, start .pre .2)),
     )
-    (entry-copied (now (start .args .out)) (packed u) (size (r .«name_len»)) l (size-least (r .«name_len»))
-    (size-most (r .«name_len») (s .name-most)) (start .pre .3))
 
 pub write-octets-spec : {M : Type 1} → statement M
 write-octets-spec =
     tie.close
     (tie.spec
-    (λ c κs. (search needs, search needs))
+    units-of-requires
     (λ c. search needs)
     (λ c. search needs)
+    pack-units-requires
     (λ c. search needs)
-    (λ c. search needs)
-    (λ c. search needs)
-    (λ c κs. search needs)
-    pack-requires
-    (λ c. search needs)
-    (λ c κs. search needs)
-    (λ c κs. search needs)
-    (λ c κs. search needs)
-    sub-name
-    (λ c. search needs)
+    size-requires
     (λ c κs. search needs)
     (λ c κs. search needs)
     (λ c. search needs)

@@ -4,8 +4,8 @@ use mathlib.Core.Path.{sym, _∙_}
 use native.Mathlib.Omega.{arith}
 use denote.Ref.{now}
 use Rattle.zone.specs.Record.{blank}
-use Rattle.entry.specs.Run.{standingOf}
-use Rattle.entry.proofs.Lengths.{short-read}
+use Rattle.runs.specs.Run.{standingOf}
+use Rattle.runs.proofs.Lengths.{short-read}
 use Rattle.lamphudet.specs.Opened.{openedInC}
 use Rattle.lamphudet.proofs.as_entry.open_one.Statement.{statement}
 use Rattle.lamphudet.proofs.as_entry.open_one.Tie as tie

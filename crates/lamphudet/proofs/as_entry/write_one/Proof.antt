@@ -1,7 +1,7 @@
 -- The run reader says whether the range is one entry.
 use borrow.Author.Needs.{needs}
 use mathlib.Core.Path.{sym, _∙_}
-use Rattle.entry.specs.Run.{standingOf}
+use Rattle.runs.specs.Run.{standingOf}
 use Rattle.lamphudet.specs.Calls.{writtenAnswer, writtenOut}
 use Rattle.lamphudet.proofs.as_entry.write_one.Statement.{statement}
 use Rattle.lamphudet.proofs.as_entry.write_one.Tie as tie

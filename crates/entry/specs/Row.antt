@@ -1,0 +1,62 @@
+-- The row of an entry: document 01, "The entry, most significant bit first". Every place and every length follows from it.
+use Prim.Native.Nat.{ℕ, _+_, _*_}
+use mathlib.Core.Bool.{cond}
+use mathlib.Core.List.{List, [], _∷_, _++_}
+use lib.Dec.{eqb}
+use Rattle.cells.specs.Cells.{Cell, fixed, counted}
+
+pub data Part : Type 0 where
+  house form state number birth expiry code nationality sex name : Part
+
+-- a number for each, by which two are compared
+abbrev pub rank : Part → ℕ
+rank house = 0
+rank form = 1
+rank state = 2
+rank number = 3
+rank birth = 4
+rank expiry = 5
+rank code = 6
+rank nationality = 7
+rank sex = 8
+rank name = 9
+
+infix 70 _of_
+-- a part and its cell
+pub data Place : Type 0 where
+  _of_ : Part → Cell → Place
+
+-- "house 15 bits; form 3; state 18; number 132; birth 36; expiry 36: thirty bytes, the key"; a character is 6 bits
+abbrev pub key : List Place
+key =
+    house of fixed 1 15 ∷ form of fixed 1 3 ∷ state of fixed 3 6 ∷ number of fixed 22 6 ∷ birth of fixed 6 6 ∷ expiry of fixed 6 6
+    ∷ []
+
+-- "then code 12, nationality 18, sex 2, name length 6, name"
+abbrev pub afterKey : List Place
+afterKey = code of fixed 2 6 ∷ nationality of fixed 3 6 ∷ sex of fixed 1 2 ∷ name of counted 6 6 ∷ []
+
+abbrev pub row : List Place
+row = key ++ afterKey
+
+abbrev pub cells : List Place → List Cell
+cells [] = []
+cells (x of c ∷ ps) = c ∷ cells ps
+
+-- the value of a part among those of a row
+abbrev pub valueIn : List Place → List (List ℕ) → Part → List ℕ
+valueIn [] vs x = []
+valueIn (y of c ∷ ps) [] x = []
+valueIn (y of c ∷ ps) (v ∷ vs) x = cond (eqb (rank x) (rank y)) v (valueIn ps vs x)
+
+abbrev pub valueOf : List (List ℕ) → Part → List ℕ
+valueOf vs x = valueIn row vs x
+
+-- the bits before a part, where all before it are of fixed widths
+abbrev pub startIn : List Place → Part → ℕ
+startIn [] x = 0
+startIn (y of fixed n w ∷ ps) x = cond (eqb (rank x) (rank y)) 0 (w * n + startIn ps x)
+startIn (y of counted k w ∷ ps) x = 0
+
+abbrev pub start : Part → ℕ
+start x = startIn row x

@@ -1,0 +1,52 @@
+-- The lengths of a record that is read, be it an entry's or the blank one: the number's room, and what six bits say.
+use Prim.Native.Nat.{ℕ, _+_, _<_, _≤_}
+use mathlib.Core.List.{List}
+use native.Mathlib.Omega.{arith}
+use lib.Dec.{eqb, ltb}
+use lib.ListN.{length, drop}
+use Rattle.lent.proofs.Bools.{either-way}
+use Rattle.zone.specs.declared.form.Form.{Form}
+use Rattle.zone.specs.declared.form.Recognised.{Recognised}
+use Rattle.zone.specs.declared.form.Recognised.the-variants.{As, Unknown}
+use Rattle.zone.specs.declared.record.Record.{Record}
+use Rattle.zone.specs.Rooms.{numberRoom}
+use Rattle.zone.specs.Record.{blank}
+use Rattle.zone.proofs.Padded.{trimmed-le}
+use Rattle.cells.proofs.ReadingBack.{length-numbers}
+use Rattle.cells.proofs.Shifts.{bits-below}
+use Rattle.entry.specs.Row as part
+use Rattle.entry.specs.Row.{start}
+use Rattle.runs.specs.Inner.Units.{charactersAt, nameLength}
+use Rattle.runs.specs.Run.{Standing, recordOf, recordIn, formIn, isEntry, noEntry, entryBy, readEntry}
+use Rattle.runs.proofs.Reading.{length-characters}
+
+pub record Short (r : Record) : Type 0 where
+  pub number-short : r .«number_len» ≤ numberRoom
+  pub name-short : r .«name_len» < 64
+
+blank-short : Short blank
+unfolding blank
+blank-short = record { number-short = omega arith; name-short = omega arith }
+
+entry-short : (f : Form) (s : List ℕ) → Short (recordIn f s)
+unfolding recordIn recordOf
+entry-short f s = record {
+  number-short = rw (length-characters s (start part.number) numberRoom) at
+      (trimmed-le (charactersAt s (start part.number) numberRoom));
+  name-short = rw (length-numbers s (start part.name + 6) (nameLength s) 6) (bits-below s (start part.name) 6);
+}
+
+-- of what stands at an offset
+abbrev ShortKept : Standing → Type 0
+ShortKept x = Short (x .kept)
+
+short-by : (o : Recognised) (s : List ℕ) (at : ℕ) → Short (entryBy o s at .kept)
+unfolding entryBy noEntry
+short-by (As f) s at = either-way ShortKept (isEntry f s) _ (noEntry at) (entry-short f s) blank-short
+short-by Unknown s at = blank-short
+
+pub short-read : (w : List ℕ) (at : ℕ) → Short (readEntry w at .kept)
+unfolding readEntry noEntry
+short-read w at =
+    either-way ShortKept (eqb at (length w)) _ _ blank-short
+    (either-way ShortKept (ltb (length w) at) (noEntry at) _ blank-short (short-by (formIn (drop at w)) (drop at w) at))

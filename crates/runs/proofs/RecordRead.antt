@@ -1,0 +1,78 @@
+-- The record that an entry says, from its units.
+use Prim.Native.Nat.{ℕ, _+_, _*_, _≤_, _<_}
+use mathlib.Core.Path.{_≡_, refl, ap, sym, _∙_}
+use mathlib.Core.Bool.{true}
+use mathlib.Core.List.{List}
+use native.Mathlib.Omega.{arith}
+use lib.ListN.{length, take, drop, getD, replicate}
+use Rattle.zone.specs.Alphabet.{filler}
+use Rattle.zone.specs.Record.{padded, trimmedLength}
+use Rattle.zone.specs.Rooms.{codeRoom, stateRoom, dateRoom, numberRoom, nameRoom}
+use Rattle.zone.specs.declared.form.Form.{Form}
+use Rattle.zone.specs.declared.record.Record.{Record}
+use Rattle.cells.specs.Bits.{bitsAt}
+use Rattle.cells.specs.Cells.{numbersAt}
+use Rattle.cells.proofs.ReadingBack.{length-numbers}
+use Rattle.cells.proofs.RowOctets.{Whole, whole-told}
+use Rattle.entry.specs.Codes.{sexBy}
+use Rattle.entry.specs.Row as part
+use Rattle.entry.specs.Row.{row, cells, start}
+use Rattle.entry.specs.Inner.Units.{unitOf, frontUnits}
+use Rattle.runs.specs.Run.{recordOf, recordIn, isWhole}
+use Rattle.runs.specs.Inner.Units.{charactersAt, nameLength, endBy, sizeBy, spareBy, allUnits, held, unitsOver, unitsIn}
+use Rattle.runs.proofs.UnitsRead.{field-read, padded-field, padded-name}
+
+pub units-are : (s u : List ℕ) (n : ℕ) → u ≡ unitsOver (replicate allUnits filler) (held s n) n → u ≡ unitsIn s n
+unfolding unitsIn
+units-are s u n e = e
+
+-- a field of so many characters at its unit
+abbrev pub fieldAt : List ℕ → (room at : ℕ) → List ℕ
+fieldAt u room at = padded room (take room (drop at u))
+
+abbrev pub recordAt : Form → List ℕ → (sex n : ℕ) → Record
+recordAt f u sex n = record {
+  form = f;
+  code = fieldAt u codeRoom (unitOf part.code);
+  state = fieldAt u stateRoom (unitOf part.state);
+  number = fieldAt u numberRoom (unitOf part.number);
+  «number_len» = trimmedLength (take numberRoom (drop (unitOf part.number) u));
+  nationality = fieldAt u stateRoom (unitOf part.nationality);
+  birth = fieldAt u dateRoom (unitOf part.birth);
+  sex = sexBy sex;
+  expiry = fieldAt u dateRoom (unitOf part.expiry);
+  name = fieldAt u nameRoom (frontUnits + 1);
+  «name_len» = n;
+}
+
+pub record-read : (f : Form) (s : List ℕ) (n : ℕ) → n < 64 → n ≡ nameLength s → isWhole s ≡ true
+    → recordAt f (unitsIn s n) (bitsAt s (start part.sex) 2) n ≡ recordIn f s
+unfolding recordIn recordOf numbersAt isWhole
+record-read f s n less same e =
+    let whole = whole-told (cells row) s e in
+    let fits : sizeBy n ≤ length s = rw (← same) at (whole .long) in
+    let spare : bitsAt s (endBy n) (spareBy n) ≡ 0 = rw (← same) at (whole .zeros) in
+    let code = padded-field s n fits less (unitOf part.code) codeRoom (omega arith) in
+    let state = padded-field s n fits less (unitOf part.state) stateRoom (omega arith) in
+    let number = padded-field s n fits less (unitOf part.number) numberRoom (omega arith) in
+    let length-of = ap trimmedLength (field-read s n fits less (unitOf part.number) numberRoom (omega arith)) in
+    let nationality = padded-field s n fits less (unitOf part.nationality) stateRoom (omega arith) in
+    let birth = padded-field s n fits less (unitOf part.birth) dateRoom (omega arith) in
+    let expiry = padded-field s n fits less (unitOf part.expiry) dateRoom (omega arith) in
+    let name = padded-name s n fits less spare
+    ∙ ap (λ (m : ℕ). padded nameRoom (charactersAt s (start part.name + 6) m)) same in
+    let long : n ≡ length (numbersAt s (start part.name + 6) (nameLength s) 6) =
+    same ∙ sym (length-numbers s (start part.name + 6) (nameLength s) 6) in
+    λ i. record {
+      form = f;
+      code = code i;
+      state = state i;
+      number = number i;
+      «number_len» = length-of i;
+      nationality = nationality i;
+      birth = birth i;
+      sex = sexBy (bitsAt s (start part.sex) 2);
+      expiry = expiry i;
+      name = name i;
+      «name_len» = long i;
+    }

@@ -1,0 +1,197 @@
+-- What is read of an entry whose octets stand alone, with zeros behind them: unit by unit the characters that its bits say, and
+-- fillers behind its name.
+use Prim.Native.Nat.{ℕ, zero, suc, _+_, _-_, _*_, _/_, _%_, _^_, _≤_, _<_}
+use mathlib.Core.Path.{_≡_, refl, ap, sym, _∙_}
+use mathlib.Core.Bool.{Bool, true, false}
+use mathlib.Core.List.{List, [], _∷_, _++_, map, map-append, append-assoc}
+use native.Mathlib.Nat.{zero-div}
+use native.Mathlib.Omega.{arith}
+use borrow.Author.Tests.{ltb-true, ltb-false}
+use lib.Dec.{ltb}
+use lib.ListN.{length, take, drop, getD, replicate, length-append, length-replicate, getD-replicate, replicate-append-replicate}
+use lib.ListN.{List·getD-eq-default}
+use lib.Seq.{take-all, take-at, drop-at, length-take-le, getD-append-add, drop-append-add}
+use Rattle.lent.specs.Copied.{copied, copiedAt}
+use Rattle.lent.proofs.Lists.{drop-replicate}
+use Rattle.zone.specs.Alphabet.{filler}
+use Rattle.zone.specs.Codes.{characterOf}
+use Rattle.zone.specs.Record.{padded}
+use Rattle.zone.specs.Rooms.{nameRoom}
+use Rattle.zone.proofs.Padded.{copied-padded, padded-spare, padded-exact, padded-full, padded-append, padded-nil, padded-zero}
+use Rattle.zone.proofs.Padded.{padded-cons, length-padded}
+use Rattle.cells.specs.Bits.{bit, bitsAt}
+use Rattle.cells.specs.Cells.{numbersAt, roundedUp, spareBits}
+use Rattle.cells.proofs.Alike.{bit-alike, numbers-alike, none-each, Unset, numbers-none, numbers-parted}
+use Rattle.cells.proofs.RowOctets.{whole-octets}
+use Rattle.entry.specs.Row as part
+use Rattle.entry.specs.Row.{start}
+use Rattle.entry.specs.Inner.Units.{frontOctets, frontUnits, unitOf, restFours}
+use Rattle.runs.specs.Inner.Units.{charactersAt, endBy, sizeBy, spareBy, mostFours, allUnits, allOctets, held, unitsOver, unitsIn}
+use Rattle.runs.proofs.Reading.{length-characters}
+
+-- ---- characters one behind the other, and fillers
+
+characters-parted : (s : List ℕ) (k m n : ℕ) → charactersAt s k (m + n) ≡ charactersAt s k m ++ charactersAt s (k + 6 * m) n
+characters-parted s k m n =
+    ap (map characterOf) (numbers-parted s k m n 6) ∙ map-append characterOf (numbersAt s k m 6) (numbersAt s (k + 6 * m) n 6)
+
+fillers-of : (n : ℕ) → map characterOf (replicate n 0) ≡ replicate n filler
+unfolding characterOf
+fillers-of zero = refl
+fillers-of (suc n) = ap (λ (l : List ℕ). filler ∷ l) (fillers-of n)
+
+padded-fillers : (k m : ℕ) → padded k (replicate m filler) ≡ replicate k filler
+padded-fillers k zero = padded-nil k
+padded-fillers zero (suc m) = padded-zero (replicate (suc m) filler)
+padded-fillers (suc k) (suc m) = padded-cons k filler (replicate m filler) ∙ ap (λ (l : List ℕ). filler ∷ l) (padded-fillers k m)
+
+-- fillers behind a list make no difference to its room
+fillers-behind : (k m : ℕ) (a : List ℕ) → padded k (a ++ replicate m filler) ≡ padded k a
+unfolding padded
+fillers-behind k m a = padded-append k a (replicate m filler) ∙ ap (λ (l : List ℕ). take k a ++ l) (padded-fillers (k - length a) m)
+
+-- a part of a list
+cut : (a b c r : List ℕ) (at m : ℕ) → length a ≡ at → length b ≡ m → take m (drop at ((a ++ (b ++ c)) ++ r)) ≡ b
+cut a b c r at m p q =
+    ap (λ (l : List ℕ). take m (drop at l)) (append-assoc a (b ++ c) r) ∙ ap (take m) (drop-at a ((b ++ c) ++ r) at p)
+    ∙ ap (take m) (append-assoc b c r) ∙ take-at b (c ++ r) m q
+
+zeros-octet : (k i : ℕ) → getD {A = ℕ} (replicate k 0) i 0 ≡ 0
+zeros-octet k i = go (ltb i k) refl
+  where
+    go : (b : Bool) → ltb i k ≡ b → getD {A = ℕ} (replicate k 0) i 0 ≡ 0
+    go true e = getD-replicate k i 0 0 (ltb-true i k e)
+    go false e = List·getD-eq-default (replicate k 0) 0 (rw (length-replicate {A = ℕ} k 0) (ltb-false i k e))
+
+module _ (s : List ℕ) (n : ℕ) (h : sizeBy n ≤ length s) (g : n < 64) where
+  -- ---- the octets
+
+  abbrev octets : List ℕ
+  octets = take (sizeBy n) s
+
+  octets-long : length octets ≡ sizeBy n
+  octets-long = length-take-le (sizeBy n) s h
+
+  held-parts : held s n ≡ octets ++ replicate (allOctets - sizeBy n) 0
+  unfolding held
+  held-parts =
+      rw (
+        length-replicate {A = ℕ} allOctets 0,
+        take-all allOctets octets (omega (arith, octets-long)),
+        octets-long,
+        drop-replicate (sizeBy n) allOctets 0,
+      )
+
+  held-alike : take (sizeBy n) (held s n) ≡ take (sizeBy n) s
+  held-alike =
+      ap (take (sizeBy n)) held-parts ∙ take-at octets (replicate (allOctets - sizeBy n) 0) (sizeBy n) octets-long
+
+  -- no bit behind the name
+  held-unset : bitsAt s (endBy n) (spareBy n) ≡ 0 → Unset (held s n) (endBy n)
+  unfolding bit
+  held-unset z j k = go (ltb j (8 * sizeBy n)) refl
+    where
+      past : sizeBy n ≤ j / 8 → getD (held s n) (j / 8) 0 ≡ 0
+      past l =
+          let e : length octets + (j / 8 - sizeBy n) ≡ j / 8 = omega (arith, octets-long) in
+          let zeros : List ℕ = replicate (allOctets - sizeBy n) 0 in
+          ap (λ (x : List ℕ). getD x (j / 8) 0) held-parts ∙ (rw e at (getD-append-add octets zeros (j / 8 - sizeBy n) 0))
+          ∙ zeros-octet (allOctets - sizeBy n) (j / 8 - sizeBy n)
+
+      go : (b : Bool) → ltb j (8 * sizeBy n) ≡ b → bit (held s n) j ≡ 0
+      go true t =
+          let l = ltb-true j (8 * sizeBy n) t in
+          let f : endBy n + (j - endBy n) ≡ j = omega arith in
+          bit-alike (held s n) s (sizeBy n) held-alike j l
+          ∙ (rw f at (none-each s (spareBy n) (endBy n) (j - endBy n) z (omega (arith, whole-octets (endBy n)))))
+      go false t =
+          let l = ltb-false j (8 * sizeBy n) t in
+          rw (past (omega arith)) (ap (λ (x : ℕ). x % 2) (zero-div (2 ^ (7 - j % 8))))
+
+  -- ---- the units
+
+  abbrev first : List ℕ
+  first = charactersAt (held s n) 0 frontUnits
+
+  abbrev second : List ℕ
+  second = charactersAt (held s n) (start part.name) (4 * restFours n)
+
+  first-long : length first ≡ frontUnits
+  first-long = length-characters (held s n) 0 frontUnits
+
+  units-parts : unitsIn s n ≡ first ++ padded (4 * mostFours) second
+  unfolding unitsIn unitsOver
+  units-parts =
+      let z : List ℕ = replicate (4 * mostFours) filler in
+      let one : copied (replicate allUnits filler) first ≡ first ++ z =
+      rw (take-all allUnits first (omega (arith, first-long)), first-long) in
+      ap (λ (l : List ℕ). copiedAt l frontUnits second) one
+      ∙ rw (take-at first z frontUnits first-long, drop-at first z frontUnits first-long)
+      (ap (λ (l : List ℕ). first ++ l) (copied-padded (4 * mostFours) second))
+
+  pub field-read : (at m : ℕ) → at + m ≤ unitOf part.sex → take m (drop at (unitsIn s n)) ≡ charactersAt s (6 * at) m
+  field-read at m k =
+      let x = held s n in
+      let d = frontUnits - at - m in
+      let e : frontUnits ≡ at + (m + d) = omega arith in
+      let f : 0 + 6 * at ≡ 6 * at = omega arith in
+      let a = charactersAt x 0 at in
+      let b = charactersAt x (6 * at) m in
+      let c = charactersAt x (6 * at + 6 * m) d in
+      let parts : first ≡ a ++ (b ++ c) = ap (charactersAt x 0) e
+      ∙ (rw f at (characters-parted x 0 at (m + d))) ∙ ap (λ (l : List ℕ). a ++ l) (characters-parted x (6 * at) m d) in
+      ap (λ (l : List ℕ). take m (drop at l)) (units-parts ∙ ap (λ (l : List ℕ). l ++ padded (4 * mostFours) second) parts)
+      ∙ cut a b c (padded (4 * mostFours) second) at m (length-characters x 0 at) (length-characters x (6 * at) m)
+      ∙ ap (map characterOf) (numbers-alike x s (sizeBy n) held-alike (6 * at) m 6 (omega arith))
+
+  -- the length of the name, its characters and fillers
+  second-parts : bitsAt s (endBy n) (spareBy n) ≡ 0
+      → second ≡ charactersAt (held s n) (start part.name) 1
+      ++ (charactersAt s (start part.name + 6) n ++ replicate (4 * restFours n - 1 - n) filler)
+  second-parts z =
+      let x = held s n in
+      let d = 4 * restFours n - 1 - n in
+      let e : 4 * restFours n ≡ 1 + (n + d) = omega arith in
+      let none : numbersAt x (endBy n) d 6 ≡ replicate d 0 = numbers-none x (endBy n) d 6 (held-unset z) in
+      let same : charactersAt x (start part.name + 6) n ≡ charactersAt s (start part.name + 6) n =
+      ap (map characterOf) (numbers-alike x s (sizeBy n) held-alike (start part.name + 6) n 6 (omega arith)) in
+      let rest : charactersAt x (start part.name + 6) (n + d) ≡ charactersAt s (start part.name + 6) n ++ replicate d filler =
+      characters-parted x (start part.name + 6) n d ∙ rw (same, none, fillers-of d) in
+      ap (charactersAt x (start part.name)) e ∙ characters-parted x (start part.name) 1 (n + d)
+      ∙ ap (λ (l : List ℕ). charactersAt x (start part.name) 1 ++ l) rest
+
+  name-read : bitsAt s (endBy n) (spareBy n) ≡ 0
+      → take nameRoom (drop (frontUnits + 1) (unitsIn s n)) ≡ padded nameRoom (charactersAt s (start part.name + 6) n)
+  name-read z =
+      let one = charactersAt (held s n) (start part.name) 1 in
+      let name = charactersAt s (start part.name + 6) n in
+      let d = 4 * restFours n - 1 - n in
+      let j = 4 * mostFours - 4 * restFours n in
+      let r : List ℕ = replicate d filler in
+      let u : List ℕ = replicate j filler in
+      let w : List ℕ = replicate (d + j) filler in
+      let long : length second ≡ 4 * restFours n = length-characters (held s n) (start part.name) (4 * restFours n) in
+      let all : padded (4 * mostFours) second ≡ second ++ u = rw long at (padded-spare (4 * mostFours) second (omega arith)) in
+      let parts : padded (4 * mostFours) second ≡ one ++ (name ++ w) =
+      all ∙ ap (λ (l : List ℕ). l ++ u) (second-parts z) ∙ simp append-assoc
+      (ap (λ (l : List ℕ). one ++ (name ++ l)) (replicate-append-replicate d j filler)) in
+      let behind : drop (frontUnits + 1) (unitsIn s n) ≡ name ++ w =
+      ap (drop (frontUnits + 1)) units-parts
+      ∙ (rw first-long at (drop-append-add first (padded (4 * mostFours) second) 1)) ∙ ap (drop 1) parts
+      ∙ drop-at one (name ++ w) 1 (length-characters (held s n) (start part.name) 1) in
+      let enough : nameRoom ≤ length (name ++ w) = rw (length-append name w)
+      (omega (arith, length-characters s (start part.name + 6) n, length-replicate {A = ℕ} (d + j) filler)) in
+      ap (take nameRoom) behind ∙ sym (padded-full nameRoom (name ++ w) enough) ∙ fillers-behind nameRoom (d + j) name
+
+  -- ---- each in its room
+
+  pub padded-field : (at m : ℕ) → at + m ≤ unitOf part.sex → padded m (take m (drop at (unitsIn s n))) ≡ charactersAt s (6 * at) m
+  padded-field at m k =
+      ap (padded m) (field-read at m k) ∙ padded-exact m (charactersAt s (6 * at) m) (length-characters s (6 * at) m)
+
+  pub padded-name : bitsAt s (endBy n) (spareBy n) ≡ 0
+      → padded nameRoom (take nameRoom (drop (frontUnits + 1) (unitsIn s n)))
+      ≡ padded nameRoom (charactersAt s (start part.name + 6) n)
+  padded-name z =
+      let x = charactersAt s (start part.name + 6) n in
+      ap (padded nameRoom) (name-read z) ∙ padded-exact nameRoom (padded nameRoom x) (length-padded nameRoom x)

@@ -1,0 +1,98 @@
+-- A record and the values of its row tell each other.
+use Prim.Native.Nat.{ℕ, _+_}
+use mathlib.Core.Path.{_≡_, refl, ap, sym, _∙_}
+use mathlib.Core.Bool.{true}
+use mathlib.Core.List.{List, [], _∷_, map}
+use native.Mathlib.Omega.{arith}
+use lib.ListN.{length, take, length-map}
+use lib.Seq.{take-all}
+use Rattle.zone.specs.Alphabet.{isCharacter, every}
+use Rattle.zone.specs.Codes.{codeOf, characterOf}
+use Rattle.zone.specs.Record.{trimmedLength, trimmed, padded}
+use Rattle.zone.specs.Rooms.{nameRoom}
+use Rattle.zone.specs.declared.form.Form.{Form}
+use Rattle.zone.specs.declared.form.Recognised.the-variants.{As}
+use Rattle.zone.specs.declared.record.Record.{Record}
+use Rattle.zone.proofs.Every.{every-take}
+use Rattle.zone.proofs.Padded.{padded-exact, padded-trimmed, take-padded}
+use Rattle.sound.specs.Sound.{isSound}
+use Rattle.sound.proofs.SoundRecord.{Sound, taken-apart}
+use Rattle.cells.specs.Bits.{bitsAt}
+use Rattle.cells.specs.Cells.{numbersAt}
+use Rattle.cells.proofs.ReadingBack.{length-numbers}
+use Rattle.cells.proofs.Shifts.{bits-below}
+use Rattle.entry.specs.Codes.{formCode, sexCode, sexBy}
+use Rattle.entry.specs.Entry.{keyValues, restValues, valuesOf}
+use Rattle.entry.specs.Row as part
+use Rattle.entry.specs.Row.{start}
+use Rattle.entry.proofs.Coded.{codes-tell, characters-tell}
+use Rattle.entry.proofs.FormsAndSexes.{sex-tells, tells-form, tells-sex}
+use Rattle.entry.proofs.Values.{name-coded}
+use Rattle.runs.specs.Run.{recordOf, recordIn, houseIn, formIn, valuesIn}
+use Rattle.runs.specs.Inner.Units.{charactersAt, nameLength}
+
+-- the values of a sound record say that record
+pub record-back : (house : ℕ) (r : Record) → Sound r → recordOf (r .form) (valuesOf house r) ≡ r
+unfolding recordOf valuesOf keyValues restValues trimmed
+record-back house r s =
+    let x = take (r .«name_len») (r .name) in
+    let code = codes-tell (r .code) (s .code-characters) in
+    let state = codes-tell (r .state) (s .state-characters) in
+    let number = codes-tell (r .number) (s .number-characters) in
+    let nationality = codes-tell (r .nationality) (s .nationality-characters) in
+    let birth = codes-tell (r .birth) (s .birth-characters) in
+    let expiry = codes-tell (r .expiry) (s .expiry-characters) in
+    let sex = sex-tells (r .sex) (s .sex-kept) .0 in
+    let ends = ap trimmedLength number ∙ s .number-ends in
+    let named : padded nameRoom x ≡ r .name = (rw (s .name-ends) at (padded-trimmed nameRoom (r .name)))
+    ∙ padded-exact nameRoom (r .name) (s .name-places) in
+    let name = ap (padded nameRoom) (codes-tell x (every-take isCharacter (r .«name_len») (r .name) (s .name-characters))) ∙ named in
+    let long = name-coded r s in
+    λ i. record {
+      form = r .form;
+      code = code i;
+      state = state i;
+      number = number i;
+      «number_len» = ends i;
+      nationality = nationality i;
+      birth = birth i;
+      sex = sex i;
+      expiry = expiry i;
+      name = name i;
+      «name_len» = long i;
+    }
+
+-- and the values that bits say are those of the record that they say, where it is sound
+module _ (f : Form) (s : List ℕ) (told : formIn s ≡ As f) (o : Sound (recordIn f s)) where
+  abbrev name : List ℕ
+  name = numbersAt s (start part.name + 6) (nameLength s) 6
+
+  name-there : take (length name) (padded nameRoom (map characterOf name)) ≡ map characterOf name
+  unfolding recordIn recordOf
+  name-there =
+      let c = map characterOf name in
+      let l : length c ≡ length name = length-map name characterOf in
+      rw l at (take-padded nameRoom c ∙ take-all nameRoom c (omega (arith, l, o .name-most)))
+
+  name-pure : every isCharacter (map characterOf name) ≡ true
+  unfolding recordIn recordOf
+  name-pure = ap (every isCharacter) (sym name-there) ∙ every-take isCharacter (length name) _ (o .name-characters)
+
+  pub values-back : valuesOf (houseIn s) (recordIn f s) ≡ valuesIn s
+  unfolding valuesOf keyValues restValues houseIn recordIn recordOf formIn numbersAt
+  values-back =
+      let form : formCode f ≡ bitsAt s (start part.form) 3 = tells-form (bitsAt s (start part.form) 3) f told in
+      let sex : sexCode (sexBy (bitsAt s (start part.sex) 2)) ≡ bitsAt s (start part.sex) 2 =
+      tells-sex (bitsAt s (start part.sex) 2) (bits-below s (start part.sex) 2) (o .sex-kept) in
+      rw (
+        form,
+        characters-tell (numbersAt s (start part.state) 3 6) (o .state-characters),
+        characters-tell (numbersAt s (start part.number) 22 6) (o .number-characters),
+        characters-tell (numbersAt s (start part.birth) 6 6) (o .birth-characters),
+        characters-tell (numbersAt s (start part.expiry) 6 6) (o .expiry-characters),
+        characters-tell (numbersAt s (start part.code) 2 6) (o .code-characters),
+        characters-tell (numbersAt s (start part.nationality) 3 6) (o .nationality-characters),
+        sex,
+        name-there,
+        characters-tell name name-pure,
+      )

@@ -1,0 +1,16 @@
+-- Six bits.
+use borrow.Author.Needs.{needs}
+use denote.Ref.{now}
+use Rattle.cells.proofs.Shifts.{bits-below}
+use Rattle.entry.specs.Row as part
+use Rattle.entry.specs.Row.{start}
+use Rattle.runs.proofs.record.name_length.Statement.{statement}
+use Rattle.runs.proofs.record.name_length.Tie as tie
+
+pub name-length-spec : {M : Type 1} → statement M
+name-length-spec =
+    tie.close
+    (tie.spec
+    (λ c κs. search needs)
+    (λ c. search needs)
+    (λ c. (c .bits .ensures, rw (c .bits .ensures) (bits-below (now (c .before .before .args .s)) (start part.name) 6))))

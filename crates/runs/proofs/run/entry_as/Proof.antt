@@ -1,0 +1,36 @@
+-- House and whole first; what is left is the record.
+use borrow.Author.Needs.{needs}
+use mathlib.Core.Bool.{and-assoc}
+use Rattle.cells.specs.Cells.{numbersAt}
+use Rattle.runs.specs.Run.{houseIn, isEntry, entryBy}
+use Rattle.runs.proofs.run.entry_as.Statement.{statement}
+use Rattle.runs.proofs.run.entry_as.Tie as tie
+
+sound-entry-requires : tie.Need-sound-entry-requires
+unfolding houseIn numbersAt
+sound-entry-requires c κs =
+    let kept = rw (c .before .is-whole .ensures, c .before .before .is-house .ensures) at (c .if1 .taken) in
+    ((search needs, search needs, search needs), (c .before .before .before .before .bits .ensures, kept))
+
+returns-2 : tie.Need-returns-2
+unfolding houseIn numbersAt isEntry entryBy
+returns-2 c =
+    let kept = rw (
+      c .before .before .is-whole .ensures,
+      c .before .before .before .is-house .ensures,
+      c .before .before .before .before .before .bits .ensures,
+    ) at (c .before .if1 .left) in
+    rw (c .no-entry .ensures, ← and-assoc, kept)
+
+pub entry-as-spec : {M : Type 1} → statement M
+entry-as-spec =
+    tie.close
+    (tie.spec
+    (λ c κs. search needs)
+    (λ c κs. search needs)
+    (λ c κs. search needs)
+    (λ c κs. search needs)
+    sound-entry-requires
+    (λ c κs. search needs)
+    (λ c. c .sound-entry .ensures)
+    returns-2)

@@ -1,0 +1,73 @@
+// What the bits of an entry stand for: a form, a sex, and fields of characters.
+ghost use mathlib.Core.Path.{_≡_};
+ghost use lib.ListN.{take, drop};
+ghost use Rattle.zone.specs.Record.{padded};
+ghost use Rattle.zone.specs.Rooms.{codeRoom, stateRoom, dateRoom, numberRoom, nameRoom};
+ghost use Rattle.entry.specs.Codes.{formBy, sexBy};
+use zone::alphabet::FILLER;
+use zone::form::Form;
+use zone::form::Recognised;
+
+pub(crate) fn form_by(code: u32) -> Recognised
+    ensures { λ r. ⌜ r ≡ formBy code ⌝ }
+{
+    match code {
+        0 => Recognised::As(Form::Td1),
+        1 => Recognised::As(Form::Td2),
+        2 => Recognised::As(Form::Td3),
+        _ => Recognised::Unknown,
+    }
+}
+
+// 0 for 3: no sex, so that no sound record holds it.
+pub(crate) fn sex_by(code: u32) -> u8
+    ensures { λ r. ⌜ r ≡ sexBy code ⌝ }
+{
+    match code {
+        0 => FILLER,
+        1 => b'F',
+        2 => b'M',
+        _ => 0,
+    }
+}
+
+// The fields of a record, from its characters in their units.
+pub(crate) fn code_at(units: &[u8], at: usize) -> [u8; Form::CODE]
+    ensures { λ r. ⌜ r ≡ padded codeRoom (take codeRoom (drop at (now (units .entry)))) ⌝ }
+{
+    let mut room = [FILLER; Form::CODE];
+    lent::copy(&mut room, lent::part(units, at, Form::CODE));
+    room
+}
+
+pub(crate) fn state_at(units: &[u8], at: usize) -> [u8; Form::STATE]
+    ensures { λ r. ⌜ r ≡ padded stateRoom (take stateRoom (drop at (now (units .entry)))) ⌝ }
+{
+    let mut room = [FILLER; Form::STATE];
+    lent::copy(&mut room, lent::part(units, at, Form::STATE));
+    room
+}
+
+pub(crate) fn date_at(units: &[u8], at: usize) -> [u8; Form::DATE]
+    ensures { λ r. ⌜ r ≡ padded dateRoom (take dateRoom (drop at (now (units .entry)))) ⌝ }
+{
+    let mut room = [FILLER; Form::DATE];
+    lent::copy(&mut room, lent::part(units, at, Form::DATE));
+    room
+}
+
+pub(crate) fn number_at(units: &[u8], at: usize) -> [u8; Form::NUMBER]
+    ensures { λ r. ⌜ r ≡ padded numberRoom (take numberRoom (drop at (now (units .entry)))) ⌝ }
+{
+    let mut room = [FILLER; Form::NUMBER];
+    lent::copy(&mut room, lent::part(units, at, Form::NUMBER));
+    room
+}
+
+pub(crate) fn name_at(units: &[u8], at: usize) -> [u8; Form::NAME]
+    ensures { λ r. ⌜ r ≡ padded nameRoom (take nameRoom (drop at (now (units .entry)))) ⌝ }
+{
+    let mut room = [FILLER; Form::NAME];
+    lent::copy(&mut room, lent::part(units, at, Form::NAME));
+    room
+}

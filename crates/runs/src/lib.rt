@@ -1,0 +1,7 @@
+// A run of entries, read one by one.
+mod bits;
+mod characters;
+mod places;
+mod record;
+pub mod run;
+mod units;

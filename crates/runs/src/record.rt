@@ -1,0 +1,108 @@
+// The record that an entry says, with its name's length and its size.
+ghost use mathlib.Core.Path.{_≡_};
+ghost use mathlib.Core.Bool.{true};
+ghost use Prim.Native.Nat.{_<_};
+ghost use lib.ListN.{length};
+ghost use Rattle.runs.specs.Inner.Units as U;
+ghost use Rattle.runs.specs.Run as R;
+use crate::bits::bits;
+use crate::characters;
+use crate::places as room;
+use crate::units::unpack;
+use entry::places;
+use zone::alphabet::FILLER;
+use zone::form::Form;
+use zone::record::Record;
+use zone::record::trimmed_length;
+
+pub(crate) fn name_length(s: &[u8]) -> usize
+    ensures { λ r. ⌜ (r ≡ U.nameLength (now (s .entry))) × (r < 64) ⌝ }
+{
+    bits(s, places::NAME_LENGTH, places::NAME_LENGTH_BITS) as usize
+}
+
+// Where a name of n characters ends.
+fn name_end(n: usize) -> usize
+    requires { ⌜ n < 64 ⌝ }
+    ensures { λ r. ⌜ r ≡ U.endBy n ⌝ }
+{
+    places::NAME + places::CHARACTER * n
+}
+
+// The octets of an entry whose name has n characters, and the bits of the last that are left over.
+pub(crate) fn size(n: usize) -> usize
+    requires { ⌜ n < 64 ⌝ }
+    ensures { λ r. ⌜ (r ≡ U.sizeBy n) × (r < 128) ⌝ }
+{
+    (name_end(n) + 7) / 8
+}
+
+fn spare(n: usize) -> usize
+    requires { ⌜ n < 64 ⌝ }
+    ensures { λ r. ⌜ (r ≡ U.spareBy n) × (r < 8) ⌝ }
+{
+    8 * size(n) - name_end(n)
+}
+
+// Not cut off, and the spare bits zero. The name has n characters.
+pub(crate) fn is_whole(s: &[u8], n: usize) -> bool
+    requires { ⌜ (n < 64) × (n ≡ U.nameLength (now s)) ⌝ }
+    ensures { λ r. ⌜ r ≡ R.isWhole (now (s .entry)) ⌝ }
+{
+    (size(n) <= s.len()) & (bits(s, name_end(n), spare(n)) == 0)
+}
+
+// The characters of an entry, each at its unit, into a range that is lent: by value they would be copied one by one. Its octets
+// stand in another, with zeros behind them.
+fn unpack_units(units: &mut [u8], octets: &[u8], n: usize)
+    requires { ⌜ (n < 64) × (length (now units) ≡ U.allUnits) × (length (now octets) ≡ U.allOctets) ⌝ }
+    ensures { λ _. ⌜ now (units .exit) ≡ U.unitsOver (now (units .entry)) (now (octets .entry)) n ⌝ }
+{
+    unpack(units, octets, 0, places::FRONT_FOURS);
+    unpack(
+        &mut units[places::FRONT_UNITS..],
+        octets,
+        places::NAME_LENGTH,
+        (n + 4) / 4,
+    );
+}
+
+fn read_units(units: &mut [u8], s: &[u8], n: usize)
+    requires { ⌜ (n < 64) × (length (now units) ≡ U.allUnits) ⌝ }
+    ensures { λ _. ⌜ now (units .exit) ≡ U.unitsOver (now (units .entry)) (U.held (now (s .entry)) n) n ⌝ }
+{
+    let mut octets = [0; room::OCTETS];
+    lent::copy(&mut octets, lent::part(s, 0, size(n)));
+    unpack_units(units, &octets, n);
+}
+
+// The record that the bits say, where they are whole.
+pub(crate) fn record_in(form: Form, s: &[u8], n: usize) -> Record
+    requires { ⌜ (n < 64) × (n ≡ U.nameLength (now s)) × (R.isWhole (now s) ≡ true) ⌝ }
+    ensures { λ r. ⌜ r ≡ R.recordIn form (now (s .entry)) ⌝ }
+{
+    let mut units = [FILLER; room::UNITS];
+    read_units(&mut units, s, n);
+    let code = characters::code_at(&units, places::CODE_UNIT);
+    let state = characters::state_at(&units, places::STATE_UNIT);
+    let number = characters::number_at(&units, places::NUMBER_UNIT);
+    let number_len = trimmed_length(lent::part(&units, places::NUMBER_UNIT, Form::NUMBER));
+    let nationality = characters::state_at(&units, places::NATIONALITY_UNIT);
+    let birth = characters::date_at(&units, places::BIRTH_UNIT);
+    let sex = characters::sex_by(bits(s, places::SEX, places::SEX_BITS));
+    let expiry = characters::date_at(&units, places::EXPIRY_UNIT);
+    let name = characters::name_at(&units, places::NAME_UNIT);
+    Record {
+        form,
+        code,
+        state,
+        number,
+        number_len,
+        nationality,
+        birth,
+        sex,
+        expiry,
+        name,
+        name_len: n,
+    }
+}
