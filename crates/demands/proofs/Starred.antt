@@ -24,7 +24,7 @@ use Rattle.text.specs.Order.{verdictBy}
 use Rattle.text.specs.Read.{recordBy, answered, readBy, readText}
 use Rattle.cells.specs.Bits.{put, gathered}
 use Rattle.cells.specs.Bits as bits
-use Rattle.entry.specs.Codes.{formCode, sexCode}
+use Rattle.entry.specs.Codes.{sexCode}
 use Rattle.cells.specs.Cells.{putAll, putCell, putRow, octetsOf}
 use Rattle.entry.specs.Entry.{keyValues, restValues, valuesOf, entryOf}
 use Rattle.tlv.specs.Element.{element, tagAt, tagWidth, sizeAt, sizeOf, sized, endsWithin}
@@ -35,7 +35,7 @@ pub starred : allRight examples ≡ true
 unfolding allRight examples isRight isPassed isDigitAt T3 octets checkOf sumFrom value weight isDigit isLetter isFiller birthRule
     pairOf yearOf monthOf dayOf isLeap isShort daysIn yearRule monthRule dayRule row forms firstForm start startIn width
     widthIn field pieceOf pieces cut joinedCuts covered rank same recordBy spanOf isLong numberBy trimmed trimmedLength
-    padded entryOf octetsOf putRow putCell putAll valuesOf keyValues restValues bits.octets gathered put codeOf formCode sexCode
+    padded entryOf octetsOf putRow putCell putAll valuesOf keyValues restValues bits.octets gathered put codeOf sexCode
     alike told isRead isRefused element
     tagAt tagWidth sizeAt sizeOf sized endsWithin
     readText readBy answered mayStand isOf formOf verdictBy characters firstForeign first isForeign isCharacter inOrder parts partOf

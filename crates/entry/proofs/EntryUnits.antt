@@ -32,7 +32,8 @@ use Rattle.entry.specs.Entry.{keyValues, restValues, valuesOf, entryOf, 
 use Rattle.entry.specs.Inner.Units.{packed, frontOctets, frontFours, frontUnits, allUnits, allOctets, unitOf, on, restFours}
 use Rattle.entry.specs.Inner.Units.{before, front, rest, unitsOf}
 use Rattle.entry.proofs.Coded.{codes-held}
-use Rattle.entry.proofs.FormsAndSexes.{form-tells, sex-tells}
+use Rattle.zone.proofs.FormTold.{entered-tells}
+use Rattle.entry.proofs.Sexes.{sex-tells}
 use Rattle.entry.proofs.Packing.{length-packed}
 use Rattle.entry.proofs.Placing.{sound-before}
 use Rattle.entry.proofs.UnitBits.{put-more, octets-packed}
@@ -85,7 +86,7 @@ entry-opened : (house : ℕ) (r : Record) → putRow (cells row) (valuesOf house
 unfolding putRow putCell putAll valuesOf keyValues restValues
 entry-opened house r =
     let t = put 2 (sexCode (r .sex)) (namedBits r) in
-    head-units house (formCode (r .form)) _ (form-tells (r .form) .1)
+    head-units house (formCode (r .form)) _ (entered-tells (r .form) .1)
     ∙ ap (λ (l : List ℕ). put 6 (head house r / 4096) (put 6 (head house r / 64 % 64) (put 6 (head house r % 64) l)))
     (sym (characters-put r t))
 
@@ -179,7 +180,7 @@ module _ (house : ℕ) (r : Record) (housed : isHouse house ≡ true) (s : Sound
   unfolding unitsOf front before every isHeld
   units-held =
       let sex = sex-tells (r .sex) (s .sex-kept) .1 in
-      let form = form-tells (r .form) .1 in
+      let form = entered-tells (r .form) .1 in
       let most = house-range house housed .1 in
       let characters : every isCharacter (before r) ≡ true =
       every-append isCharacter (r .state) _ (s .state-characters)

@@ -1,6 +1,6 @@
 -- The laws of this crate.
 pub mod Coded  -- characters and their codes, list by list
-pub mod FormsAndSexes  -- the codes of forms and sexes tell them
+pub mod Sexes  -- the codes of sexes tell them
 pub mod Values  -- what a house and a sound record say fits the row; the length of their entry
 pub mod Packing  -- the loops over units of six bits: their codes, and `packed`
 pub mod UnitBits  -- units of six bits as bits

@@ -21,7 +21,8 @@ use Rattle.entry.specs.Codes.{formCode, sexCode}
 use Rattle.entry.specs.Row.{row, key, afterKey, cells}
 use Rattle.entry.specs.Entry.{keyValues, restValues, valuesOf, entryOf, size, isHouse}
 use Rattle.entry.proofs.Coded.{codes-held}
-use Rattle.entry.proofs.FormsAndSexes.{form-tells, sex-tells}
+use Rattle.zone.proofs.FormTold.{entered-tells}
+use Rattle.entry.proofs.Sexes.{sex-tells}
 
 pub house-range : (h : ℕ) → isHouse h ≡ true → (1 ≤ h) × (h ≤ 32767)
 unfolding isHouse
@@ -69,7 +70,7 @@ module _ (r : Record) (s : Sound r) where
     key-fits = (
       (refl, one-held 15 h (omega (arith, house-range h house .1))),
       (
-        (refl, one-held 3 (formCode (r .form)) (form-tells (r .form) .1)),
+        (refl, one-held 3 (formCode (r .form)) (entered-tells (r .form) .1)),
         (
           coded 3 (r .state) (s .state-places) (s .state-characters),
           (

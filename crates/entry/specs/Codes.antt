@@ -5,18 +5,11 @@ use mathlib.Core.Bool.{cond}
 use lib.Dec.{eqb}
 use Rattle.zone.specs.Alphabet.{filler}
 use Rattle.zone.specs.declared.form.Form.{Form}
-use Rattle.zone.specs.declared.form.Form.the-variants.{Td1, Td2, Td3}
-use Rattle.zone.specs.declared.form.Recognised.{Recognised}
-use Rattle.zone.specs.declared.form.Recognised.the-variants.{As, Unknown}
+use Rattle.zone.specs.Form.{row}
 
--- TD1 0, TD2 1, TD3 2
-unfoldable pub formCode : Form → ℕ
-formCode Td1 = 0
-formCode Td2 = 1
-formCode Td3 = 2
-
-unfoldable pub formBy : ℕ → Recognised
-formBy n = cond (eqb n 0) (As Td1) (cond (eqb n 1) (As Td2) (cond (eqb n 2) (As Td3) Unknown))
+-- TD1 0, TD2 1, TD3 2: a form's own row has it
+abbrev pub formCode : Form → ℕ
+formCode f = row f .entered
 
 -- `<` 0, F 1, M 2
 unfoldable pub sexCode : ℕ → ℕ

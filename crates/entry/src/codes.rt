@@ -7,11 +7,7 @@ use zone::form::Form;
 pub fn form_code(form: Form) -> u8
     ensures { λ r. ⌜ (r ≡ formCode form) × (r < 8) ⌝ }
 {
-    match form {
-        Form::Td1 => 0,
-        Form::Td2 => 1,
-        Form::Td3 => 2,
-    }
+    form.entered()
 }
 
 // `<` 0, F 1, M 2.

@@ -20,6 +20,10 @@ or-neither false b e = (refl, e)
 pub not-so : (b : Bool) → b ≡ false → not b ≡ true
 not-so b e = rw e
 
+pub not-true : (b : Bool) → not b ≡ true → b ≡ false
+not-true true e = sym e
+not-true false e = refl
+
 pub either-way : {A : Type 0} (P : A → Type 0) (b : Bool) (x y : A) → P x → P y → P (cond b x y)
 either-way P true x y h k = h
 either-way P false x y h k = k

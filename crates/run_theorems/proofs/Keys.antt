@@ -20,11 +20,12 @@ use Rattle.sound.proofs.SoundRecord.{Sound, taken-apart}
 use Rattle.text.specs.Read.{readText}
 use Rattle.cells.specs.Cells.{octetsOf}
 use Rattle.cells.proofs.RowOctets.{octets-begin, octets-tell}
-use Rattle.entry.specs.Codes.{formCode, formBy}
+use Rattle.zone.specs.Form.{formBy}
+use Rattle.entry.specs.Codes.{formCode}
 use Rattle.entry.specs.Row.{key, afterKey, cells}
 use Rattle.entry.specs.Entry.{keyValues, restValues, valuesOf, entryOf, isHouse}
 use Rattle.entry.proofs.Coded.{codes-tell}
-use Rattle.entry.proofs.FormsAndSexes.{form-tells}
+use Rattle.zone.proofs.FormTold.{entered-tells}
 use Rattle.entry.proofs.Values.{key-fits, key-sized}
 use Rattle.run_theorems.specs.Keys.{keyOf, wholeNumber, SameKey}
 use Rattle.text_theorems.proofs.RecordOfText.{kept-and-sound}
@@ -46,7 +47,7 @@ same-codes : (a b : List ℕ) → every isCharacter a ≡ true → every isChara
 same-codes a b p q e = sym (codes-tell a p) ∙ ap (map characterOf) e ∙ codes-tell b q
 
 same-form : (f g : Form) → formCode f ≡ formCode g → f ≡ g
-same-form f g e = as-same f g (sym (form-tells f .0) ∙ ap formBy e ∙ form-tells g .0)
+same-form f g e = as-same f g (sym (entered-tells f .0) ∙ ap formBy e ∙ entered-tells g .0)
 
 module _ (h k : ℕ) (r q : Record) (house : isHouse h ≡ true) (sound : isSound r ≡ true) (house′ : isHouse k ≡ true)
     (sound′ : isSound q ≡ true) where

@@ -15,11 +15,11 @@ use Rattle.sound.proofs.SoundRecord.{Sound, taken-apart}
 use Rattle.cells.specs.Cells.{roundedUp}
 use Rattle.cells.proofs.Fitting.{Fits}
 use Rattle.cells.proofs.RowOctets.{octets-say, octets-end, octets-whole, length-octets-of}
-use Rattle.entry.specs.Codes.{formBy}
+use Rattle.zone.specs.Form.{formBy}
 use Rattle.entry.specs.Row as part
 use Rattle.entry.specs.Row.{row, cells}
 use Rattle.entry.specs.Entry.{keyValues, restValues, valuesOf, entryOf, size, isHouse}
-use Rattle.entry.proofs.FormsAndSexes.{form-tells}
+use Rattle.zone.proofs.FormTold.{entered-tells}
 use Rattle.entry.proofs.Values.{values-fit, values-sized, length-entry}
 use Rattle.runs.specs.Run.{next, numberOf, valuesIn, houseIn, formIn, recordOf, recordIn, sizeIn, isWhole, isEntry, entryBy}
 use Rattle.runs.specs.Run.{readEntry}
@@ -55,7 +55,7 @@ module _ (h : ℕ) (r : Record) (house : isHouse h ≡ true) (sound : isSound r 
 
     form-read : formIn s ≡ As (r .form)
     unfolding formIn valuesOf keyValues restValues
-    form-read = ap (λ (vs : List (List ℕ)). formBy (numberOf vs part.form)) values ∙ form-tells (r .form) .0
+    form-read = ap (λ (vs : List (List ℕ)). formBy (numberOf vs part.form)) values ∙ entered-tells (r .form) .0
 
     record-read : recordIn (r .form) s ≡ r
     unfolding recordIn

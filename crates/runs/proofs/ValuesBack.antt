@@ -26,7 +26,8 @@ use Rattle.entry.specs.Entry.{keyValues, restValues, valuesOf}
 use Rattle.entry.specs.Row as part
 use Rattle.entry.specs.Row.{start}
 use Rattle.entry.proofs.Coded.{codes-tell, characters-tell}
-use Rattle.entry.proofs.FormsAndSexes.{sex-tells, tells-form, tells-sex}
+use Rattle.zone.proofs.FormTold.{tells-entered}
+use Rattle.entry.proofs.Sexes.{sex-tells, tells-sex}
 use Rattle.entry.proofs.Values.{name-coded}
 use Rattle.runs.specs.Run.{recordOf, recordIn, houseIn, formIn, valuesIn}
 use Rattle.runs.specs.Inner.Units.{charactersAt, nameLength}
@@ -81,7 +82,7 @@ module _ (f : Form) (s : List ℕ) (told : formIn s ≡ As f) (o : Sound (record
   pub values-back : valuesOf (houseIn s) (recordIn f s) ≡ valuesIn s
   unfolding valuesOf keyValues restValues houseIn recordIn recordOf formIn numbersAt
   values-back =
-      let form : formCode f ≡ bitsAt s (start part.form) 3 = tells-form (bitsAt s (start part.form) 3) f told in
+      let form : formCode f ≡ bitsAt s (start part.form) 3 = tells-entered (bitsAt s (start part.form) 3) f told in
       let sex : sexCode (sexBy (bitsAt s (start part.sex) 2)) ≡ bitsAt s (start part.sex) 2 =
       tells-sex (bitsAt s (start part.sex) 2) (bits-below s (start part.sex) 2) (o .sex-kept) in
       rw (

@@ -14,7 +14,8 @@ use Rattle.zone.specs.Rooms.{nameRoom}
 use Rattle.zone.specs.Record.{blank, trimmedLength, padded}
 use Rattle.sound.specs.Sound.{isSound}
 use Rattle.cells.specs.Cells.{roundedUp, valuesAt, rowEnd, isWholeRow}
-use Rattle.entry.specs.Codes.{formBy, sexBy}
+use Rattle.zone.specs.Form.{formBy}
+use Rattle.entry.specs.Codes.{sexBy}
 use Rattle.entry.specs.Entry.{isHouse}
 use Rattle.entry.specs.Row as part
 use Rattle.entry.specs.Row.{Part, row, cells, valueOf}

@@ -1,23 +1,11 @@
-// What the bits of an entry stand for: a form, a sex, and fields of characters.
+// What the bits of an entry stand for: a sex, and fields of characters.
 ghost use mathlib.Core.Path.{_≡_};
 ghost use lib.ListN.{take, drop};
 ghost use Rattle.zone.specs.Record.{padded};
 ghost use Rattle.zone.specs.Rooms.{codeRoom, stateRoom, dateRoom, numberRoom, nameRoom};
-ghost use Rattle.entry.specs.Codes.{formBy, sexBy};
+ghost use Rattle.entry.specs.Codes.{sexBy};
 use zone::alphabet::FILLER;
 use zone::form::Form;
-use zone::form::Recognised;
-
-pub(crate) fn form_by(code: u32) -> Recognised
-    ensures { λ r. ⌜ r ≡ formBy code ⌝ }
-{
-    match code {
-        0 => Recognised::As(Form::Td1),
-        1 => Recognised::As(Form::Td2),
-        2 => Recognised::As(Form::Td3),
-        _ => Recognised::Unknown,
-    }
-}
 
 // 0 for 3: no sex, so that no sound record holds it.
 pub(crate) fn sex_by(code: u32) -> u8

@@ -8,7 +8,6 @@ ghost use Rattle.entry.specs.Entry as E;
 ghost use Rattle.runs.specs.Inner.Units as U;
 ghost use Rattle.runs.specs.Run as R;
 use crate::bits::bits;
-use crate::characters;
 use crate::record::is_whole;
 use crate::record::name_length;
 use crate::record::record_in;
@@ -82,7 +81,7 @@ fn entry_at(s: &[u8], at: usize) -> Standing
     requires { ⌜ at + length (now s) < 2 ^ 63 ⌝ }
     ensures { λ r. ⌜ R.standingOf r ≡ R.entryBy (R.formIn (now (s .entry))) (now (s .entry)) at ⌝ }
 {
-    let told = characters::form_by(bits(s, places::FORM, places::FORM_BITS));
+    let told = Form::entered_as(bits(s, places::FORM, places::FORM_BITS));
     match told {
         Recognised::As(form) => entry_as(form, s, at),
         Recognised::Unknown => no_entry(at),

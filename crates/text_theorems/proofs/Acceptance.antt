@@ -7,7 +7,7 @@ use mathlib.Core.List.{List, _++_}
 use lib.ListN.{length, take, getD}
 use borrow.Author.Tests.{eqb-true, eq-eqb}
 use lib.Dec.{eqb}
-use Rattle.lent.proofs.Bools.{and-both}
+use Rattle.lent.proofs.Bools.{and-both, not-true}
 use Rattle.refusal.specs.Numbers.{by}
 use Rattle.refusal.specs.Outcome.{passed, refused, orElse}
 use Rattle.zone.specs.declared.form.Form.{Form}
@@ -40,10 +40,6 @@ use Rattle.text_theorems.proofs.PartByPart.{digit-kept, kept-digit, per
 use Rattle.text_theorems.proofs.NumberSpan.{short-span, long-span, span-ends, long-has}
 
 -- a test that was not passed
-not-true : (b : Bool) → not b ≡ true → b ≡ false
-not-true true e = sym e
-not-true false e = refl
-
 not-false : (b : Bool) → not b ≡ false → b ≡ true
 not-false true e = refl
 not-false false e = sym e

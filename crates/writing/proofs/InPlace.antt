@@ -8,7 +8,7 @@ use borrow.Author.Needs.{needs}
 use lib.ListN.{length, take, drop, replicate, length-take, length-append, length-replicate, replicate-append-replicate}
 use lib.Seq.{take-all, take-at, drop-at, drop-drop, drop-append-le, take-append-add}
 use Rattle.lent.specs.Copied.{copied, copiedAt}
-use Rattle.lent.proofs.Bools.{and-both, or-neither}
+use Rattle.lent.proofs.Bools.{and-both, or-neither, not-true}
 use Rattle.zone.specs.declared.form.Form.{Form}
 use Rattle.zone.specs.Alphabet.{every, filler}
 use Rattle.zone.specs.Part.{Part, rank, same, among}
@@ -108,10 +108,6 @@ copied-second a b u n k e =
     let behind : drop (n + k) (a ++ b) ≡ drop k b = sym (drop-drop k n (a ++ b)) ∙ ap (drop k) (drop-at a b n e) in
     let front : take (n + k) (a ++ b) ≡ a ++ take k b = rw (← e) (take-append-add a b k) in
     rw (front, behind) (append-assoc a (take k b) (copied (drop k b) u))
-
-pub not-true : (b : Bool) → not b ≡ true → b ≡ false
-not-true true e = sym e
-not-true false e = refl
 
 put-cells : (g : Part → List ℕ) (x : Part) (s : List ℕ) → g x ≡ [] → (cells : List Cell) → noneTwice cells ≡ true
     → copiedAt (inPlace g cells) (startIn cells x) (take (widthIn cells x) s) ≡ inPlace (also g x s) cells

@@ -4,7 +4,7 @@ use mathlib.Core.Path.{_≡_, refl, ap, sym, _∙_}
 use mathlib.Core.Bool.{Bool, true, false, cond, not, _&&_, _||_}
 use mathlib.Core.List.{List, [], _∷_, _++_}
 use lib.ListN.{length, take, replicate, length-replicate}
-use Rattle.lent.proofs.Bools.{and-both}
+use Rattle.lent.proofs.Bools.{and-both, not-true}
 use Rattle.zone.specs.declared.record.Record.{Record}
 use Rattle.zone.specs.Alphabet.{filler}
 use Rattle.zone.specs.Part.{Part, code, state, number, numberCheck, optional, birth, birthCheck, sex, expiry, expiryCheck}
@@ -19,7 +19,7 @@ use Rattle.writing.specs.Text.{lastDigit, givenAll, textOf}
 use Rattle.writing.specs.Inner.Puts.{put, mark, putOpening, putShort, putLong, putNumber, putDates, putPerson, putLast}
 use Rattle.writing.specs.Inner.Puts.{putAll}
 use Rattle.writing.proofs.AfterPut.{put-none, put-more}
-use Rattle.writing.proofs.InPlace.{also, not-true, put-in-place, same-in-place, none-in-place, length-in-place}
+use Rattle.writing.proofs.InPlace.{also, put-in-place, same-in-place, none-in-place, length-in-place}
 use Rattle.writing.proofs.OneMarked.{put-length, single, mark-put, mark-none, single-or-none}
 
 module _ (r : Record) where

@@ -10,14 +10,14 @@ returns : tie.Need-returns
 unfolding formIn numbersAt
 returns c =
     let told = rw (c .before .before .before .before .before .bits .ensures) at
-    (sym (c .before .before .before .before .form-by .ensures) ∙ c .before .before .told .given .1) in
+    (sym (c .before .before .before .before .entered-as .ensures) ∙ c .before .before .told .given .1) in
     rw (c .entry-as .ensures, told)
 
 returns-2 : tie.Need-returns-2
 unfolding formIn numbersAt entryBy
 returns-2 c =
     let told = rw (c .before .before .before .before .bits .ensures) at
-    (sym (c .before .before .before .form-by .ensures) ∙ c .before .enum-told .given .1) in
+    (sym (c .before .before .before .entered-as .ensures) ∙ c .before .enum-told .given .1) in
     rw (c .no-entry .ensures, told)
 
 pub entry-at-spec : {M : Type 1} → statement M

@@ -1,4 +1,4 @@
--- The codes of forms and sexes tell them.
+-- The codes of sexes tell them.
 use Prim.Native.Nat.{ℕ, zero, suc, _<_}
 use mathlib.Core.Path.{_≡_, refl, sym}
 use mathlib.Core.Bool.{Bool, true, false, cond, false≢true}
@@ -7,31 +7,8 @@ use borrow.Author.Tests.{eqb-true}
 use lib.Dec.{eqb}
 use Prim.Native.Char.{code}
 use Rattle.zone.specs.Alphabet.{isFiller, filler}
-use Rattle.zone.specs.declared.form.Form.{Form}
-use Rattle.zone.specs.declared.form.Form.the-variants.{Td1, Td2, Td3}
-use Rattle.zone.specs.declared.form.Recognised.the-variants.{As, Unknown}
 use Rattle.field.specs.Letters.{sexRule}
-use Rattle.entry.specs.Codes.{formCode, formBy, sexCode, sexBy}
-
-pub form-tells : (f : Form) → (formBy (formCode f) ≡ As f) × (formCode f < 8)
-unfolding formBy formCode
-form-tells Td1 = (refl, omega arith)
-form-tells Td2 = (refl, omega arith)
-form-tells Td3 = (refl, omega arith)
-
-as-code : (n : ℕ) (f g : Form) → n ≡ formCode f → As f ≡ As g → formCode g ≡ n
-as-code n f g e h = let same : f ≡ g = cc in rw (e, same)
-
-pub tells-form : (n : ℕ) (f : Form) → formBy n ≡ As f → formCode f ≡ n
-unfolding formBy formCode
-tells-form n f e = go (eqb n 0) refl (eqb n 1) refl (eqb n 2) refl e
-  where
-    go : (a : Bool) → eqb n 0 ≡ a → (b : Bool) → eqb n 1 ≡ b → (c : Bool) → eqb n 2 ≡ c
-        → cond a (As Td1) (cond b (As Td2) (cond c (As Td3) Unknown)) ≡ As f → formCode f ≡ n
-    go true p b q c r h = as-code n Td1 f (eqb-true n 0 p) h
-    go false p true q c r h = as-code n Td2 f (eqb-true n 1 q) h
-    go false p false q true r h = as-code n Td3 f (eqb-true n 2 r) h
-    go false p false q false r h = absurd (let z : _≡_ {A = ℕ} 0 1 = cc in omega arith)
+use Rattle.entry.specs.Codes.{sexCode, sexBy}
 
 pub sex-tells : (c : ℕ) → sexRule c ≡ true → (sexBy (sexCode c) ≡ c) × (sexCode c < 4)
 unfolding sexRule sexBy sexCode isFiller
