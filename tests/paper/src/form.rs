@@ -26,6 +26,8 @@ pub struct Layout {
     pub name: Range<usize>,
     /// TD3's personal number. Its check digit follows it.
     pub personal: Option<Range<usize>>,
+    /// The fields whose content is the issuer's own: the optional ones, or the personal number.
+    pub free: &'static [Range<usize>],
     pub composite: usize,
     /// What the composite check digit runs over, in its order.
     pub covered: &'static [Range<usize>],
@@ -46,6 +48,7 @@ static TD1: Layout = Layout {
     nationality: 45..48,
     name: 60..90,
     personal: None,
+    free: &[15..30, 48..59],
     composite: 59,
     covered: &[5..30, 30..37, 38..45, 48..59],
 };
@@ -65,6 +68,7 @@ static TD2: Layout = Layout {
     expiry_check: 63,
     further: Some(64..71),
     personal: None,
+    free: &[64..71],
     composite: 71,
     covered: &[36..46, 49..56, 57..71],
 };
@@ -84,6 +88,7 @@ static TD3: Layout = Layout {
     expiry_check: 71,
     further: None,
     personal: Some(72..86),
+    free: &[72..86],
     composite: 87,
     covered: &[44..54, 57..64, 65..87],
 };

@@ -1,5 +1,7 @@
 //! Texts that are printed in the papers: the specimens of Doc 9303 parts 4 to 6, and T3 of document 01.
 
+use crate::form::Form;
+
 pub const T3: &str = "P<UTONORD<<ELIN<<<<<<<<<<<<<<<<<<<<<<<<<<<<<\
                       K7<<<<<<<1UTO9001158F3006302<<<<<<<<<<<<<<00";
 
@@ -26,3 +28,12 @@ pub const LONG_TD2: &str = "I<UTOSTEVENSON<<PETER<JOHN<<<<<<<<<<\
                             D23145890<UTO3407127M95071227349<<<8";
 
 pub const ALL: [&str; 6] = [T3, ERIKSSON_TD3, ERIKSSON_TD1, ERIKSSON_TD2, LONG_TD1, LONG_TD2];
+
+/// The specimen of each form whose number is short.
+pub fn short(form: Form) -> &'static str {
+    match form {
+        Form::Td1 => ERIKSSON_TD1,
+        Form::Td2 => ERIKSSON_TD2,
+        Form::Td3 => ERIKSSON_TD3,
+    }
+}

@@ -183,11 +183,7 @@ impl Trials<ReadText> {
 
     /// A field of a short text replaced, and the check digits made to fit.
     fn replaced(&mut self, form: Form, field: Range<usize>, characters: &[u8]) {
-        let mut text = match form {
-            Form::Td1 => specimens::ERIKSSON_TD1.as_bytes().to_vec(),
-            Form::Td2 => specimens::ERIKSSON_TD2.as_bytes().to_vec(),
-            Form::Td3 => specimens::ERIKSSON_TD3.as_bytes().to_vec(),
-        };
+        let mut text = specimens::short(form).as_bytes().to_vec();
         text[field].copy_from_slice(characters);
         text::repair(form, &mut text, 0);
         self.with_room(1, &text, ROOM);
@@ -257,8 +253,8 @@ impl Trials<ReadText> {
     /// A filler at the number's check place, and the first filler of the optional field at each of its places or nowhere; the
     /// character before it the right digit, a wrong one, or a letter.
     fn long_numbers(&mut self) {
-        for form in [Form::Td1, Form::Td2] {
-            let optional = form.layout().further.clone().unwrap();
+        for form in Form::ALL {
+            let Some(optional) = form.layout().further.clone() else { continue };
             for before in 0..=optional.len() {
                 for _ in 0..40 {
                     let text = self.long_number(form, before);
@@ -329,9 +325,5 @@ impl Trials<ReadText> {
 }
 
 pub fn optional_places(form: Form) -> Vec<usize> {
-    match form {
-        Form::Td1 => (15..30).chain(48..59).collect(),
-        Form::Td2 => (64..71).collect(),
-        Form::Td3 => (72..86).collect(),
-    }
+    form.layout().free.iter().cloned().flatten().collect()
 }
