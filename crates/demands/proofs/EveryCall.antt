@@ -46,7 +46,10 @@ use Rattle.demands.proofs.WriteInC.{only-sound}
 
 pub text-reads : (t : List ℕ) → Reads ofText (length t) (readText Alone t)
 text-reads t = record {
-  when-refused = λ why p e. ((told-of ofText why (text-numbered Alone t why p e), text-within Alone t why p e), refused-blank Alone t why p e);
+  when-refused = λ why p e. (
+    (told-of ofText why (text-numbered Alone t why p e), text-within Alone t why p e),
+    refused-blank Alone t why p e,
+  );
 }
 
 pub presentation-reads : (w : List ℕ) → Reads ofPresentation (length w) (readPresentation w)

@@ -34,7 +34,8 @@ NotZero l = (why : Why) (p : ℕ) → l ≡ refused why p → inC l .number ≡ 
 pub read-text-not-zero : (house : ℕ) (t out : List ℕ) → NotZero (readAnswer house (readText Alone t) out)
 unfolding readAnswer
 read-text-not-zero house t out why p denied zero =
-    zero-no-refusal house (readText Alone t .kept) out ofText (refl, refl, refl) (readText Alone t .outcome) (text-numbered Alone t)
+    zero-no-refusal house (readText Alone t .kept) out ofText (refl, refl, refl) (readText Alone t .outcome)
+    (text-numbered Alone t)
     (text-sound t) why p denied (sym (number-in-c (readAnswer house (readText Alone t) out)) ∙ zero)
 
 pub read-presentation-not-zero : (house : ℕ) (w out : List ℕ) → NotZero (readAnswer house (readPresentation w) out)

@@ -38,11 +38,13 @@ pub presentation-sound : (w : List ℕ) → readPresentation w .outcome ≡ pass
 presentation-sound w e = accepted-sound (readPresentation w) (of-presentation w refl e)
 
 module _ (house : ℕ) (t out : List ℕ) where
-  pub read-text-exactly : (inText house t out .number ≡ 0) ↔ Allowed ((f : Form) × (mayStand Alone f ≡ true) × Keeps f t) house (readText Alone t .kept) out
+  pub read-text-exactly : (inText house t out .number ≡ 0)
+      ↔ Allowed ((f : Form) × (mayStand Alone f ≡ true) × Keeps f t) house (readText Alone t .kept) out
   unfolding readAnswer
   read-text-exactly =
       rw (number-in-c (readAnswer house (readText Alone t) out))
-      (zero-allowed house (readText Alone t .kept) out ofText (refl, refl, refl) (readText Alone t .outcome) (text-numbered Alone t)
+      (zero-allowed house (readText Alone t .kept) out ofText (refl, refl, refl) (readText Alone t .outcome)
+      (text-numbered Alone t)
       (text-sound t) _ (accepted-exactly Alone t))
 
   pub read-text-leaves : inText house t out .number ≡ 0
@@ -50,13 +52,15 @@ module _ (house : ℕ) (t out : List ℕ) where
   unfolding readAnswer readOut
   read-text-leaves =
       rw (number-in-c (readAnswer house (readText Alone t) out), value-in-c (readAnswer house (readText Alone t) out))
-      (zero-leaves house (readText Alone t .kept) out ofText (refl, refl, refl) (readText Alone t .outcome) (text-numbered Alone t) (text-sound t))
+      (zero-leaves house (readText Alone t .kept) out ofText (refl, refl, refl) (readText Alone t .outcome)
+      (text-numbered Alone t) (text-sound t))
 
   pub read-text-house : (inText house t out .number ≡ 17) ↔ ((readText Alone t .outcome ≡ passed) × (isHouse house ≡ false))
   unfolding readAnswer
   read-text-house =
       rw (number-in-c (readAnswer house (readText Alone t) out))
-      (seventeen-exactly house (readText Alone t .kept) out ofText (refl, refl, refl) (readText Alone t .outcome) (text-numbered Alone t)
+      (seventeen-exactly house (readText Alone t .kept) out ofText (refl, refl, refl) (readText Alone t .outcome)
+      (text-numbered Alone t)
       (text-sound t))
 
 module _ (house : ℕ) (w out : List ℕ) where

@@ -27,7 +27,8 @@ enters : (h : ℕ) (a : Answer) (out : List ℕ) → Read a → inC (readAnswer 
 unfolding readAnswer
 enters h a out (of-text t e) zero =
     subst (λ (x : Answer). inC (readAnswer h x out) .number ≡ 0 → Enters (x .outcome) h (x .kept) out) e
-    (λ z. zero-enters h (readText Alone t .kept) out ofText (refl, refl, refl) (readText Alone t .outcome) (text-numbered Alone t) (text-sound t)
+    (λ z. zero-enters h (readText Alone t .kept) out ofText (refl, refl, refl) (readText Alone t .outcome)
+    (text-numbered Alone t) (text-sound t)
     (sym (number-in-c (readAnswer h (readText Alone t) out)) ∙ z)) zero
 enters h a out (of-presentation w e) zero =
     subst (λ (x : Answer). inC (readAnswer h x out) .number ≡ 0 → Enters (x .outcome) h (x .kept) out) e

@@ -7,7 +7,8 @@ use Rattle.zone.specs.declared.form.Source.{Source}
 use Rattle.zone.specs.declared.form.Source.the-variants.{Alone, GroupOne, Seal}
 use Rattle.zone.specs.Alphabet.{isDigit, isLetter, isFiller, isCharacter, isForeign, every, first, firstForeign}
 use Rattle.zone.specs.Part.{rank, same}
-use Rattle.zone.specs.Form.{row, forms, partOf, parts, start, startIn, width, widthIn, firstForm, mayStand, isOf, formOf, field, pieceOf}
+use Rattle.zone.specs.Form.{row, forms, partOf, parts, start, startIn, width, widthIn, firstForm, mayStand, isOf}
+use Rattle.zone.specs.Form.{formOf, field, pieceOf}
 use Rattle.zone.specs.Form.{pieces, cut, joinedCuts, covered}
 use Rattle.zone.specs.Record.{trimmed, trimmedLength, padded}
 use Rattle.zone.specs.Codes.{codeOf}
@@ -38,7 +39,8 @@ unfolding allRight examples isRight isPassed isDigitAt T3 octets checkOf sumFrom
     padded entryOf octetsOf putRow putCell putAll valuesOf keyValues restValues bits.octets gathered put codeOf sexCode
     alike told isRead isRefused element
     tagAt tagWidth sizeAt sizeOf sized endsWithin
-    readText readBy answered mayStand isOf formOf verdictBy characters firstForeign first isForeign isCharacter inOrder parts partOf
+    readText readBy answered mayStand isOf formOf verdictBy characters firstForeign first isForeign isCharacter inOrder parts
+    partOf
     fieldRows inRows codeRule kindRule stateRule numberRule spanRule sexRule nameRule isNameCharacter every expiryRule
     digitRows numberDigit furtherDigit personalDigit isLeftOut digitAt digitOf checkedBy passportRule isSecond
     lettersThenFillers isKnown
@@ -46,9 +48,11 @@ starred = refl
 
 -- and by itself: T3 is accepted
 pub T3-accepted : (source : Source) → readText source (octets T3) .outcome ≡ passed
-unfolding T3 octets readText readBy answered mayStand isOf formOf verdictBy characters firstForeign first isForeign isCharacter isDigit
+unfolding T3 octets readText readBy answered mayStand isOf formOf verdictBy characters firstForeign first isForeign
+    isCharacter isDigit
     isLetter isFiller inOrder parts partOf row forms firstForm start startIn width widthIn rank same field fieldRows inRows
-    codeRule kindRule passportRule isSecond stateRule lettersThenFillers numberRule spanRule sexRule nameRule isNameCharacter every birthRule expiryRule isKnown
+    codeRule kindRule passportRule isSecond stateRule lettersThenFillers numberRule spanRule sexRule nameRule isNameCharacter
+    every birthRule expiryRule isKnown
     pairOf yearOf monthOf dayOf isLeap isShort daysIn yearRule monthRule dayRule spanOf isLong
     digitRows numberDigit furtherDigit personalDigit isLeftOut digitAt digitOf checkedBy checkOf sumFrom value weight
     covered pieceOf pieces cut joinedCuts

@@ -205,7 +205,8 @@ parts-sum f t =
     )
 
 -- the digit by the sums of a text is that of everything covered, in forms that have a composite
-pub composite-digit : (f : Form) (t : List ℕ) → has f composite ≡ true → asDigit (compositeSum (sumsOf f t)) ≡ digitOf (covered f t)
+pub composite-digit : (f : Form) (t : List ℕ) → has f composite ≡ true
+    → asDigit (compositeSum (sumsOf f t)) ≡ digitOf (covered f t)
 unfolding asDigit digitOf checkOf sumsOf compositeSum
 composite-digit f t h =
     rw (

@@ -144,7 +144,8 @@ module _ (house : ℕ) (r : Record) (housed : isHouse house ≡ true) (s : Sound
   octets-opened : (t : List ℕ) → octets (opening house r t) ≡ octets (opening house r []) ++ octets t
   octets-opened t =
       ap octets (sym (opening-followed house r t))
-      ∙ octets-append frontOctets (opening house r []) t (all-bits 6 _ _ (put-bits 2 (sexCode (r .sex)) [] no-bits)) length-opening
+      ∙ octets-append frontOctets (opening house r []) t (all-bits 6 _ _ (put-bits 2 (sexCode
+      (r .sex)) [] no-bits)) length-opening
 
   -- ---- the units
 
@@ -174,7 +175,8 @@ module _ (house : ℕ) (r : Record) (housed : isHouse house ≡ true) (s : Sound
   rest-held =
       rw (lt-ltb (r .«name_len») 64 (omega (arith, s .name-most)))
       (codes-held (r .name ++ replicate (frontUnits - nameRoom - 1) filler)
-      (every-append isCharacter (r .name) _ (s .name-characters) (every-replicate isCharacter (frontUnits - nameRoom - 1) filler refl)))
+      (every-append isCharacter (r .name) _ (s .name-characters) (every-replicate isCharacter
+      (frontUnits - nameRoom - 1) filler refl)))
 
   units-held : every (isHeld 6) (unitsOf house r) ≡ true
   unfolding unitsOf front before every isHeld
@@ -248,7 +250,8 @@ module _ (house : ℕ) (r : Record) (housed : isHouse house ≡ true) (s : Sound
       ∙ ap (put 6 (length (named r))) (all-followed 6 (named r) [] z))
 
   length-named : length (namedBits r) ≡ 6 + 6 * r .«name_len»
-  length-named = length-put 6 (length (named r)) (putAll 6 (named r) []) ∙ omega (arith, length-all 6 (named r) [], name-coded r s)
+  length-named = length-put 6 (length (named r)) (putAll 6 (named r) [])
+      ∙ omega (arith, length-all 6 (named r) [], name-coded r s)
 
   rest-packed : take (roundedUp (length (namedBits r))) (packed on (restFours (r .«name_len»)) (rest r)) ≡ octets (namedBits r)
   rest-packed =

@@ -56,7 +56,8 @@ module _ (r : Record) (s : Sound r) where
             (
               (
                 rw name-coded (omega (arith, s .name-most)),
-                codes-held (take (r .«name_len») (r .name)) (every-take isCharacter (r .«name_len») (r .name) (s .name-characters)),
+                codes-held (take (r .«name_len») (r .name)) (every-take isCharacter (r .«name_len») (r .name)
+                    (s .name-characters)),
               ),
               tt,
             ),

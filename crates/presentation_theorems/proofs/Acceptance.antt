@@ -156,7 +156,8 @@ read-stages p k =
     (none-once (tagsOf (lentIn w fs)) tags-once) backed in
     let one = subst (λ (q : List Lent). isIn (record { tag = 0x61; content = tlv 0x5F1F (p .text) }) q) (sym lent)
     (k .group-one) in
-    let text = read-one w fs (h .files-stand) most (p .text) tags-once one (accepted-exactly GroupOne (p .text) .1 (k .text-kept)) in
+    let text = read-one w fs (h .files-stand) most (p .text) tags-once one (accepted-exactly GroupOne (p .text) .1
+    (k .text-kept)) in
     value-then (walked w) (λ (q : Outer). decided w q) o (value r) (a .2)
     (value-then (readEfCom w (o .efcom)) (from-common w o) tags (value r) (l .1)
     (value-then (readObject w (o .object)) (from-object w o tags) es (value r) (s .1)

@@ -35,7 +35,8 @@ Carries w (by n) q = (tells ofPresentation (by n) ≡ true) × (q ≤ length w)
 Carries w (expecting d) q = FromText w d q × (q ≤ length w)
 
 -- the text's own refusals stand where the text does
-carries : (w : List ℕ) (v : Stretch) → textStretch w ≡ value v → (n : Why) (p : ℕ) → readText GroupOne (cut w v) .outcome ≡ refused n p
+carries : (w : List ℕ) (v : Stretch) → textStretch w ≡ value v → (n : Why) (p : ℕ)
+    → readText GroupOne (cut w v) .outcome ≡ refused n p
     → Carries w n (v .from + p)
 carries w v at n p e =
     let stood = text-stands w v at in
@@ -68,7 +69,8 @@ module _ (w : List ℕ) where
   presentation-carries n q e =
       each-then (Carries w) (textStretch w) (onwards w)
       (before-text (Carries w) (length w) (λ n q h k. (h, k)) w (le-refl (length w)))
-      (λ v at. moved-each (Carries w) (v .from) (readText GroupOne (cut w v) .outcome) (readText GroupOne (cut w v) .kept) (carries w v at))
+      (λ v at. moved-each (Carries w) (v .from) (readText GroupOne (cut w v) .outcome) (readText GroupOne (cut w v) .kept)
+      (carries w v at))
       n q (sym outcome-through ∙ e)
 
   -- refused by 9 with a digit, at a place: exactly where its text is refused by 9 with that digit, there

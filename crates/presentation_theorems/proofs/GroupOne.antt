@@ -93,9 +93,11 @@ module _ (s : List ℕ) (at : ℕ) where
       let places = place-behind s at 0x5F1F t [] v (a .2) in
       let there : cut s v ≡ t = cut-there s at 0x5F1F t [] v (a .2) in
       let r = readText GroupOne t .kept in
-      let read : moved (v .from) (readText GroupOne (cut s v)) ≡ value r = ap (λ (x : List ℕ). moved (v .from) (readText GroupOne x)) there
+      let read : moved (v .from) (readText GroupOne (cut s v)) ≡ value r =
+      ap (λ (x : List ℕ). moved (v .from) (readText GroupOne x)) there
       ∙ moved-passed (v .from) (readText GroupOne t .outcome) r k in
-      value-then (element s at 0x5F1F) (λ (u : Stretch). checked (endCheck s (u .to)) (moved (u .from) (readText GroupOne (cut s u)))) v
+      value-then (element s at 0x5F1F) (λ (u : Stretch). checked (endCheck s (u .to)) (moved (u .from) (readText GroupOne
+      (cut s u)))) v
       (value r) (a .1)
       (value-checked (endCheck s (v .to)) (moved (v .from) (readText GroupOne (cut s v))) (value r)
       (left-nothing s (v .to) (places .2) (a .2 .rest-there)) read)
@@ -150,7 +152,8 @@ found-first w c (x ∷ fs) once (inr m) =
 
 module _ (w : List ℕ) (fs : List File) (each : EachStands w fs) where
   pub one-read : areOctets w → (r : Record) → groupOne w fs ≡ value r
-      → (t : List ℕ) × isIn (record { tag = 0x61; content = tlv 0x5F1F t }) (lentIn w fs) × (readText GroupOne t .outcome ≡ passed)
+      → (t : List ℕ) × isIn (record { tag = 0x61; content = tlv 0x5F1F t }) (lentIn w fs) × (readText GroupOne t .outcome
+      ≡ passed)
       × (readText GroupOne t .kept ≡ r)
   unfolding groupOne EachStands FileStands lentAt
   one-read small r e =
@@ -178,6 +181,7 @@ module _ (w : List ℕ) (fs : List File) (each : EachStands w fs) where
       let n = getD w (f .start) 0 in
       let h = each f (a .2) in
       let there = inside w (f .start) n (cut w (f .held)) (drop (f .held .to) w) (f .held) h ∙ a .3 in
-      value-then (firstFile w 1 fs) (λ (x : File). textAt (take (x .held .to) w) (x .held .from)) f (value (readText GroupOne t .kept))
+      value-then (firstFile w 1 fs) (λ (x : File). textAt (take (x .held .to) w) (x .held .from)) f (value
+      (readText GroupOne t .kept))
       (a .1)
       (read-text (take (f .held .to) w) (f .held .from) (take-most (f .held .to) 65535 w most) t there p)

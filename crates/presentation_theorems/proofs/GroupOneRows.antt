@@ -32,7 +32,8 @@ first-moved at [] = refl
 first-moved at (passed ∷ os) = first-moved at os
 first-moved at (refused n p ∷ os) = refl
 
-moved-rows : (at : ℕ) (t : List ℕ) → moved at (readText GroupOne t) ≡ under (map (movedTo at) (checksOf GroupOne t)) (value (readText GroupOne t .kept))
+moved-rows : (at : ℕ) (t : List ℕ)
+    → moved at (readText GroupOne t) ≡ under (map (movedTo at) (checksOf GroupOne t)) (value (readText GroupOne t .kept))
 unfolding moved
 moved-rows at t =
     let r : Read Record = value (readText GroupOne t .kept) in

@@ -52,7 +52,8 @@ module _ (w : List ℕ) where
   text-behind k at = then-behind (element (take k w) at Tag.text) _ onwards _ (λ v e.
       let in-s = value-within (take k w) at Tag.text v e in
       checked-behind (endCheck (take k w) (v .to)) (value v) onwards _
-      (ap (λ (t : List ℕ). moved (v .from) (readText GroupOne t)) (cut-same w k v (omega (arith, in-s .2, length-take k w)) (in-s .1))))
+      (ap (λ (t : List ℕ). moved (v .from) (readText GroupOne t)) (cut-same w k v (omega (arith, in-s .2, length-take k w))
+      (in-s .1))))
 
   pub through-text : readStages w ≡ andThen (textStretch w) onwards
   unfolding textStretch readStages decided groupOne

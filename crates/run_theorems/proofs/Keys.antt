@@ -66,7 +66,8 @@ module _ (h k : ℕ) (r q : Record) (house : isHouse h ≡ true) (sound : isSoun
   unfolding wholeNumber keyValues
   agreeing e =
       let v = same-values e in
-      let number : r .number ≡ q .number = same-codes (r .number) (q .number) (o .number-characters) (o′ .number-characters) (cc v) in
+      let number : r .number ≡ q .number = same-codes (r .number) (q .number) (o .number-characters) (o′ .number-characters)
+      (cc v) in
       let count : r .«number_len» ≡ q .«number_len» = sym (o .number-ends) ∙ ap trimmedLength number ∙ o′ .number-ends in
       record {
         same-house = cc v;
@@ -91,6 +92,8 @@ module _ (h k : ℕ) (r q : Record) (house : isHouse h ≡ true) (sound : isSoun
 -- for two accepted texts, each kept under a house
 pub texts-key : (h k : ℕ) (t u : List ℕ) → isHouse h ≡ true → isHouse k ≡ true → readText Alone t .outcome ≡ passed
     → readText Alone u .outcome ≡ passed
-    → (keyOf h (readText Alone t .kept) ≡ keyOf k (readText Alone u .kept)) ↔ SameKey h (readText Alone t .kept) k (readText Alone u .kept)
+    → (keyOf h (readText Alone t .kept) ≡ keyOf k (readText Alone u .kept))
+    ↔ SameKey h (readText Alone t .kept) k (readText Alone u .kept)
 texts-key h k t u house house′ e f =
-    key-exactly h k (readText Alone t .kept) (readText Alone u .kept) house (kept-and-sound Alone t e .3) house′ (kept-and-sound Alone u f .3)
+    key-exactly h k (readText Alone t .kept) (readText Alone u .kept) house (kept-and-sound Alone t e .3) house′
+    (kept-and-sound Alone u f .3)

@@ -26,7 +26,8 @@ use Rattle.cells.proofs.RowOctets.{whole-octets}
 use Rattle.entry.specs.Row as part
 use Rattle.entry.specs.Row.{start}
 use Rattle.entry.specs.Inner.Units.{frontOctets, frontUnits, unitOf, restFours}
-use Rattle.runs.specs.Inner.Units.{charactersAt, endBy, sizeBy, spareBy, mostFours, allUnits, allOctets, held, unitsOver, unitsIn}
+use Rattle.runs.specs.Inner.Units.{charactersAt, endBy, sizeBy, spareBy, mostFours, allUnits, allOctets, held}
+use Rattle.runs.specs.Inner.Units.{unitsOver, unitsIn}
 use Rattle.runs.proofs.Reading.{length-characters}
 
 -- ---- characters one behind the other, and fillers
@@ -48,7 +49,8 @@ padded-fillers (suc k) (suc m) = padded-cons k filler (replicate m filler) ∙ a
 -- fillers behind a list make no difference to its room
 fillers-behind : (k m : ℕ) (a : List ℕ) → padded k (a ++ replicate m filler) ≡ padded k a
 unfolding padded
-fillers-behind k m a = padded-append k a (replicate m filler) ∙ ap (λ (l : List ℕ). take k a ++ l) (padded-fillers (k - length a) m)
+fillers-behind k m a = padded-append k a (replicate m filler)
+    ∙ ap (λ (l : List ℕ). take k a ++ l) (padded-fillers (k - length a) m)
 
 -- a part of a list
 cut : (a b c r : List ℕ) (at m : ℕ) → length a ≡ at → length b ≡ m → take m (drop at ((a ++ (b ++ c)) ++ r)) ≡ b

@@ -47,7 +47,8 @@ record-back house r s =
     let ends = ap trimmedLength number ∙ s .number-ends in
     let named : padded nameRoom x ≡ r .name = (rw (s .name-ends) at (padded-trimmed nameRoom (r .name)))
     ∙ padded-exact nameRoom (r .name) (s .name-places) in
-    let name = ap (padded nameRoom) (codes-tell x (every-take isCharacter (r .«name_len») (r .name) (s .name-characters))) ∙ named in
+    let name = ap (padded nameRoom) (codes-tell x (every-take isCharacter (r .«name_len») (r .name) (s .name-characters)))
+    ∙ named in
     let long = name-coded r s in
     λ i. record {
       form = r .form;

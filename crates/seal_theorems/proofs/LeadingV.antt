@@ -34,7 +34,8 @@ use Rattle.seal_theorems.proofs.TextCharacters.{filled-passed}
 
 -- TD2 knows no code that begins with V
 code-v : (u : List ℕ) → inOrder (fieldCheck Td2 (code "V" ∷ u) (spanOf Td2 (code "V" ∷ u))) (parts Td2) ≡ refused (by 3) 0
-unfolding inOrder parts partOf row fieldRows inRows codeRule kindRule cardRule isCardLetter field start startIn width widthIn same rank
+unfolding inOrder parts partOf row fieldRows inRows codeRule kindRule cardRule isCardLetter field start startIn width widthIn
+    same rank
 code-v u = refl
 
 filled-v : (t : List ℕ) → 0 < length t → getD t 0 0 ≡ code "V" → (u : List ℕ) × (filled t ≡ code "V" ∷ u)

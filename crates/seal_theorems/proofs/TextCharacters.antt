@@ -75,7 +75,8 @@ passed-other t fine = go (formOf Seal t)
         (each-expecting Other (λ d p e. omega (arith, e)) f t (spanOf f t)))
 
 -- so it is refused by what a seal tells
-pub filled-numbered : (t : List ℕ) → every isC40 t ≡ true → Each (λ why p. tells ofSeal why ≡ true) (readText Seal (filled t) .outcome)
+pub filled-numbered : (t : List ℕ) → every isC40 t ≡ true
+    → Each (λ why p. tells ofSeal why ≡ true) (readText Seal (filled t) .outcome)
 filled-numbered t e why p r =
     tells-but ofSeal 2 why (tells-within ofText (2 ∷ ofSeal) refl why (text-numbered Seal (filled t) why p r))
     (passed-other (filled t) (filled-passed t e) why p r)

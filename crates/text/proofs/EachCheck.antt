@@ -39,7 +39,8 @@ module _ (P : Why → ℕ → Type 0) (f : Form) (t : List ℕ) (span : Span)
   -- a field is refused by its number at its start
   each-field : (x : Part) → Each P (fieldCheck f t span x)
   unfolding fieldRows
-  each-field = in-rows (λ x o. Each P o) passed (fieldRows f t span) (λ x. each-passed P) (each-unless P (codeRule f (field f code t)) 3 (start f code) (plain 3 code refl)
+  each-field = in-rows (λ x o. Each P o) passed (fieldRows f t span) (λ x. each-passed P)
+      (each-unless P (codeRule f (field f code t)) 3 (start f code) (plain 3 code refl)
       and each-unless P (stateRule (field f state t)) 4 (start f state) (plain 4 state refl)
       and each-unless P (stateRule (field f nationality t)) 4 (start f nationality) (plain 4 nationality refl)
       and each-unless P (numberRule f t span) 5 (start f number) (plain 5 number refl)

@@ -34,4 +34,5 @@ joined f t span =
 pub fields-in-order : (f : Form) (t : List ℕ) (span : Span) → joined f t span ≡ inOrder (fieldCheck f t span) (parts f)
 unfolding inOrder inTurn fieldRows inRows same rank parts partOf row forms start startIn
 fields-in-order f t span =
-    all-forms (λ g. joined g t span ≡ inOrder (fieldCheck g t span) (parts g)) (simp (orElse-assoc, orElse-passed) (search needs)) f
+    all-forms (λ g. joined g t span ≡ inOrder (fieldCheck g t span) (parts g))
+    (simp (orElse-assoc, orElse-passed) (search needs)) f

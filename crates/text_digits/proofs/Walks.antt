@@ -34,4 +34,5 @@ joined f t span =
 pub digits-in-order : (f : Form) (t : List ℕ) (span : Span) → joined f t span ≡ inOrder (digitCheck f t span) (parts f)
 unfolding inOrder inTurn digitRows inRows same rank ifHas parts partOf row forms start startIn width widthIn
 digits-in-order f t span =
-    all-forms (λ g. joined g t span ≡ inOrder (digitCheck g t span) (parts g)) (simp (orElse-assoc, orElse-passed) (search needs)) f
+    all-forms (λ g. joined g t span ≡ inOrder (digitCheck g t span) (parts g))
+    (simp (orElse-assoc, orElse-passed) (search needs)) f

@@ -145,7 +145,8 @@ module _ (f : Form) (t : List ℕ) (k : Keeps f t) where
 
   fields-pass : (x : Part) → has f x ≡ true → fieldCheck f t (spanOf f t) x ≡ passed
   unfolding fieldRows numberRule
-  fields-pass = in-rows (λ x o. has f x ≡ true → o ≡ passed) passed (fieldRows f t (spanOf f t)) (λ x h. refl) ((λ h. kept-unless _ 3 (start f code) (k .code-kept))
+  fields-pass = in-rows (λ x o. has f x ≡ true → o ≡ passed) passed (fieldRows f t (spanOf f t)) (λ x h. refl)
+      ((λ h. kept-unless _ 3 (start f code) (k .code-kept))
       and (λ h. kept-unless _ 4 (start f state) (k .state-kept))
       and (λ h. kept-unless _ 4 (start f nationality) (k .nationality-kept))
       and (λ h. rw (k .number-begins, number-right (isLong f t) refl .0))
@@ -157,7 +158,8 @@ module _ (f : Form) (t : List ℕ) (k : Keeps f t) where
 
   digits-pass : (x : Part) → has f x ≡ true → digitCheck f t (spanOf f t) x ≡ passed
   unfolding digitRows
-  digits-pass = in-rows (λ x o. has f x ≡ true → o ≡ passed) passed (digitRows f t (spanOf f t)) (λ x h. refl) ((λ h. number-right (isLong f t) refl .1)
+  digits-pass = in-rows (λ x o. has f x ≡ true → o ≡ passed) passed (digitRows f t (spanOf f t)) (λ x h. refl)
+      ((λ h. number-right (isLong f t) refl .1)
       and (λ h. number-right (isLong f t) refl .2)
       and (λ h. kept-digit t (start f birthCheck) (field f birth t) (k .birth-digit))
       and (λ h. kept-digit t (start f expiryCheck) (field f expiry t) (k .expiry-digit))

@@ -41,7 +41,8 @@ use Rattle.zone.proofs.Trimmed.{trimmed-cut}
 use Rattle.sound.proofs.Solid.{solid, first-padded}
 use Rattle.digit.proofs.Written.{fillers-digit, digit-solid}
 use Rattle.writing.proofs.Further.{is-wide, further-all, further-fits}
-use Rattle.text_theorems.proofs.TextOfRecord.{length-text, shown, last-shown, one-shown, full-shown, front-shown, text-pure}
+use Rattle.text_theorems.proofs.TextOfRecord.{length-text, shown, last-shown, one-shown, full-shown}
+use Rattle.text_theorems.proofs.TextOfRecord.{front-shown, text-pure}
 
 and-false : (b : Bool) → b && false ≡ false
 and-false true = refl

@@ -1,5 +1,5 @@
--- The text of a record: document 01, "The text". Each part in its place, with fillers behind what it is given; the composite digit
--- comes last, since it covers all the rest.
+-- The text of a record: document 01, "The text". Each part in its place, with fillers behind what it is given; the composite
+-- digit comes last, since it covers all the rest.
 use Prim.Native.Nat.{ℕ, _+_}
 use Prim.Native.Char as char
 use mathlib.Core.Bool.{Bool, cond}

@@ -15,7 +15,8 @@ use Rattle.zone.specs.Part.{Part, code, state, number, birth, sex, expir
 use Rattle.zone.specs.Part.{birthCheck}
 use Rattle.zone.specs.Part.{expiryCheck, optional, composite, personalCheck, name}
 use Rattle.zone.specs.Rooms.{codeRoom, stateRoom, dateRoom, nine, numberRoom, nameRoom}
-use Rattle.zone.specs.Form.{Cell, _of_, row, forms, layout, startIn, start, widthIn, width, total, longest, has, partOf, parts}
+use Rattle.zone.specs.Form.{Cell, _of_, row, forms, layout, startIn, start, widthIn, width, total, longest, has}
+use Rattle.zone.specs.Form.{partOf, parts}
 use Rattle.zone.proofs.AllForms.{all-forms}
 use Rattle.zone.specs.Alphabet.{every}
 
