@@ -6,10 +6,10 @@ ghost use lib.ListN.{getD, take, drop};
 ghost use Rattle.digit.specs.Check.{weight};
 ghost use Rattle.digit.specs.Inner.Thirds.{thirdsIn, weighed, Counts, asDigit};
 ghost use Rattle.digit.specs.Inner.Covered.{sumsOf, besideSum, othersSum, compositeSum};
-use crate::as_digit;
+use crate::sum::as_digit;
+use crate::sum::weight;
 use crate::thirds::Thirds;
 use crate::thirds::counts;
-use crate::weight;
 use zone::form::Form;
 
 // The fields that have a check digit, each gone over once; and what the composite covers beside number and dates, modulo 10.

@@ -3,8 +3,8 @@ ghost use mathlib.Core.Path.{_≡_};
 ghost use Prim.Native.Nat.{_<_, _^_};
 ghost use lib.ListN.{take, drop};
 ghost use Rattle.digit.specs.Inner.Thirds.{thirdsOf, thirdsIn, Counts, weighed};
-use crate::value;
-use crate::weight;
+use crate::sum::value;
+use crate::sum::weight;
 use zone::form::Form;
 
 // What each place of a text counts, 0 past its end. A loop of its own, so that the compiler takes many characters at a time.

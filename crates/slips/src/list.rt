@@ -4,7 +4,7 @@ ghost use mathlib.Core.List.{map};
 ghost use Prim.Native.Nat.{_≤_, _<_};
 ghost use lib.ListN.{length, take};
 ghost use Rattle.digit.specs.Pairs.{pairAt, isUndetected, undetected};
-use digit::value;
+use digit::sum::value;
 use zone::codes::characters;
 
 // Codes of characters are below this.

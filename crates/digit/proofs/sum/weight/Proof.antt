@@ -3,8 +3,8 @@ use native.Mathlib.Omega.{arith}
 use Prim.Native.Nat.{_%_}
 use mathlib.Core.Path.{_≡_}
 use Rattle.digit.specs.Check.{weight}
-use Rattle.digit.proofs.weight.Statement.{statement}
-use Rattle.digit.proofs.weight.Tie as tie
+use Rattle.digit.proofs.sum.weight.Statement.{statement}
+use Rattle.digit.proofs.sum.weight.Tie as tie
 
 pub weight-spec : {M : Type 1} → statement M
 unfolding weight

@@ -2,8 +2,8 @@
 use Rattle.lent.proofs.Tests.{tests}
 use Rattle.zone.specs.Alphabet.{isDigit, isLetter}
 use Rattle.digit.specs.Check.{value}
-use Rattle.digit.proofs.value.Statement.{statement}
-use Rattle.digit.proofs.value.Tie as tie
+use Rattle.digit.proofs.sum.value.Statement.{statement}
+use Rattle.digit.proofs.sum.value.Tie as tie
 
 pub value-spec : {M : Type 1} → statement M
 unfolding value isDigit isLetter
