@@ -1,4 +1,4 @@
-# shellcheck shell=bash disable=SC2154
+# shellcheck shell=bash disable=SC2154,SC2016
 # The refusals' numbers, in headers and pages, are those of the definitions: which there are, their names and words, and by
 # which of them each call refuses.
 numbers=crates/refusal/specs/Numbers.antt
@@ -71,7 +71,7 @@ try 'the table has the words' words_in_table
 # The numbers of a call's list: its own, and those of the list that it ends in.
 list_of() {
     local body
-    body=$(sed -n "s/^$1 = //p" $calls)
+    body=$(sed -n "s/^$1\( reader\)* = //p" $calls)
     [[ -n $body ]] || { echo "no list $1" && return; }
     grep -oE '[0-9]+' <<< "$body"
     if [[ $body =~ (of[A-Z][A-Za-z]*)$ ]]; then
@@ -82,9 +82,9 @@ list_of() {
 told_by() {
     {
         case $1 in
-        lamphudet_read_text) list_of ofText && list_of 'entered reader' ;;
-        lamphudet_read_presentation) list_of ofPresentation && list_of 'entered reader' ;;
-        lamphudet_read_seal) list_of ofSeal && list_of 'entered reader' ;;
+        lamphudet_read_text) list_of ofText && list_of entered ;;
+        lamphudet_read_presentation) list_of ofPresentation && list_of entered ;;
+        lamphudet_read_seal) list_of ofSeal && list_of entered ;;
         lamphudet_write_text) list_of ofTextWriterInC ;;
         lamphudet_open_entry | lamphudet_next_entry) list_of ofRun ;;
         lamphudet_digest) list_of ofDigest ;;
@@ -97,6 +97,21 @@ told_by() {
 ranges() {
     awk '{ to = NF > 1 ? $2 : $1; for (n = $1 + 0; n <= to + 0; n++) print n }' | sort -nu
 }
+# The table of the lists in the page on the demands.
+lists() {
+    sed -n 's/^\(of[A-Za-z]*\|entered\)\( reader\)* = .*/\1/p' $calls | grep -vx ofFields | sort
+}
+rows() {
+    sed -n 's/^| .* | \([0-9].*\) | `\([A-Za-z]*\)` |$/\2 \1/p' docs/DEMANDS.md
+}
+in_row() {
+    rows | sed -n "s/^$1 //p" | grep -oE '[0-9]+( to [0-9]+)?' | sed 's/ to / /' | ranges
+}
+try 'docs/DEMANDS.md has a row for each list' diff <(lists) <(rows | sed 's/ .*//' | sort)
+for list in $(lists); do
+    try "docs/DEMANDS.md has the numbers of $list" diff <(list_of "$list" | sort -nu) <(in_row "$list")
+done
+
 # What the comment before a call's declaration lists.
 in_comment() {
     awk -v call="$1" '
