@@ -35,7 +35,7 @@ plain-not-nine numbers n h nine = go (isOf numbers 9) (rw nine at h)
     go false e = false≢true e
 
 -- a number that a call tells, whatever else it tells
-pub also-of : (a b : Bool) → b ≡ true → a || b ≡ true
+also-of : (a b : Bool) → b ≡ true → a || b ≡ true
 also-of true b e = refl
 also-of false b e = e
 

@@ -12,15 +12,16 @@ use Rattle.refusal.specs.Numbers.{Why, by, expecting}
 abbrev pub ofFields : List ℕ
 ofFields = 3 ∷ 4 ∷ 5 ∷ 6 ∷ 7 ∷ 8 ∷ []
 
--- 1 to 9
+-- its length, its characters, its check digits, its fields
 abbrev pub ofText : List ℕ
 ofText = 1 ∷ 2 ∷ 9 ∷ ofFields
 
--- 1 to 15
+-- its elements and files, and its size and text
 abbrev pub ofPresentation : List ℕ
 ofPresentation = 10 ∷ 11 ∷ 12 ∷ 13 ∷ 14 ∷ 15 ∷ ofText
 
--- 1, 3 to 9 and 24 to 27; not 2, since C40 has no character that a text cannot have
+-- its size, the check digits of its text, its own parts, the fields of its text; not 2, since C40 has no character that a text
+-- cannot have
 abbrev pub ofSeal : List ℕ
 ofSeal = 1 ∷ 9 ∷ 24 ∷ 25 ∷ 26 ∷ 27 ∷ ofFields
 
@@ -39,7 +40,7 @@ ofEntry = 16 ∷ 17 ∷ []
 abbrev pub ofTextWriter : List ℕ
 ofTextWriter = 16 ∷ 17 ∷ []
 
--- which a C host lends an entry, whose record is sound
+-- a C host lends it an entry, so that it never has to tell of an unsound record
 abbrev pub ofTextWriterInC : List ℕ
 ofTextWriterInC = 16 ∷ 18 ∷ []
 
