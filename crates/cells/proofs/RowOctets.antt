@@ -17,8 +17,8 @@ use Rattle.zone.proofs.Every.{every-append, every-drop}
 use Rattle.cells.specs.Bits.{put, gathered, octets, bitsAt}
 use Rattle.cells.specs.Cells.{Cell, putRow, octetsOf, rowBits, roundedUp, valuesAt, rowEnd, spareBits, isWholeRow}
 use Rattle.cells.proofs.Gather.{length-gathered, length-put}
-use Rattle.cells.proofs.BitsOfOctets.{bitsOf, isBit, put-bits, put-zeros, put-followed, length-bits}
-use Rattle.cells.proofs.BitsOfOctets.{bits-append, drop-bits}
+use Rattle.cells.proofs.BitsOfOctets.{bitsOf, isBit, put-bits, put-zeros, put-followed, length-bits, bits-append}
+use Rattle.cells.proofs.BitsOfOctets.{drop-bits}
 use Rattle.cells.proofs.OctetsOfBits.{bits-octets, octets-append, octets-bits, gathered-zeros}
 use Rattle.cells.proofs.Fitting.{Fits, Sized, fits-sized, counts}
 use Rattle.cells.proofs.Putting.{row-followed, row-bits, length-row, row-append}
@@ -126,8 +126,8 @@ module _ (cs : List Cell) (vs : List (List ℕ)) (f : Fits cs vs) where
     pub octets-whole : isWholeRow cs (octetsOf cs vs ++ rest) ≡ true
     unfolding isWholeRow
     octets-whole =
-        let long : roundedUp bits ≤ length s = rw (length-append (octetsOf cs vs) rest) (omega
-        (arith, length-octets-of cs vs sized)) in
+        let long : roundedUp bits ≤ length s = rw (length-append (octetsOf cs vs) rest)
+        (omega (arith, length-octets-of cs vs sized)) in
         let there : drop bits (bitsOf s) ≡ put (spareBits bits) 0 (bitsOf rest) = rw octets-end at (read .rest-read) in
         let zeros : bitsAt s bits (spareBits bits) ≡ 0 =
         number-read s bits (spareBits bits) 0 (bitsOf rest) (pow-pos (spareBits bits)) there in

@@ -5,10 +5,11 @@ use mathlib.Core.Bool.{true}
 use mathlib.Core.List.{List, [], _∷_, _++_, map, map-append, append-assoc, append-nil}
 use native.Mathlib.Omega.{arith}
 use borrow.Author.Tests.{lt-ltb}
-use lib.ListN.{length, take, drop, replicate, length-append, length-map, length-drop, length-replicate}
+use lib.ListN.{length, take, drop, replicate, length-append, length-map, length-take, length-drop, length-replicate}
 use lib.ListN.{replicate-append-replicate}
 use lib.Seq.{take-at, drop-at, take-all, take-add, take-append-le, length-take-le}
 use Rattle.lent.specs.Copied.{copied, copiedAt}
+use Rattle.lent.proofs.Lists.{rest-all, copy-into}
 use Rattle.zone.specs.Alphabet.{filler, isCharacter, isFiller, every, isDigit, isLetter}
 use Rattle.zone.specs.Codes.{codeOf}
 use Rattle.zone.specs.Record.{trimmed, padded}
@@ -29,14 +30,15 @@ use Rattle.entry.specs.Codes.{formCode, sexCode}
 use Rattle.entry.specs.Row as part
 use Rattle.entry.specs.Row.{row, cells}
 use Rattle.entry.specs.Entry.{keyValues, restValues, valuesOf, entryOf, size, isHouse}
-use Rattle.entry.specs.Inner.Units.{packed, frontOctets, frontFours, frontUnits, allUnits, allOctets, unitOf, on, restFours}
+use Rattle.units.specs.Packed.{on, packed, packedOver, packedOnOver}
+use Rattle.entry.specs.Inner.Units.{frontOctets, frontFours, frontUnits, allUnits, allOctets, restFours}
 use Rattle.entry.specs.Inner.Units.{before, front, rest, unitsOf}
 use Rattle.entry.proofs.Coded.{codes-held}
 use Rattle.zone.proofs.FormTold.{entered-tells}
 use Rattle.entry.proofs.Sexes.{sex-tells}
-use Rattle.entry.proofs.Packing.{length-packed}
+use Rattle.units.proofs.Packing.{length-packed, pack-room, pack-on-room}
 use Rattle.entry.proofs.Placing.{sound-before}
-use Rattle.entry.proofs.UnitBits.{put-more, octets-packed}
+use Rattle.units.proofs.UnitBits.{put-more, octets-packed}
 use Rattle.entry.proofs.Values.{house-range, name-taken, name-coded}
 
 -- ---- house and form, and the sex
@@ -134,6 +136,29 @@ front-and-rest z p r n q a b c d =
     ∙ take-add n q (take n p ++ (r ++ t))
     ∙ rw (take-at (take n p) (r ++ t) n f, drop-at (take n p) (r ++ t) n f, take-append-le q r t d)
 
+-- the rest is packed to the part behind the front's octets, which has room for it
+pub units-packed : (octets units first back : List ℕ) (n : ℕ) → n ≤ nameRoom → length units ≡ allUnits → length octets ≡ allOctets
+    → first ≡ packedOver frontFours octets units
+    → back ≡ packedOnOver (restFours n) (take (length first - frontOctets) (drop frontOctets first))
+    (take (length units - frontUnits) (drop frontUnits units))
+    → take frontOctets first ++ (back ++ drop (length first - frontOctets) (drop frontOctets first))
+    ≡ copiedAt (copied octets (packed 0 frontFours units)) frontOctets (packed on (restFours n) (drop frontUnits units))
+units-packed octets units first back n h u o e f =
+    let p = packed 0 frontFours units in
+    let one : first ≡ copied octets p = e ∙ pack-room frontFours octets units (omega arith) (omega arith) in
+    let x = take (length octets) p in
+    let y = drop (length p) octets in
+    let long : length first ≡ allOctets = ap length one ∙ length-append x y
+    ∙ omega (arith, length-take (length octets) p, length-packed 0 frontFours units, length-drop (length p) octets) in
+    let all : take (length units - frontUnits) (drop frontUnits units) ≡ drop frontUnits units = rest-all units frontUnits in
+    let to = take (length first - frontOctets) (drop frontOctets first) in
+    let room : length to ≡ allOctets - frontOctets =
+    ap length (rest-all first frontOctets) ∙ length-drop frontOctets first ∙ omega arith in
+    let two : back ≡ copied to (packed on (restFours n) (drop frontUnits units)) = (rw all at f)
+    ∙ pack-on-room (restFours n) to (drop frontUnits units) (omega (arith, length-drop frontUnits units)) (omega arith) in
+    copy-into first frontOctets (packed on (restFours n) (drop frontUnits units)) back two
+    ∙ ap (λ (l : List ℕ). copiedAt l frontOctets (packed on (restFours n) (drop frontUnits units))) one
+
 module _ (house : ℕ) (r : Record) (housed : isHouse house ≡ true) (s : Sound r) where
   length-opening : length (opening house r []) ≡ 8 * frontOctets
   length-opening =
@@ -144,8 +169,8 @@ module _ (house : ℕ) (r : Record) (housed : isHouse house ≡ true) (s : Sound
   octets-opened : (t : List ℕ) → octets (opening house r t) ≡ octets (opening house r []) ++ octets t
   octets-opened t =
       ap octets (sym (opening-followed house r t))
-      ∙ octets-append frontOctets (opening house r []) t (all-bits 6 _ _ (put-bits 2 (sexCode
-      (r .sex)) [] no-bits)) length-opening
+      ∙ octets-append frontOctets (opening house r []) t (all-bits 6 _ _ (put-bits 2 (sexCode (r .sex)) [] no-bits))
+      length-opening
 
   -- ---- the units
 
@@ -175,8 +200,8 @@ module _ (house : ℕ) (r : Record) (housed : isHouse house ≡ true) (s : Sound
   rest-held =
       rw (lt-ltb (r .«name_len») 64 (omega (arith, s .name-most)))
       (codes-held (r .name ++ replicate (frontUnits - nameRoom - 1) filler)
-      (every-append isCharacter (r .name) _ (s .name-characters) (every-replicate isCharacter
-      (frontUnits - nameRoom - 1) filler refl)))
+      (every-append isCharacter (r .name) _ (s .name-characters)
+      (every-replicate isCharacter (frontUnits - nameRoom - 1) filler refl)))
 
   units-held : every (isHeld 6) (unitsOf house r) ≡ true
   unfolding unitsOf front before every isHeld
@@ -250,8 +275,8 @@ module _ (house : ℕ) (r : Record) (housed : isHouse house ≡ true) (s : Sound
       ∙ ap (put 6 (length (named r))) (all-followed 6 (named r) [] z))
 
   length-named : length (namedBits r) ≡ 6 + 6 * r .«name_len»
-  length-named = length-put 6 (length (named r)) (putAll 6 (named r) [])
-      ∙ omega (arith, length-all 6 (named r) [], name-coded r s)
+  length-named =
+      length-put 6 (length (named r)) (putAll 6 (named r) []) ∙ omega (arith, length-all 6 (named r) [], name-coded r s)
 
   rest-packed : take (roundedUp (length (namedBits r))) (packed on (restFours (r .«name_len»)) (rest r)) ≡ octets (namedBits r)
   rest-packed =

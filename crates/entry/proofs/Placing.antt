@@ -35,11 +35,10 @@ fillers-behind a e = sym (padded-append allUnits a (replicate (gap + 2) filler) 
 pub copied-placed : (r : Record) → length (r .state) ≡ stateRoom → length (r .number) ≡ numberRoom → length (r .birth) ≡ dateRoom
     → length (r .expiry) ≡ dateRoom → length (r .code) ≡ codeRoom → length (r .nationality) ≡ stateRoom
     → length (r .name) ≡ nameRoom
-    → copiedAt (copiedAt (copiedAt (copiedAt (copiedAt (copiedAt (copiedAt (replicate allUnits filler) (unitOf part.state)
-    (r .state))
-    (unitOf part.number) (r .number)) (unitOf part.birth) (r .birth)) (unitOf part.expiry) (r .expiry)) (unitOf part.code)
-    (r .code))
-    (unitOf part.nationality) (r .nationality)) (frontUnits + 1) (r .name)
+    → copiedAt (copiedAt (copiedAt (copiedAt (copiedAt (copiedAt (copiedAt (replicate allUnits filler)
+    (unitOf part.state) (r .state)) (unitOf part.number) (r .number)) (unitOf part.birth) (r .birth))
+    (unitOf part.expiry) (r .expiry)) (unitOf part.code) (r .code)) (unitOf part.nationality) (r .nationality))
+    (frontUnits + 1) (r .name)
     ≡ placed r
 unfolding placed before
 copied-placed r s n b e c a m =

@@ -14,8 +14,8 @@ use Rattle.zone.specs.Codes.{codeOf}
 use Rattle.zone.specs.declared.record.Record.{Record}
 use Rattle.zone.proofs.Every.{every-take}
 use Rattle.sound.proofs.SoundRecord.{Sound}
-use Rattle.cells.specs.Cells.{rowBits, roundedUp}
-use Rattle.cells.proofs.Fitting.{isHeld, Fits, fits-append, Sized, fits-sized, sized-append}
+use Rattle.cells.specs.Cells.{counted, rowBits, roundedUp}
+use Rattle.cells.proofs.Fitting.{isHeld, FitsCell, Fits, fits-append, Sized, fits-sized, sized-append}
 use Rattle.cells.proofs.RowOctets.{length-octets-of}
 use Rattle.entry.specs.Codes.{formCode, sexCode}
 use Rattle.entry.specs.Row.{row, key, afterKey, cells}
@@ -44,46 +44,31 @@ module _ (r : Record) (s : Sound r) where
   pub name-coded : length (map codeOf (take (r .«name_len») (r .name))) ≡ r .«name_len»
   name-coded = length-map (take (r .«name_len») (r .name)) codeOf ∙ name-taken
 
+  name-fits : FitsCell (counted 6 6) (map codeOf (take (r .«name_len») (r .name)))
+  name-fits = (
+    rw name-coded (omega (arith, s .name-most)),
+    codes-held (take (r .«name_len») (r .name)) (every-take isCharacter (r .«name_len») (r .name) (s .name-characters)),
+  )
+
   rest-fits : Fits (cells afterKey) (restValues r)
   unfolding restValues
   rest-fits =
-      let sex = sex-tells (r .sex) (s .sex-kept) .1 in (
-        coded 2 (r .code) (s .code-places) (s .code-characters),
-        (
-          coded 3 (r .nationality) (s .nationality-places) (s .nationality-characters),
-          (
-            (refl, one-held 2 (sexCode (r .sex)) sex),
-            (
-              (
-                rw name-coded (omega (arith, s .name-most)),
-                codes-held (take (r .«name_len») (r .name)) (every-take isCharacter (r .«name_len») (r .name)
-                    (s .name-characters)),
-              ),
-              tt,
-            ),
-          ),
-        ),
-      )
+      let code = coded 2 (r .code) (s .code-places) (s .code-characters) in
+      let nationality = coded 3 (r .nationality) (s .nationality-places) (s .nationality-characters) in
+      let sex = one-held 2 (sexCode (r .sex)) (sex-tells (r .sex) (s .sex-kept) .1) in
+      (code, (nationality, ((refl, sex), (name-fits, tt))))
 
   module _ (h : ℕ) (house : isHouse h ≡ true) where
     pub key-fits : Fits (cells key) (keyValues h r)
     unfolding keyValues
-    key-fits = (
-      (refl, one-held 15 h (omega (arith, house-range h house .1))),
-      (
-        (refl, one-held 3 (formCode (r .form)) (entered-tells (r .form) .1)),
-        (
-          coded 3 (r .state) (s .state-places) (s .state-characters),
-          (
-            coded 22 (r .number) (s .number-places) (s .number-characters),
-            (
-              coded 6 (r .birth) (s .birth-places) (s .birth-characters),
-              (coded 6 (r .expiry) (s .expiry-places) (s .expiry-characters), tt),
-            ),
-          ),
-        ),
-      ),
-    )
+    key-fits =
+        let house-fits = one-held 15 h (omega (arith, house-range h house .1)) in
+        let form-fits = one-held 3 (formCode (r .form)) (entered-tells (r .form) .1) in
+        let state = coded 3 (r .state) (s .state-places) (s .state-characters) in
+        let number = coded 22 (r .number) (s .number-places) (s .number-characters) in
+        let birth = coded 6 (r .birth) (s .birth-places) (s .birth-characters) in
+        let expiry = coded 6 (r .expiry) (s .expiry-places) (s .expiry-characters) in
+        ((refl, house-fits), ((refl, form-fits), (state, (number, (birth, (expiry, tt))))))
 
     pub values-fit : Fits (cells row) (valuesOf h r)
     unfolding valuesOf keyValues restValues
@@ -96,19 +81,12 @@ module _ (r : Record) (s : Sound r) where
 
   pub key-sized : (h : ℕ) → Sized (cells key) (keyValues h r)
   unfolding keyValues
-  key-sized h = (
-    refl,
-    (
-      refl,
-      (
-        coded-long 3 (r .state) (s .state-places),
-        (
-          coded-long 22 (r .number) (s .number-places),
-          (coded-long 6 (r .birth) (s .birth-places), (coded-long 6 (r .expiry) (s .expiry-places), tt)),
-        ),
-      ),
-    ),
-  )
+  key-sized h =
+      let state = coded-long 3 (r .state) (s .state-places) in
+      let number = coded-long 22 (r .number) (s .number-places) in
+      let birth = coded-long 6 (r .birth) (s .birth-places) in
+      let expiry = coded-long 6 (r .expiry) (s .expiry-places) in
+      (refl, (refl, (state, (number, (birth, (expiry, tt))))))
 
   pub values-sized : (h : ℕ) → Sized (cells row) (valuesOf h r)
   unfolding valuesOf keyValues restValues

@@ -2,5 +2,4 @@
 pub mod codes;
 pub mod enter;
 pub mod places;
-mod units;
 pub mod write;

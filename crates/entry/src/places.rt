@@ -44,9 +44,6 @@ pub const FRONT_UNITS: usize = 4 * FRONT_FOURS;
 // As many units as the front has are enough for the rest, with one behind it.
 pub const UNITS: usize = 2 * FRONT_UNITS;
 
-// How many times the rest is doubled as it is packed: once for each bit of a unit that its first number does not have.
-pub const DOUBLED: u32 = 1;
-
 // Room for the octets of the longest entry, to whole fours.
 pub const OCTETS: usize = UNITS / 4 * 3;
 

@@ -66,8 +66,8 @@ module _ (h k : ℕ) (r q : Record) (house : isHouse h ≡ true) (sound : isSoun
   unfolding wholeNumber keyValues
   agreeing e =
       let v = same-values e in
-      let number : r .number ≡ q .number = same-codes (r .number) (q .number) (o .number-characters) (o′ .number-characters)
-      (cc v) in
+      let number : r .number ≡ q .number =
+      same-codes (r .number) (q .number) (o .number-characters) (o′ .number-characters) (cc v) in
       let count : r .«number_len» ≡ q .«number_len» = sym (o .number-ends) ∙ ap trimmedLength number ∙ o′ .number-ends in
       record {
         same-house = cc v;

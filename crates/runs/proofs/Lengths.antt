@@ -16,9 +16,10 @@ use Rattle.cells.proofs.ReadingBack.{length-numbers}
 use Rattle.cells.proofs.Shifts.{bits-below}
 use Rattle.entry.specs.Row as part
 use Rattle.entry.specs.Row.{start}
-use Rattle.runs.specs.Inner.Units.{charactersAt, nameLength}
+use Rattle.units.specs.Unpacked.{charactersAt}
+use Rattle.runs.specs.Inner.Units.{nameLength}
 use Rattle.runs.specs.Run.{Standing, recordOf, recordIn, formIn, isEntry, noEntry, entryBy, readEntry}
-use Rattle.runs.proofs.Reading.{length-characters}
+use Rattle.units.proofs.Reading.{length-characters}
 
 pub record Short (r : Record) : Type 0 where
   pub number-short : r .«number_len» ≤ numberRoom

@@ -1,5 +1,4 @@
 -- The laws of this crate.
-pub mod Reading  -- bits, and four characters in four octets, as the code works them out
 pub mod UnitsRead  -- the characters of an entry, unit by unit
 pub mod RecordRead  -- the record that an entry says, from its units
 pub mod ValuesBack  -- a record and the values of its row tell each other

@@ -19,7 +19,8 @@ use Rattle.entry.specs.Row as part
 use Rattle.entry.specs.Row.{row, cells, start}
 use Rattle.entry.specs.Inner.Units.{unitOf, frontUnits}
 use Rattle.runs.specs.Run.{recordOf, recordIn, isWhole}
-use Rattle.runs.specs.Inner.Units.{charactersAt, nameLength, endBy, sizeBy, spareBy, allUnits, held, unitsOver, unitsIn}
+use Rattle.units.specs.Unpacked.{charactersAt}
+use Rattle.runs.specs.Inner.Units.{nameLength, endBy, sizeBy, spareBy, allUnits, held, unitsOver, unitsIn}
 use Rattle.runs.proofs.UnitsRead.{field-read, padded-field, padded-name}
 
 pub units-are : (s u : List ℕ) (n : ℕ) → u ≡ unitsOver (replicate allUnits filler) (held s n) n → u ≡ unitsIn s n

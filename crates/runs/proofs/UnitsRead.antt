@@ -9,10 +9,10 @@ use native.Mathlib.Omega.{arith}
 use borrow.Author.Tests.{ltb-true, ltb-false}
 use lib.Dec.{ltb}
 use lib.ListN.{length, take, drop, getD, replicate, length-append, length-replicate, getD-replicate, replicate-append-replicate}
-use lib.ListN.{List·getD-eq-default}
+use lib.ListN.{List·getD-eq-default, length-take, length-drop}
 use lib.Seq.{take-all, take-at, drop-at, length-take-le, getD-append-add, drop-append-add}
 use Rattle.lent.specs.Copied.{copied, copiedAt}
-use Rattle.lent.proofs.Lists.{drop-replicate}
+use Rattle.lent.proofs.Lists.{drop-replicate, rest-all, copy-into}
 use Rattle.zone.specs.Alphabet.{filler}
 use Rattle.zone.specs.Codes.{characterOf}
 use Rattle.zone.specs.Record.{padded}
@@ -25,10 +25,11 @@ use Rattle.cells.proofs.Alike.{bit-alike, numbers-alike, none-each, Unset, numb
 use Rattle.cells.proofs.RowOctets.{whole-octets}
 use Rattle.entry.specs.Row as part
 use Rattle.entry.specs.Row.{start}
-use Rattle.entry.specs.Inner.Units.{frontOctets, frontUnits, unitOf, restFours}
-use Rattle.runs.specs.Inner.Units.{charactersAt, endBy, sizeBy, spareBy, mostFours, allUnits, allOctets, held}
-use Rattle.runs.specs.Inner.Units.{unitsOver, unitsIn}
-use Rattle.runs.proofs.Reading.{length-characters}
+use Rattle.entry.specs.Inner.Units.{frontOctets, frontFours, frontUnits, unitOf, restFours}
+use Rattle.units.specs.Unpacked.{charactersAt}
+use Rattle.runs.specs.Inner.Units.{endBy, sizeBy, spareBy, mostFours, allUnits, allOctets, held, unitsOver, unitsIn}
+use Rattle.units.specs.Unpacked.{unpackedOver}
+use Rattle.units.proofs.Reading.{length-characters, unpack-room}
 
 -- ---- characters one behind the other, and fillers
 
@@ -49,8 +50,8 @@ padded-fillers (suc k) (suc m) = padded-cons k filler (replicate m filler) ∙ a
 -- fillers behind a list make no difference to its room
 fillers-behind : (k m : ℕ) (a : List ℕ) → padded k (a ++ replicate m filler) ≡ padded k a
 unfolding padded
-fillers-behind k m a = padded-append k a (replicate m filler)
-    ∙ ap (λ (l : List ℕ). take k a ++ l) (padded-fillers (k - length a) m)
+fillers-behind k m a =
+    padded-append k a (replicate m filler) ∙ ap (λ (l : List ℕ). take k a ++ l) (padded-fillers (k - length a) m)
 
 -- a part of a list
 cut : (a b c r : List ℕ) (at m : ℕ) → length a ≡ at → length b ≡ m → take m (drop at ((a ++ (b ++ c)) ++ r)) ≡ b
@@ -64,6 +65,27 @@ zeros-octet k i = go (ltb i k) refl
     go : (b : Bool) → ltb i k ≡ b → getD {A = ℕ} (replicate k 0) i 0 ≡ 0
     go true e = getD-replicate k i 0 0 (ltb-true i k e)
     go false e = List·getD-eq-default (replicate k 0) 0 (rw (length-replicate {A = ℕ} k 0) (ltb-false i k e))
+
+-- the rest is unpacked to the part behind the front's units, which has room for it
+pub units-unpacked : (to octets first back : List ℕ) (n : ℕ) → n < 64 → length to ≡ allUnits → length octets ≡ allOctets
+    → first ≡ unpackedOver 0 frontFours to octets
+    → back ≡ unpackedOver (start part.name) (restFours n) (take (length first - frontUnits) (drop frontUnits first)) octets
+    → take frontUnits first ++ (back ++ drop (length first - frontUnits) (drop frontUnits first)) ≡ unitsOver to octets n
+unfolding unitsOver
+units-unpacked to octets first back n h u o e f =
+    let p = charactersAt octets 0 frontUnits in
+    let q = charactersAt octets (start part.name) (4 * restFours n) in
+    let one : first ≡ copied to p = e ∙ unpack-room 0 frontFours to octets (omega arith) (omega arith) in
+    let x = take (length to) p in
+    let y = drop (length p) to in
+    let long : length first ≡ allUnits = ap length one ∙ length-append x y
+    ∙ omega (arith, length-take (length to) p, length-characters octets 0 frontUnits, length-drop (length p) to) in
+    let part-of = take (length first - frontUnits) (drop frontUnits first) in
+    let room : length part-of ≡ allUnits - frontUnits =
+    ap length (rest-all first frontUnits) ∙ length-drop frontUnits first ∙ omega arith in
+    let two : back ≡ copied part-of q = f
+    ∙ unpack-room (start part.name) (restFours n) part-of octets (omega arith) (omega arith) in
+    copy-into first frontUnits q back two ∙ ap (λ (l : List ℕ). copiedAt l frontUnits q) one
 
 module _ (s : List ℕ) (n : ℕ) (h : sizeBy n ≤ length s) (g : n < 64) where
   -- ---- the octets

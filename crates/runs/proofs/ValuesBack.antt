@@ -30,7 +30,8 @@ use Rattle.zone.proofs.FormTold.{tells-entered}
 use Rattle.entry.proofs.Sexes.{sex-tells, tells-sex}
 use Rattle.entry.proofs.Values.{name-coded}
 use Rattle.runs.specs.Run.{recordOf, recordIn, houseIn, formIn, valuesIn}
-use Rattle.runs.specs.Inner.Units.{charactersAt, nameLength}
+use Rattle.units.specs.Unpacked.{charactersAt}
+use Rattle.runs.specs.Inner.Units.{nameLength}
 
 -- the values of a sound record say that record
 pub record-back : (house : ℕ) (r : Record) → Sound r → recordOf (r .form) (valuesOf house r) ≡ r
@@ -47,8 +48,8 @@ record-back house r s =
     let ends = ap trimmedLength number ∙ s .number-ends in
     let named : padded nameRoom x ≡ r .name = (rw (s .name-ends) at (padded-trimmed nameRoom (r .name)))
     ∙ padded-exact nameRoom (r .name) (s .name-places) in
-    let name = ap (padded nameRoom) (codes-tell x (every-take isCharacter (r .«name_len») (r .name) (s .name-characters)))
-    ∙ named in
+    let pure = every-take isCharacter (r .«name_len») (r .name) (s .name-characters) in
+    let name = ap (padded nameRoom) (codes-tell x pure) ∙ named in
     let long = name-coded r s in
     λ i. record {
       form = r .form;

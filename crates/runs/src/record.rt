@@ -5,11 +5,11 @@ ghost use Prim.Native.Nat.{_<_};
 ghost use lib.ListN.{length};
 ghost use Rattle.runs.specs.Inner.Units as U;
 ghost use Rattle.runs.specs.Run as R;
-use crate::bits::bits;
 use crate::characters;
 use crate::places as room;
-use crate::units::unpack;
 use entry::places;
+use units::unpack::bits;
+use units::unpack::unpack;
 use zone::alphabet::FILLER;
 use zone::form::Form;
 use zone::record::Record;
@@ -21,27 +21,12 @@ pub(crate) fn name_length(s: &[u8]) -> usize
     bits(s, places::NAME_LENGTH, places::NAME_LENGTH_BITS) as usize
 }
 
-// Where a name of n characters ends.
-fn name_end(n: usize) -> usize
-    requires { ⌜ n < 64 ⌝ }
-    ensures { λ r. ⌜ r ≡ U.endBy n ⌝ }
-{
-    places::NAME + places::CHARACTER * n
-}
-
-// The octets of an entry whose name has n characters, and the bits of the last that are left over.
+// The octets of an entry whose name has n characters.
 pub(crate) fn size(n: usize) -> usize
     requires { ⌜ n < 64 ⌝ }
     ensures { λ r. ⌜ (r ≡ U.sizeBy n) × (r < 128) ⌝ }
 {
-    (name_end(n) + 7) / 8
-}
-
-fn spare(n: usize) -> usize
-    requires { ⌜ n < 64 ⌝ }
-    ensures { λ r. ⌜ (r ≡ U.spareBy n) × (r < 8) ⌝ }
-{
-    8 * size(n) - name_end(n)
+    (places::NAME + places::CHARACTER * n + 7) / 8
 }
 
 // Not cut off, and the spare bits zero. The name has n characters.
@@ -49,7 +34,8 @@ pub(crate) fn is_whole(s: &[u8], n: usize) -> bool
     requires { ⌜ (n < 64) × (n ≡ U.nameLength (now s)) ⌝ }
     ensures { λ r. ⌜ r ≡ R.isWhole (now (s .entry)) ⌝ }
 {
-    (size(n) <= s.len()) & (bits(s, name_end(n), spare(n)) == 0)
+    let end = places::NAME + places::CHARACTER * n;
+    (size(n) <= s.len()) & (bits(s, end, 8 * size(n) - end) == 0)
 }
 
 // The characters of an entry, each at its unit, into a range that is lent: by value they would be copied one by one. Its octets

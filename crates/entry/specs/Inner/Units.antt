@@ -1,7 +1,7 @@
 -- No words of the paper: units of six bits, each in an octet of its own, in which an entry is written.
-use Prim.Native.Nat.{ℕ, zero, suc, _+_, _-_, _*_, _/_, _%_, _^_}
+use Prim.Native.Nat.{ℕ, _+_, _-_, _*_, _/_, _%_}
 use mathlib.Core.List.{List, [], _∷_, _++_, map}
-use lib.ListN.{drop, getD, replicate}
+use lib.ListN.{replicate}
 use Rattle.zone.specs.Alphabet.{filler}
 use Rattle.zone.specs.Codes.{codeOf}
 use Rattle.zone.specs.Rooms.{nameRoom}
@@ -10,27 +10,6 @@ use Rattle.cells.specs.Cells.{rowBits, roundedUp}
 use Rattle.entry.specs.Codes.{formCode, sexCode}
 use Rattle.entry.specs.Row as part
 use Rattle.entry.specs.Row.{Part, row, cells, start}
-
--- ---- packed
-
--- the number that the four units from a place on say
-abbrev pub four : (a b c d : ℕ) → ℕ
-four a b c d = ((a * 64 + b) * 64 + c) * 64 + d
-
-unfoldable pub fourAt : List ℕ → ℕ → ℕ
-fourAt s at = four (getD s at 0) (getD s (at + 1) 0) (getD s (at + 2) 0) (getD s (at + 3) 0)
-
--- and the same j bits on: with the first j bits of the next unit behind them
-unfoldable pub fourOn : (j : ℕ) → List ℕ → ℕ → ℕ
-fourOn j s at = fourAt s at * 2 ^ j + getD s (at + 4) 0 % 64 / 2 ^ (6 - j)
-
--- k times four units are three octets each. What is j bits on begins behind the first j bits
-unfoldable pub packed : (j k : ℕ) → List ℕ → List ℕ
-packed j zero s = []
-packed j (suc k) s =
-    (fourOn j s 0 / 65536 % 256) ∷ (fourOn j s 0 / 256 % 256) ∷ (fourOn j s 0 % 256) ∷ packed j k (drop 4 s)
-
--- ---- the units of an entry
 
 -- the front: the parts before the name, whole octets
 abbrev pub frontOctets : ℕ
@@ -57,10 +36,6 @@ allUnits = 2 * frontUnits
 
 abbrev pub allOctets : ℕ
 allOctets = allUnits / 4 * 3
-
--- how many bits the rest is on: those of a unit that its first count does not have
-abbrev pub on : ℕ
-on = 0
 
 -- the fours of a rest with a name of n characters
 abbrev pub restFours : ℕ → ℕ

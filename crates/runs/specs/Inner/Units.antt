@@ -1,19 +1,15 @@
 -- No words of the paper: units of six bits, each in an octet of its own, as an entry is read.
 use Prim.Native.Nat.{ℕ, _+_, _*_}
-use mathlib.Core.List.{List, map}
+use mathlib.Core.List.{List}
 use lib.ListN.{take, replicate}
 use Rattle.lent.specs.Copied.{copied, copiedAt}
 use Rattle.zone.specs.Alphabet.{filler}
-use Rattle.zone.specs.Codes.{characterOf}
 use Rattle.cells.specs.Bits.{bitsAt}
-use Rattle.cells.specs.Cells.{numbersAt, roundedUp, spareBits}
+use Rattle.cells.specs.Cells.{roundedUp, spareBits}
+use Rattle.units.specs.Unpacked.{charactersAt}
 use Rattle.entry.specs.Row as part
 use Rattle.entry.specs.Row.{start}
 use Rattle.entry.specs.Inner.Units.{frontOctets, frontUnits, restFours}
-
--- the n characters from the k-th bit on
-abbrev pub charactersAt : List ℕ → (k n : ℕ) → List ℕ
-charactersAt s k n = map characterOf (numbersAt s k n 6)
 
 -- the length of the name, where it ends, and the octets and the spare bits of the entry
 abbrev pub nameLength : List ℕ → ℕ

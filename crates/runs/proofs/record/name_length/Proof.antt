@@ -2,12 +2,14 @@
 use borrow.Author.Needs.{needs}
 use denote.Ref.{now}
 use Rattle.cells.proofs.Shifts.{bits-below}
+use Rattle.units.specs.Unpacked.{bitsWithin}
 use Rattle.entry.specs.Row as part
 use Rattle.entry.specs.Row.{start}
 use Rattle.runs.proofs.record.name_length.Statement.{statement}
 use Rattle.runs.proofs.record.name_length.Tie as tie
 
 pub name-length-spec : {M : Type 1} → statement M
+unfolding bitsWithin
 name-length-spec =
     tie.close
     (tie.spec

@@ -1,11 +1,13 @@
 -- Field by field, from the units of the entry (`record-read`).
 use borrow.Author.Needs.{needs}
 use denote.Ref.{now}
+use Rattle.units.specs.Unpacked.{bitsWithin}
 use Rattle.runs.proofs.RecordRead.{units-are, record-read}
 use Rattle.runs.proofs.record.record_in.Statement.{statement}
 use Rattle.runs.proofs.record.record_in.Tie as tie
 
 returns : tie.Need-returns
+unfolding bitsWithin
 returns c =
     let expiry = c .before .before in
     let sex = expiry .before .before in

@@ -2,18 +2,19 @@
 use borrow.Author.Needs.{needs}
 use mathlib.Core.Bool.{and-assoc}
 use Rattle.cells.specs.Cells.{numbersAt}
+use Rattle.units.specs.Unpacked.{bitsWithin}
 use Rattle.runs.specs.Run.{houseIn, isEntry, entryBy}
 use Rattle.runs.proofs.run.entry_as.Statement.{statement}
 use Rattle.runs.proofs.run.entry_as.Tie as tie
 
 sound-entry-requires : tie.Need-sound-entry-requires
-unfolding houseIn numbersAt
+unfolding houseIn numbersAt bitsWithin
 sound-entry-requires c κs =
     let kept = rw (c .before .is-whole .ensures, c .before .before .is-house .ensures) at (c .if1 .taken) in
     ((search needs, search needs, search needs), (c .before .before .before .before .bits .ensures, kept))
 
 returns-2 : tie.Need-returns-2
-unfolding houseIn numbersAt isEntry entryBy
+unfolding houseIn numbersAt bitsWithin isEntry entryBy
 returns-2 c =
     let kept = rw (
       c .before .before .is-whole .ensures,

@@ -2,19 +2,20 @@
 use borrow.Author.Needs.{needs}
 use mathlib.Core.Path.{sym, _∙_}
 use Rattle.cells.specs.Cells.{numbersAt}
+use Rattle.units.specs.Unpacked.{bitsWithin}
 use Rattle.runs.specs.Run.{formIn, entryBy}
 use Rattle.runs.proofs.run.entry_at.Statement.{statement}
 use Rattle.runs.proofs.run.entry_at.Tie as tie
 
 returns : tie.Need-returns
-unfolding formIn numbersAt
+unfolding formIn numbersAt bitsWithin
 returns c =
     let told = rw (c .before .before .before .before .before .bits .ensures) at
     (sym (c .before .before .before .before .entered-as .ensures) ∙ c .before .before .told .given .1) in
     rw (c .entry-as .ensures, told)
 
 returns-2 : tie.Need-returns-2
-unfolding formIn numbersAt entryBy
+unfolding formIn numbersAt bitsWithin entryBy
 returns-2 c =
     let told = rw (c .before .before .before .before .bits .ensures) at
     (sym (c .before .before .before .entered-as .ensures) ∙ c .before .enum-told .given .1) in
