@@ -31,7 +31,7 @@ whole-octets n = omega arith
 pub spare-few : (n : ℕ) → spareBits n < 8
 spare-few n = omega arith
 
-no-bits : every isBit [] ≡ true
+pub no-bits : every isBit [] ≡ true
 unfolding every
 no-bits = refl
 

@@ -25,7 +25,7 @@ use Rattle.cells.proofs.BitsOfOctets.{isBit, put-bits, put-followed, put-zeros}
 use Rattle.cells.proofs.OctetsOfBits.{octets-append}
 use Rattle.cells.proofs.Fitting.{isHeld}
 use Rattle.cells.proofs.Putting.{all-append, all-followed, all-bits, length-all}
-use Rattle.cells.proofs.RowOctets.{length-octets, octets-cut, whole-octets}
+use Rattle.cells.proofs.RowOctets.{length-octets, octets-cut, whole-octets, no-bits}
 use Rattle.entry.specs.Codes.{formCode, sexCode}
 use Rattle.entry.specs.Row as part
 use Rattle.entry.specs.Row.{row, cells}
@@ -103,10 +103,6 @@ units-opened house r =
 opening-followed : (house : ℕ) (r : Record) (t : List ℕ) → opening house r [] ++ t ≡ opening house r t
 opening-followed house r t =
     all-followed 6 _ (put 2 (sexCode (r .sex)) []) t ∙ ap (putAll 6 _) (put-followed 2 (sexCode (r .sex)) [] t)
-
-no-bits : every isBit [] ≡ true
-unfolding every
-no-bits = refl
 
 -- ---- fillers are zero bits
 
