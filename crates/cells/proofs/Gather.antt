@@ -1,7 +1,7 @@
 -- Laws on bits written one number after the other and gathered by eights.
 use mathlib.Core.Path.{_≡_, refl, ap, ap₂, sym, _∙_}
 use mathlib.Core.Bool.{Bool, true, false, cond}
-use mathlib.Core.List.{List, [], _∷_, _++_}
+use mathlib.Core.List.{List, [], _∷_}
 use Prim.Native.Nat.{ℕ, zero, suc, _+_, _-_, _*_, _/_, _%_, _^_, _≤_, _<_}
 use native.Mathlib.Nat.{zero-add, suc-add, add-comm, pow-suc, mul-comm, add-mul, mul-assoc, mul-add-div-right}
 use native.Mathlib.Nat.{mul-add-mod-self-right, div-add-mod'}
@@ -11,7 +11,7 @@ use borrow.Author.Tests.{eq-eqb, ne-eqb, eqb-true, eqb-false}
 use lib.Dec.{eqb, eqb·suc-zero}
 use lib.ListN.{length}
 use lib.Pow.{pow-pos, pow-add, mod-pow-add, shr-shr, shr-mod}
-use Rattle.cells.specs.Bits.{put, gathered, octets}
+use Rattle.cells.specs.Bits.{put, gathered}
 
 -- ---- a number in bits
 

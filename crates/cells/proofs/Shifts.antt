@@ -1,6 +1,6 @@
 -- The laws of `bitsAt`: what it says is below its power of two, bits one behind the other, a field of some bits, and octets.
 use Prim.Native.Nat.{ℕ, zero, suc, _+_, _-_, _*_, _/_, _%_, _^_, _<_}
-use mathlib.Core.Path.{_≡_, refl, ap, sym, _∙_}
+use mathlib.Core.Path.{_≡_, refl, ap, _∙_}
 use mathlib.Core.List.{List, [], _∷_}
 use native.Mathlib.Nat.{mod-lt, mod-eq-of-lt, zero-add, add-mul, mul-assoc, pow-succ'}
 use native.Mathlib.Omega.{arith}

@@ -1,8 +1,8 @@
 -- The octets of an entry's units are those of the entry: the front's, and then the rest's, with zeros behind them.
-use Prim.Native.Nat.{ℕ, zero, suc, _+_, _-_, _*_, _/_, _%_, _^_, _≤_, _<_}
+use Prim.Native.Nat.{ℕ, zero, suc, _+_, _-_, _*_, _/_, _%_, _≤_, _<_}
 use mathlib.Core.Path.{_≡_, refl, ap, sym, _∙_}
 use mathlib.Core.Bool.{true}
-use mathlib.Core.List.{List, [], _∷_, _++_, map, map-append, append-assoc, append-nil}
+use mathlib.Core.List.{List, [], _∷_, _++_, map, map-append, append-assoc}
 use native.Mathlib.Omega.{arith}
 use borrow.Author.Tests.{lt-ltb}
 use lib.ListN.{length, take, drop, replicate, length-append, length-map, length-take, length-drop, length-replicate}
@@ -19,7 +19,7 @@ use Rattle.zone.proofs.Every.{every-append, every-replicate}
 use Rattle.zone.proofs.Padded.{padded-trimmed, padded-exact, padded-spare}
 use Rattle.sound.proofs.SoundRecord.{Sound}
 use Rattle.cells.specs.Bits.{put, octets}
-use Rattle.cells.specs.Cells.{putAll, putCell, putRow, octetsOf, roundedUp, spareBits}
+use Rattle.cells.specs.Cells.{putAll, putCell, putRow, octetsOf, roundedUp}
 use Rattle.cells.proofs.Gather.{put-halves, length-put}
 use Rattle.cells.proofs.BitsOfOctets.{isBit, put-bits, put-followed, put-zeros}
 use Rattle.cells.proofs.OctetsOfBits.{octets-append}
@@ -27,7 +27,6 @@ use Rattle.cells.proofs.Fitting.{isHeld}
 use Rattle.cells.proofs.Putting.{all-append, all-followed, all-bits, length-all}
 use Rattle.cells.proofs.RowOctets.{length-octets, octets-cut, whole-octets, no-bits}
 use Rattle.entry.specs.Codes.{formCode, sexCode}
-use Rattle.entry.specs.Row as part
 use Rattle.entry.specs.Row.{row, cells}
 use Rattle.entry.specs.Entry.{keyValues, restValues, valuesOf, entryOf, size, isHouse}
 use Rattle.units.specs.Packed.{on, packed, packedOver, packedOnOver}

@@ -4,7 +4,7 @@ use Prim.Native.Nat.{ℕ, _+_, _-_, _*_, _/_, _%_}
 use mathlib.Core.Path.{_≡_, refl, ap, sym, _∙_}
 use mathlib.Core.List.{List, [], _∷_, _++_, map, map-append, append-assoc}
 use native.Mathlib.Omega.{arith}
-use lib.ListN.{length, set, replicate, length-append, length-map, length-replicate}
+use lib.ListN.{length, set, replicate, length-append, length-map}
 use lib.Seq.{set-at}
 use Rattle.lent.specs.Copied.{copiedAt}
 use Rattle.zone.specs.Alphabet.{filler, isDigit, isLetter}
@@ -12,7 +12,7 @@ use Rattle.zone.specs.Codes.{codeOf}
 use Rattle.zone.specs.Record.{padded}
 use Rattle.zone.specs.Rooms.{codeRoom, stateRoom, dateRoom, numberRoom, nameRoom}
 use Rattle.zone.specs.declared.record.Record.{Record}
-use Rattle.zone.proofs.Padded.{copied-behind, padded-append, padded-exact, padded-spare}
+use Rattle.zone.proofs.Padded.{copied-behind, padded-append, padded-spare}
 use Rattle.sound.proofs.SoundRecord.{Sound}
 use Rattle.entry.specs.Codes.{formCode, sexCode}
 use Rattle.entry.specs.Row as part

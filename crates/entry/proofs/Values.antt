@@ -1,7 +1,7 @@
 -- The values of a house and a sound record fit the row, and how many numbers they are.
 use Prim.Native.Nat.{ℕ, _^_, _≤_, _<_}
-use mathlib.Core.Path.{_≡_, refl, ap, sym, _∙_}
-use mathlib.Core.Bool.{true, _&&_}
+use mathlib.Core.Path.{_≡_, refl, ap, _∙_}
+use mathlib.Core.Bool.{true}
 use mathlib.Core.List.{List, [], _∷_, map}
 use native.Mathlib.Omega.{arith}
 use borrow.Author.Tests.{leb-true, lt-ltb}
@@ -11,6 +11,7 @@ use lib.Seq.{length-take-le}
 use Rattle.lent.proofs.Bools.{and-both}
 use Rattle.zone.specs.Alphabet.{isCharacter, every}
 use Rattle.zone.specs.Codes.{codeOf}
+use Rattle.zone.specs.Rooms.{codeRoom, stateRoom, dateRoom, numberRoom}
 use Rattle.zone.specs.declared.record.Record.{Record}
 use Rattle.zone.proofs.Every.{every-take}
 use Rattle.sound.proofs.SoundRecord.{Sound}
@@ -53,8 +54,8 @@ module _ (r : Record) (s : Sound r) where
   rest-fits : Fits (cells afterKey) (restValues r)
   unfolding restValues
   rest-fits =
-      let code = coded 2 (r .code) (s .code-places) (s .code-characters) in
-      let nationality = coded 3 (r .nationality) (s .nationality-places) (s .nationality-characters) in
+      let code = coded codeRoom (r .code) (s .code-places) (s .code-characters) in
+      let nationality = coded stateRoom (r .nationality) (s .nationality-places) (s .nationality-characters) in
       let sex = one-held 2 (sexCode (r .sex)) (sex-tells (r .sex) (s .sex-kept) .1) in
       (code, (nationality, ((refl, sex), (name-fits, tt))))
 
@@ -64,10 +65,10 @@ module _ (r : Record) (s : Sound r) where
     key-fits =
         let house-fits = one-held 15 h (omega (arith, house-range h house .1)) in
         let form-fits = one-held 3 (formCode (r .form)) (entered-tells (r .form) .1) in
-        let state = coded 3 (r .state) (s .state-places) (s .state-characters) in
-        let number = coded 22 (r .number) (s .number-places) (s .number-characters) in
-        let birth = coded 6 (r .birth) (s .birth-places) (s .birth-characters) in
-        let expiry = coded 6 (r .expiry) (s .expiry-places) (s .expiry-characters) in
+        let state = coded stateRoom (r .state) (s .state-places) (s .state-characters) in
+        let number = coded numberRoom (r .number) (s .number-places) (s .number-characters) in
+        let birth = coded dateRoom (r .birth) (s .birth-places) (s .birth-characters) in
+        let expiry = coded dateRoom (r .expiry) (s .expiry-places) (s .expiry-characters) in
         ((refl, house-fits), ((refl, form-fits), (state, (number, (birth, (expiry, tt))))))
 
     pub values-fit : Fits (cells row) (valuesOf h r)
@@ -82,10 +83,10 @@ module _ (r : Record) (s : Sound r) where
   pub key-sized : (h : ℕ) → Sized (cells key) (keyValues h r)
   unfolding keyValues
   key-sized h =
-      let state = coded-long 3 (r .state) (s .state-places) in
-      let number = coded-long 22 (r .number) (s .number-places) in
-      let birth = coded-long 6 (r .birth) (s .birth-places) in
-      let expiry = coded-long 6 (r .expiry) (s .expiry-places) in
+      let state = coded-long stateRoom (r .state) (s .state-places) in
+      let number = coded-long numberRoom (r .number) (s .number-places) in
+      let birth = coded-long dateRoom (r .birth) (s .birth-places) in
+      let expiry = coded-long dateRoom (r .expiry) (s .expiry-places) in
       (refl, (refl, (state, (number, (birth, (expiry, tt))))))
 
   pub values-sized : (h : ℕ) → Sized (cells row) (valuesOf h r)

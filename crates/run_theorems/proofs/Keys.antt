@@ -4,8 +4,7 @@ use Prim.Native.Nat.{ℕ}
 use mathlib.Core.Path.{_≡_, refl, ap, sym, _∙_}
 use mathlib.Core.Logic.{_↔_}
 use mathlib.Core.Bool.{true}
-use mathlib.Core.List.{List, [], _∷_, map}
-use lib.ListN.{length, take}
+use mathlib.Core.List.{List, map}
 use Rattle.refusal.specs.Outcome.{passed}
 use Rattle.zone.specs.declared.form.Form.{Form}
 use Rattle.zone.specs.declared.form.Source.the-variants.{Alone}
@@ -13,6 +12,7 @@ use Rattle.zone.specs.declared.record.Record.{Record}
 use Rattle.zone.specs.Alphabet.{isCharacter, every}
 use Rattle.zone.specs.Codes.{codeOf, characterOf}
 use Rattle.zone.specs.Record.{trimmedLength, trimmed, padded}
+use Rattle.zone.specs.Rooms.{numberRoom}
 use Rattle.zone.proofs.FormTold.{as-same}
 use Rattle.zone.proofs.Padded.{padded-exact, padded-trimmed}
 use Rattle.sound.specs.Sound.{isSound}
@@ -37,9 +37,9 @@ module _ (h : ℕ) (r : Record) (o : Sound r) where
   unfolding keyOf entryOf valuesOf keyValues
   key-octets = octets-begin (cells key) (cells afterKey) (keyValues h r) (restValues r) 30 (key-sized r o h) refl
 
-  number-whole : r .number ≡ padded 22 (wholeNumber r)
+  number-whole : r .number ≡ padded numberRoom (wholeNumber r)
   unfolding trimmed wholeNumber
-  number-whole = sym (rw (o .number-ends) at (padded-trimmed 22 (r .number)) ∙ padded-exact 22 (r .number) (o .number-places))
+  number-whole = sym (rw (o .number-ends) at (padded-trimmed numberRoom (r .number)) ∙ padded-exact numberRoom (r .number) (o .number-places))
 
 -- ---- agreeing keys
 
@@ -81,7 +81,7 @@ module _ (h k : ℕ) (r q : Record) (house : isHouse h ≡ true) (sound : isSoun
   agreed : SameKey h r k q → keyOf h r ≡ keyOf k q
   unfolding keyValues
   agreed e =
-      let number : r .number ≡ q .number = number-whole h r o ∙ ap (padded 22) (e .same-number) ∙ sym (number-whole k q o′) in
+      let number : r .number ≡ q .number = number-whole h r o ∙ ap (padded numberRoom) (e .same-number) ∙ sym (number-whole k q o′) in
       let values : keyValues h r ≡ keyValues k q = rw
       (e .same-house, e .same-form, e .same-state, number, e .same-birth, e .same-expiry) in
       key-octets h r o ∙ ap (octetsOf (cells key)) values ∙ sym (key-octets k q o′)

@@ -1,10 +1,10 @@
 -- The record that an entry says, from its units.
-use Prim.Native.Nat.{ℕ, _+_, _*_, _≤_, _<_}
-use mathlib.Core.Path.{_≡_, refl, ap, sym, _∙_}
+use Prim.Native.Nat.{ℕ, _+_, _≤_, _<_}
+use mathlib.Core.Path.{_≡_, ap, sym, _∙_}
 use mathlib.Core.Bool.{true}
 use mathlib.Core.List.{List}
 use native.Mathlib.Omega.{arith}
-use lib.ListN.{length, take, drop, getD, replicate}
+use lib.ListN.{length, take, drop, replicate}
 use Rattle.zone.specs.Alphabet.{filler}
 use Rattle.zone.specs.Record.{padded, trimmedLength}
 use Rattle.zone.specs.Rooms.{codeRoom, stateRoom, dateRoom, numberRoom, nameRoom}
@@ -13,7 +13,7 @@ use Rattle.zone.specs.declared.record.Record.{Record}
 use Rattle.cells.specs.Bits.{bitsAt}
 use Rattle.cells.specs.Cells.{numbersAt}
 use Rattle.cells.proofs.ReadingBack.{length-numbers}
-use Rattle.cells.proofs.RowOctets.{Whole, whole-told}
+use Rattle.cells.proofs.RowOctets.{whole-told}
 use Rattle.entry.specs.Codes.{sexBy}
 use Rattle.entry.specs.Row as part
 use Rattle.entry.specs.Row.{row, cells, start}

@@ -3,7 +3,7 @@
 use Prim.Native.Nat.{ℕ, zero, suc, _+_, _-_, _*_, _/_, _%_, _^_, _≤_, _<_}
 use mathlib.Core.Path.{_≡_, refl, ap, sym, _∙_}
 use mathlib.Core.Bool.{Bool, true, false}
-use mathlib.Core.List.{List, [], _∷_, _++_, map, map-append, append-assoc}
+use mathlib.Core.List.{List, _∷_, _++_, map, map-append, append-assoc}
 use native.Mathlib.Nat.{zero-div}
 use native.Mathlib.Omega.{arith}
 use borrow.Author.Tests.{ltb-true, ltb-false}
@@ -20,12 +20,12 @@ use Rattle.zone.specs.Rooms.{nameRoom}
 use Rattle.zone.proofs.Padded.{copied-padded, padded-spare, padded-exact, padded-full, padded-append, padded-nil, padded-zero}
 use Rattle.zone.proofs.Padded.{padded-cons, length-padded}
 use Rattle.cells.specs.Bits.{bit, bitsAt}
-use Rattle.cells.specs.Cells.{numbersAt, roundedUp, spareBits}
+use Rattle.cells.specs.Cells.{numbersAt}
 use Rattle.cells.proofs.Alike.{bit-alike, numbers-alike, none-each, Unset, numbers-none, numbers-parted}
 use Rattle.cells.proofs.RowOctets.{whole-octets}
 use Rattle.entry.specs.Row as part
 use Rattle.entry.specs.Row.{start}
-use Rattle.entry.specs.Inner.Units.{frontOctets, frontFours, frontUnits, unitOf, restFours}
+use Rattle.entry.specs.Inner.Units.{frontFours, frontUnits, unitOf, restFours}
 use Rattle.units.specs.Unpacked.{charactersAt}
 use Rattle.runs.specs.Inner.Units.{endBy, sizeBy, spareBy, mostFours, allUnits, allOctets, held, unitsOver, unitsIn}
 use Rattle.units.specs.Unpacked.{unpackedOver}

@@ -1,25 +1,23 @@
 -- A record and the values of its row tell each other.
 use Prim.Native.Nat.{ℕ, _+_}
-use mathlib.Core.Path.{_≡_, refl, ap, sym, _∙_}
+use mathlib.Core.Path.{_≡_, ap, sym, _∙_}
 use mathlib.Core.Bool.{true}
-use mathlib.Core.List.{List, [], _∷_, map}
+use mathlib.Core.List.{List, map}
 use native.Mathlib.Omega.{arith}
 use lib.ListN.{length, take, length-map}
 use lib.Seq.{take-all}
 use Rattle.zone.specs.Alphabet.{isCharacter, every}
-use Rattle.zone.specs.Codes.{codeOf, characterOf}
+use Rattle.zone.specs.Codes.{characterOf}
 use Rattle.zone.specs.Record.{trimmedLength, trimmed, padded}
-use Rattle.zone.specs.Rooms.{nameRoom}
+use Rattle.zone.specs.Rooms.{codeRoom, stateRoom, dateRoom, numberRoom, nameRoom}
 use Rattle.zone.specs.declared.form.Form.{Form}
 use Rattle.zone.specs.declared.form.Recognised.the-variants.{As}
 use Rattle.zone.specs.declared.record.Record.{Record}
 use Rattle.zone.proofs.Every.{every-take}
 use Rattle.zone.proofs.Padded.{padded-exact, padded-trimmed, take-padded}
-use Rattle.sound.specs.Sound.{isSound}
-use Rattle.sound.proofs.SoundRecord.{Sound, taken-apart}
+use Rattle.sound.proofs.SoundRecord.{Sound}
 use Rattle.cells.specs.Bits.{bitsAt}
 use Rattle.cells.specs.Cells.{numbersAt}
-use Rattle.cells.proofs.ReadingBack.{length-numbers}
 use Rattle.cells.proofs.Shifts.{bits-below}
 use Rattle.entry.specs.Codes.{formCode, sexCode, sexBy}
 use Rattle.entry.specs.Entry.{keyValues, restValues, valuesOf}
@@ -30,7 +28,6 @@ use Rattle.zone.proofs.FormTold.{tells-entered}
 use Rattle.entry.proofs.Sexes.{sex-tells, tells-sex}
 use Rattle.entry.proofs.Values.{name-coded}
 use Rattle.runs.specs.Run.{recordOf, recordIn, houseIn, formIn, valuesIn}
-use Rattle.units.specs.Unpacked.{charactersAt}
 use Rattle.runs.specs.Inner.Units.{nameLength}
 
 -- the values of a sound record say that record
@@ -89,12 +86,12 @@ module _ (f : Form) (s : List ℕ) (told : formIn s ≡ As f) (o : Sound (record
       tells-sex (bitsAt s (start part.sex) 2) (bits-below s (start part.sex) 2) (o .sex-kept) in
       rw (
         form,
-        characters-tell (numbersAt s (start part.state) 3 6) (o .state-characters),
-        characters-tell (numbersAt s (start part.number) 22 6) (o .number-characters),
-        characters-tell (numbersAt s (start part.birth) 6 6) (o .birth-characters),
-        characters-tell (numbersAt s (start part.expiry) 6 6) (o .expiry-characters),
-        characters-tell (numbersAt s (start part.code) 2 6) (o .code-characters),
-        characters-tell (numbersAt s (start part.nationality) 3 6) (o .nationality-characters),
+        characters-tell (numbersAt s (start part.state) stateRoom 6) (o .state-characters),
+        characters-tell (numbersAt s (start part.number) numberRoom 6) (o .number-characters),
+        characters-tell (numbersAt s (start part.birth) dateRoom 6) (o .birth-characters),
+        characters-tell (numbersAt s (start part.expiry) dateRoom 6) (o .expiry-characters),
+        characters-tell (numbersAt s (start part.code) codeRoom 6) (o .code-characters),
+        characters-tell (numbersAt s (start part.nationality) stateRoom 6) (o .nationality-characters),
         sex,
         name-there,
         characters-tell name name-pure,

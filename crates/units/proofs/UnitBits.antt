@@ -7,7 +7,7 @@ use native.Mathlib.Nat.{mod-eq-of-lt}
 use native.Mathlib.Omega.{arith}
 use borrow.Author.Tests.{ltb-true}
 use lib.Dec.{ltb}
-use lib.ListN.{length, drop, getD}
+use lib.ListN.{length, drop}
 use lib.Pow.{high, low, shr-lt}
 use Rattle.lent.proofs.Bools.{and-both}
 use Rattle.zone.specs.Alphabet.{every}
