@@ -7,9 +7,8 @@ use native.Mathlib.Nat.{le-of-eq}
 use native.Mathlib.Omega.{arith}
 use borrow.Author.Tests.{ltb-true, eqb-true, eqb-false, ne-eqb}
 use lib.Dec.{ltb, eqb}
-use lib.ListN.{length, take, drop, replicate, length-drop, drop-of-length-le, take-append-drop}
+use lib.ListN.{length, drop, replicate, length-drop, drop-of-length-le, take-append-drop}
 use lib.Pow.{pow-pos}
-use lib.Seq.{take-add}
 use Rattle.lent.proofs.Bools.{and-both}
 use Rattle.zone.specs.Alphabet.{every}
 use Rattle.zone.specs.Octets.{isOctet, areOctets}
@@ -54,21 +53,6 @@ bits-octets (suc q) b e h =
     ap bitsOf (octets-first b e (omega arith))
     ∙ ap (put 8 (worth 8 b)) (bits-octets q (drop 8 b) (every-drop isBit 8 b e) left)
     ∙ sym (first-eight b e (omega arith))
-
-pub take-octets : (n q : ℕ) (b : List ℕ) → every isBit b ≡ true → length b ≡ 8 * q → n ≤ q
-    → take n (octets b) ≡ octets (take (8 * n) b)
-unfolding octets gathered
-take-octets zero q b e h k = refl
-take-octets (suc n) zero b e h k = absurd (omega arith)
-take-octets (suc n) (suc q) b e h k =
-    let left : length (drop 8 b) ≡ 8 * q = rw (length-drop 8 b) (omega arith) in
-    let more : 8 * suc n ≡ 8 + 8 * n = omega arith in
-    let front : take (8 + 8 * n) b ≡ put 8 (worth 8 b) (take (8 * n) (drop 8 b)) = take-add 8 (8 * n) b
-    ∙ sym (put-worth 8 b (take (8 * n) (drop 8 b)) e (omega arith)) in
-    ap (take (suc n)) (octets-first b e (omega arith))
-    ∙ ap (λ (l : List ℕ). worth 8 b ∷ l) (take-octets n q (drop 8 b) (every-drop isBit 8 b e) left (omega arith))
-    ∙ sym (ap octets (ap (λ (m : ℕ). take m b) more ∙ front) ∙ gathered-eight (worth 8 b) (take (8 * n) (drop 8 b))
-    (worth-lt 8 b e))
 
 -- octets below 256 are those that their bits give
 pub octets-bits : (s : List ℕ) → areOctets s → octets (bitsOf s) ≡ s

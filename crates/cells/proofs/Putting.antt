@@ -1,16 +1,20 @@
--- The values of a row put into bits: what follows them, that they are bits, how many, and rows one behind the other.
-use Prim.Native.Nat.{ℕ, _+_, _*_}
-use mathlib.Core.Path.{_≡_, refl, ap, _∙_}
+-- The values of a row put into bits: what follows them, that they are bits, how many, rows one behind the other, and that the
+-- bits tell the values.
+use Prim.Native.Nat.{ℕ, _+_, _*_, _^_, _<_}
+use mathlib.Core.Path.{_≡_, refl, ap, sym, _∙_}
 use mathlib.Core.Bool.{true}
 use mathlib.Core.List.{List, [], _∷_, _++_}
+use native.Mathlib.Nat.{mod-eq-of-lt}
 use native.Mathlib.Omega.{arith}
-use lib.ListN.{length}
+use borrow.Author.Tests.{ltb-true}
+use lib.ListN.{length, drop}
+use Rattle.lent.proofs.Bools.{and-both}
 use Rattle.zone.specs.Alphabet.{every}
 use Rattle.cells.specs.Bits.{put}
 use Rattle.cells.specs.Cells.{Cell, fixed, counted, putAll, putCell, putRow, rowBits}
 use Rattle.cells.proofs.Gather.{length-put}
-use Rattle.cells.proofs.BitsOfOctets.{isBit, put-bits, put-followed}
-use Rattle.cells.proofs.Fitting.{Sized, counts}
+use Rattle.cells.proofs.BitsOfOctets.{isBit, put-bits, put-followed, worth, worth-put, drop-put}
+use Rattle.cells.proofs.Fitting.{isHeld, FitsCell, Fits, Sized, counts}
 
 -- ---- numbers of one width
 
@@ -82,3 +86,44 @@ row-append [] b [] v t f = refl
 row-append [] b (x ∷ u) v t f = absurd f
 row-append (c ∷ a) b [] v t f = absurd f
 row-append (c ∷ a) b (x ∷ u) v t f = ap (putCell c x) (row-append a b u v t (f .1))
+
+-- ---- equal bits give equal values and equal rests
+
+put-tells : (w x y : ℕ) (t u : List ℕ) → x < 2 ^ w → y < 2 ^ w → put w x t ≡ put w y u → (x ≡ y) × (t ≡ u)
+put-tells w x y t u h k e = (
+  sym (worth-put w x t ∙ mod-eq-of-lt h) ∙ ap (worth w) e ∙ worth-put w y u ∙ mod-eq-of-lt k,
+  sym (drop-put w x t) ∙ ap (drop w) e ∙ drop-put w y u,
+)
+
+all-tells : (w : ℕ) (a b t u : List ℕ) → length a ≡ length b → every (isHeld w) a ≡ true → every (isHeld w) b ≡ true
+    → putAll w a t ≡ putAll w b u → (a ≡ b) × (t ≡ u)
+unfolding putAll every isHeld
+all-tells w [] [] t u l p q e = (refl, e)
+all-tells w [] (y ∷ b) t u l p q e = absurd (omega arith)
+all-tells w (x ∷ a) [] t u l p q e = absurd (omega arith)
+all-tells w (x ∷ a) (y ∷ b) t u l p q e =
+    let one = and-both (isHeld w x) (every (isHeld w) a) p in
+    let two = and-both (isHeld w y) (every (isHeld w) b) q in
+    let first = put-tells w x y (putAll w a t) (putAll w b u) (ltb-true x (2 ^ w) (one .0)) (ltb-true y (2 ^ w) (two .0)) e in
+    let more = all-tells w a b t u (omega arith) (one .1) (two .1) (first .1) in
+    (rw (first .0, more .0), more .1)
+
+cell-tells : (c : Cell) (a b t u : List ℕ) → FitsCell c a → FitsCell c b → putCell c a t ≡ putCell c b u → (a ≡ b) × (t ≡ u)
+unfolding putCell
+cell-tells (fixed n w) a b t u f g e = all-tells w a b t u (f .0 ∙ sym (g .0)) (f .1) (g .1) e
+cell-tells (counted k w) a b t u f g e =
+    let count = put-tells k (length a) (length b) (putAll w a t) (putAll w b u) (f .0) (g .0) e in
+    all-tells w a b t u (count .0) (f .1) (g .1) (count .1)
+
+pub row-tells : (cs : List Cell) (a b : List (List ℕ)) (t u : List ℕ) → Fits cs a → Fits cs b → putRow cs a t ≡ putRow cs b u
+    → (a ≡ b) × (t ≡ u)
+unfolding putRow
+row-tells [] [] [] t u f g e = (refl, e)
+row-tells [] [] (y ∷ b) t u f g e = absurd g
+row-tells [] (x ∷ a) b t u f g e = absurd f
+row-tells (c ∷ cs) [] b t u f g e = absurd f
+row-tells (c ∷ cs) (x ∷ a) [] t u f g e = absurd g
+row-tells (c ∷ cs) (x ∷ a) (y ∷ b) t u f g e =
+    let one = cell-tells c x y (putRow cs a t) (putRow cs b u) (f .0) (g .0) e in
+    let more = row-tells cs a b t u (f .1) (g .1) (one .1) in
+    (rw (one .0, more .0), more .1)

@@ -21,7 +21,7 @@ use Rattle.cells.proofs.BitsOfOctets.{bitsOf, isBit, put-bits, put-zero
 use Rattle.cells.proofs.BitsOfOctets.{drop-bits}
 use Rattle.cells.proofs.OctetsOfBits.{bits-octets, octets-append, octets-bits, gathered-zeros}
 use Rattle.cells.proofs.Fitting.{Fits, Sized, fits-sized, counts}
-use Rattle.cells.proofs.Putting.{row-followed, row-bits, length-row, row-append}
+use Rattle.cells.proofs.Putting.{row-followed, row-bits, length-row, row-append, row-tells}
 use Rattle.cells.proofs.ReadingBack.{RowRead, row-read, row-fits, row-end, row-there, number-read, number-there}
 
 -- bits with those behind them, to the next octet
@@ -136,7 +136,7 @@ module _ (cs : List Cell) (vs : List (List ℕ)) (f : Fits cs vs) where
 -- values that fit are told by their octets
 pub octets-tell : (cs : List Cell) (u v : List (List ℕ)) → Fits cs u → Fits cs v → octetsOf cs u ≡ octetsOf cs v → u ≡ v
 octets-tell cs u v f g e =
-    sym (octets-say cs u f []) ∙ ap (λ (l : List ℕ). valuesAt cs (l ++ []) 0) e ∙ octets-say cs v g []
+    row-tells cs u v _ _ f g (sym (bits-octets-of cs u f) ∙ ap bitsOf e ∙ bits-octets-of cs v g) .0
 
 -- ---- read
 

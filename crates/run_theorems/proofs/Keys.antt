@@ -39,7 +39,9 @@ module _ (h : ℕ) (r : Record) (o : Sound r) where
 
   number-whole : r .number ≡ padded numberRoom (wholeNumber r)
   unfolding trimmed wholeNumber
-  number-whole = sym (rw (o .number-ends) at (padded-trimmed numberRoom (r .number)) ∙ padded-exact numberRoom (r .number) (o .number-places))
+  number-whole =
+      sym (rw (o .number-ends) at (padded-trimmed numberRoom (r .number))
+      ∙ padded-exact numberRoom (r .number) (o .number-places))
 
 -- ---- agreeing keys
 
@@ -81,7 +83,8 @@ module _ (h k : ℕ) (r q : Record) (house : isHouse h ≡ true) (sound : isSoun
   agreed : SameKey h r k q → keyOf h r ≡ keyOf k q
   unfolding keyValues
   agreed e =
-      let number : r .number ≡ q .number = number-whole h r o ∙ ap (padded numberRoom) (e .same-number) ∙ sym (number-whole k q o′) in
+      let number : r .number ≡ q .number =
+      number-whole h r o ∙ ap (padded numberRoom) (e .same-number) ∙ sym (number-whole k q o′) in
       let values : keyValues h r ≡ keyValues k q = rw
       (e .same-house, e .same-form, e .same-state, number, e .same-birth, e .same-expiry) in
       key-octets h r o ∙ ap (octetsOf (cells key)) values ∙ sym (key-octets k q o′)
