@@ -1,8 +1,8 @@
-// What the bits of an entry stand for: a sex, and fields of characters.
+// What the bits of an entry stand for: a sex, and the longer fields of characters.
 ghost use mathlib.Core.Path.{_≡_};
 ghost use lib.ListN.{take, drop};
 ghost use Rattle.zone.specs.Record.{padded};
-ghost use Rattle.zone.specs.Rooms.{codeRoom, stateRoom, dateRoom, numberRoom, nameRoom};
+ghost use Rattle.zone.specs.Rooms.{numberRoom, nameRoom};
 ghost use Rattle.entry.specs.Codes.{sexBy};
 use zone::alphabet::FILLER;
 use zone::form::Form;
@@ -19,31 +19,7 @@ pub(crate) fn sex_by(code: u32) -> u8
     }
 }
 
-// The fields of a record, from its characters in their units.
-pub(crate) fn code_at(units: &[u8], at: usize) -> [u8; Form::CODE]
-    ensures { λ r. ⌜ r ≡ padded codeRoom (take codeRoom (drop at (now (units .entry)))) ⌝ }
-{
-    let mut room = [FILLER; Form::CODE];
-    lent::copy(&mut room, lent::part(units, at, Form::CODE));
-    room
-}
-
-pub(crate) fn state_at(units: &[u8], at: usize) -> [u8; Form::STATE]
-    ensures { λ r. ⌜ r ≡ padded stateRoom (take stateRoom (drop at (now (units .entry)))) ⌝ }
-{
-    let mut room = [FILLER; Form::STATE];
-    lent::copy(&mut room, lent::part(units, at, Form::STATE));
-    room
-}
-
-pub(crate) fn date_at(units: &[u8], at: usize) -> [u8; Form::DATE]
-    ensures { λ r. ⌜ r ≡ padded dateRoom (take dateRoom (drop at (now (units .entry)))) ⌝ }
-{
-    let mut room = [FILLER; Form::DATE];
-    lent::copy(&mut room, lent::part(units, at, Form::DATE));
-    room
-}
-
+// The number and the name of a record, from its characters in their units.
 pub(crate) fn number_at(units: &[u8], at: usize) -> [u8; Form::NUMBER]
     ensures { λ r. ⌜ r ≡ padded numberRoom (take numberRoom (drop at (now (units .entry)))) ⌝ }
 {

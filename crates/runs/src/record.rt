@@ -14,6 +14,7 @@ use zone::alphabet::FILLER;
 use zone::form::Form;
 use zone::record::Record;
 use zone::record::trimmed_length;
+use zone::taken;
 
 pub(crate) fn name_length(s: &[u8]) -> usize
     ensures { λ r. ⌜ (r ≡ U.nameLength (now (s .entry))) × (r < 64) ⌝ }
@@ -69,14 +70,14 @@ pub(crate) fn record_in(form: Form, s: &[u8], n: usize) -> Record
 {
     let mut units = [FILLER; room::UNITS];
     read_units(&mut units, s, n);
-    let code = characters::code_at(&units, places::CODE_UNIT);
-    let state = characters::state_at(&units, places::STATE_UNIT);
+    let code = taken::code_at(&units, places::CODE_UNIT);
+    let state = taken::state_at(&units, places::STATE_UNIT);
     let number = characters::number_at(&units, places::NUMBER_UNIT);
     let number_len = trimmed_length(lent::part(&units, places::NUMBER_UNIT, Form::NUMBER));
-    let nationality = characters::state_at(&units, places::NATIONALITY_UNIT);
-    let birth = characters::date_at(&units, places::BIRTH_UNIT);
+    let nationality = taken::state_at(&units, places::NATIONALITY_UNIT);
+    let birth = taken::date_at(&units, places::BIRTH_UNIT);
     let sex = characters::sex_by(bits(s, places::SEX, places::SEX_BITS));
-    let expiry = characters::date_at(&units, places::EXPIRY_UNIT);
+    let expiry = taken::date_at(&units, places::EXPIRY_UNIT);
     let name = characters::name_at(&units, places::NAME_UNIT);
     Record {
         form,

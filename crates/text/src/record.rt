@@ -1,12 +1,11 @@
 // The record of a text: each field copied to its place in the record, with fillers behind it.
 ghost use mathlib.Core.Path.{_≡_};
 ghost use mathlib.Core.List.{_++_};
-ghost use lib.ListN.{length, take, drop, getD};
-ghost use Rattle.zone.specs.Alphabet.{filler};
+ghost use lib.ListN.{length};
 ghost use Rattle.zone.specs.Form.{field};
 ghost use Rattle.zone.specs.Part.{name};
 ghost use Rattle.zone.specs.Record.{padded, trimmed};
-ghost use Rattle.zone.specs.Rooms.{codeRoom, stateRoom, dateRoom, numberRoom, nameRoom};
+ghost use Rattle.zone.specs.Rooms.{numberRoom, nameRoom};
 ghost use Rattle.text_digits.specs.Number.{numberBy};
 ghost use Rattle.text_digits.specs.Inner.Spans.{furtherIn};
 ghost use Rattle.text.specs.Read.{recordBy};
@@ -15,35 +14,9 @@ use zone::alphabet::FILLER;
 use zone::form::Form;
 use zone::record::Record;
 use zone::record::trimmed_length;
-
-// The character at a place, and a filler past the end.
-fn or_filler(s: &[u8], i: usize) -> u8
-    ensures { λ r. ⌜ r ≡ getD (now (s .entry)) i filler ⌝ }
-{
-    if i < s.len() { s[i] } else { FILLER }
-}
-
-fn code_at(text: &[u8], at: usize) -> [u8; Form::CODE]
-    ensures { λ r. ⌜ r ≡ padded codeRoom (take codeRoom (drop at (now (text .entry)))) ⌝ }
-{
-    let s = lent::part(text, at, Form::CODE);
-    [or_filler(s, 0), or_filler(s, 1)]
-}
-
-fn state_at(text: &[u8], at: usize) -> [u8; Form::STATE]
-    ensures { λ r. ⌜ r ≡ padded stateRoom (take stateRoom (drop at (now (text .entry)))) ⌝ }
-{
-    let s = lent::part(text, at, Form::STATE);
-    [or_filler(s, 0), or_filler(s, 1), or_filler(s, 2)]
-}
-
-fn date_at(text: &[u8], at: usize) -> [u8; Form::DATE]
-    ensures { λ r. ⌜ r ≡ padded dateRoom (take dateRoom (drop at (now (text .entry)))) ⌝ }
-{
-    let mut room = [FILLER; Form::DATE];
-    lent::copy(&mut room, lent::part(text, at, Form::DATE));
-    room
-}
+use zone::taken::code_at;
+use zone::taken::date_at;
+use zone::taken::state_at;
 
 fn name_chars(form: Form, text: &[u8]) -> [u8; Form::NAME]
     ensures { λ r. ⌜ r ≡ padded nameRoom (trimmed (field form name (now (text .entry)))) ⌝ }

@@ -7,6 +7,7 @@ pub mod AllForms  -- what holds of each form of the list of all forms holds of e
 pub mod Parts  -- the parts of a text: each has its own rank, no two overlap, and what rows say of them
 pub mod Widths  -- the widths that every form shares, and that every part lies within the text
 pub mod Padded  -- `padded`: copies over fillers, and trailing fillers that make no difference
+pub mod Filled  -- fields filled up with fillers, character by character
 pub mod Trimmed  -- `trimmedLength`: one character more, its bound, and lists joined and cut
 pub mod Fields  -- the characters of a text found in its fields
 pub mod FormTold  -- the form that a text tells, and the one that a number in an entry tells

@@ -3,3 +3,4 @@ pub mod alphabet;
 pub mod codes;
 pub mod form;
 pub mod record;
+pub mod taken;

@@ -4,7 +4,7 @@ use Rattle.zone.proofs.Widths.{fixed}
 use Rattle.zone.specs.Form.{field}
 use Rattle.zone.specs.Inner.Places.{placesOf}
 use Rattle.text.specs.Read.{recordBy}
-use Rattle.text.proofs.Filled.{name-ends}
+use Rattle.text.proofs.NameEnds.{name-ends}
 use Rattle.text.proofs.record.record_by.Statement.{statement}
 use Rattle.text.proofs.record.record_by.Tie as tie
 

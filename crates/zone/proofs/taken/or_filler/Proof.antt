@@ -3,10 +3,10 @@ use mathlib.Core.Path.{sym}
 use denote.Ref.{now}
 use lib.ListN.{List·getD-eq-default}
 use borrow.Author.Needs.{needs}
 use Rattle.zone.specs.Alphabet.{filler}
-use Rattle.text.proofs.Filled.{there}
-use Rattle.text.proofs.record.or_filler.Statement.{statement}
-use Rattle.text.proofs.record.or_filler.Tie as tie
+use Rattle.zone.proofs.Filled.{there}
+use Rattle.zone.proofs.taken.or_filler.Statement.{statement}
+use Rattle.zone.proofs.taken.or_filler.Tie as tie
 
 returns : tie.Need-returns
 returns c =

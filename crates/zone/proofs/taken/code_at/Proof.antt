@@ -3,9 +3,9 @@ use borrow.Author.Needs.{needs}
 use mathlib.Core.Path.{sym}
 use denote.Ref.{now}
 use lib.ListN.{take, drop}
-use Rattle.text.proofs.Filled.{two-filled}
-use Rattle.text.proofs.record.code_at.Statement.{statement}
-use Rattle.text.proofs.record.code_at.Tie as tie
+use Rattle.zone.proofs.Filled.{two-filled}
+use Rattle.zone.proofs.taken.code_at.Statement.{statement}
+use Rattle.zone.proofs.taken.code_at.Tie as tie
 
 returns : tie.Need-returns
 returns c =
@@ -15,7 +15,7 @@ returns c =
       c .before .or-filler .ensures,
       c .before .before .part .ensures,
     )
-    (sym (two-filled (take 2 (drop (a .at) (now (a .text))))))
+    (sym (two-filled (take 2 (drop (a .at) (now (a .s))))))
 
 pub code-at-spec : {M : Type 1} → statement M
 code-at-spec =

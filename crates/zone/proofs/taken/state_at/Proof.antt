@@ -3,9 +3,9 @@ use borrow.Author.Needs.{needs}
 use mathlib.Core.Path.{sym}
 use denote.Ref.{now}
 use lib.ListN.{take, drop}
-use Rattle.text.proofs.Filled.{three-filled}
-use Rattle.text.proofs.record.state_at.Statement.{statement}
-use Rattle.text.proofs.record.state_at.Tie as tie
+use Rattle.zone.proofs.Filled.{three-filled}
+use Rattle.zone.proofs.taken.state_at.Statement.{statement}
+use Rattle.zone.proofs.taken.state_at.Tie as tie
 
 returns : tie.Need-returns
 returns c =
@@ -16,7 +16,7 @@ returns c =
       c .before .before .or-filler .ensures,
       c .before .before .before .part .ensures,
     )
-    (sym (three-filled (take 3 (drop (a .at) (now (a .text))))))
+    (sym (three-filled (take 3 (drop (a .at) (now (a .s))))))
 
 pub state-at-spec : {M : Type 1} → statement M
 state-at-spec =
