@@ -1,5 +1,5 @@
 -- The loop that works out what each character counts: what was passed is there, and 0 behind it.
-use Prim.Native.Nat.{ℕ, zero, suc, _+_, _≤_, _<_}
+use Prim.Native.Nat.{ℕ, _+_, _≤_, _<_}
 use mathlib.Core.Path.{_≡_, refl, _∙_}
 use mathlib.Core.Bool.{Bool, true, false}
 use mathlib.Core.List.{List}
@@ -8,17 +8,13 @@ use borrow.Author.Tests.{eqb-true, eqb-false, ltb-true, ltb-false}
 use lib.Dec.{eqb, ltb}
 use lib.ListN.{length, take, drop, getD, set, replicate, length-take, List·getD-eq-default}
 use lib.Seq.{take-all, getD-take, getD-set-same, getD-set-other}
+use Rattle.lent.proofs.Lists.{zeros}
 use Rattle.zone.specs.Alphabet.{isDigit, isLetter}
 use Rattle.digit.specs.Check.{value}
 use Rattle.digit.specs.Inner.Thirds.{Counts}
 
 abbrev pub CountsUpTo : ℕ → List ℕ → List ℕ → Type 0
 CountsUpTo i s counts = (k : ℕ) → getD counts k 0 ≡ value (getD (take i s) k 0)
-
-zeros : (n k : ℕ) → _≡_ {A = ℕ} (getD (replicate n 0) k 0) 0
-zeros zero k = refl
-zeros (suc n) zero = refl
-zeros (suc n) (suc k) = zeros n k
 
 pub counts-none : (n : ℕ) (s : List ℕ) → CountsUpTo 0 s (replicate n 0)
 unfolding value isDigit isLetter

@@ -72,3 +72,9 @@ sets-append l i (x ∷ u) v = rw (add-suc, ← suc-add) (sets-append (set l i x)
 
 pub head-same : {A : Type 0} (c d : A) (a b : List A) → c ∷ a ≡ d ∷ b → c ≡ d
 head-same c d a b e = cc
+
+-- every place of zeros, and every place behind them, has 0
+pub zeros : (n k : ℕ) → _≡_ {A = ℕ} (getD (replicate n 0) k 0) 0
+zeros zero k = refl
+zeros (suc n) zero = refl
+zeros (suc n) (suc k) = zeros n k

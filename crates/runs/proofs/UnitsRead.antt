@@ -8,11 +8,11 @@ use native.Mathlib.Nat.{zero-div}
 use native.Mathlib.Omega.{arith}
 use borrow.Author.Tests.{ltb-true, ltb-false}
 use lib.Dec.{ltb}
-use lib.ListN.{length, take, drop, getD, replicate, length-append, length-replicate, getD-replicate, replicate-append-replicate}
-use lib.ListN.{List·getD-eq-default, length-take, length-drop}
+use lib.ListN.{length, take, drop, getD, replicate, length-append, length-replicate, replicate-append-replicate}
+use lib.ListN.{length-take, length-drop}
 use lib.Seq.{take-all, take-at, drop-at, length-take-le, getD-append-add, drop-append-add}
 use Rattle.lent.specs.Copied.{copied, copiedAt}
-use Rattle.lent.proofs.Lists.{drop-replicate, rest-all, copy-into}
+use Rattle.lent.proofs.Lists.{drop-replicate, rest-all, copy-into, zeros}
 use Rattle.zone.specs.Alphabet.{filler}
 use Rattle.zone.specs.Codes.{characterOf}
 use Rattle.zone.specs.Record.{padded}
@@ -58,13 +58,6 @@ cut : (a b c r : List ℕ) (at m : ℕ) → length a ≡ at → length b ≡ m �
 cut a b c r at m p q =
     ap (λ (l : List ℕ). take m (drop at l)) (append-assoc a (b ++ c) r) ∙ ap (take m) (drop-at a ((b ++ c) ++ r) at p)
     ∙ ap (take m) (append-assoc b c r) ∙ take-at b (c ++ r) m q
-
-zeros-octet : (k i : ℕ) → getD {A = ℕ} (replicate k 0) i 0 ≡ 0
-zeros-octet k i = go (ltb i k) refl
-  where
-    go : (b : Bool) → ltb i k ≡ b → getD {A = ℕ} (replicate k 0) i 0 ≡ 0
-    go true e = getD-replicate k i 0 0 (ltb-true i k e)
-    go false e = List·getD-eq-default (replicate k 0) 0 (rw (length-replicate {A = ℕ} k 0) (ltb-false i k e))
 
 -- the rest is unpacked to the part behind the front's units, which has room for it
 pub units-unpacked : (to octets first back : List ℕ) (n : ℕ) → n < 64 → length to ≡ allUnits → length octets ≡ allOctets
@@ -118,9 +111,9 @@ module _ (s : List ℕ) (n : ℕ) (h : sizeBy n ≤ length s) (g : n < 64) where
       past : sizeBy n ≤ j / 8 → getD (held s n) (j / 8) 0 ≡ 0
       past l =
           let e : length octets + (j / 8 - sizeBy n) ≡ j / 8 = omega (arith, octets-long) in
-          let zeros : List ℕ = replicate (allOctets - sizeBy n) 0 in
-          ap (λ (x : List ℕ). getD x (j / 8) 0) held-parts ∙ (rw e at (getD-append-add octets zeros (j / 8 - sizeBy n) 0))
-          ∙ zeros-octet (allOctets - sizeBy n) (j / 8 - sizeBy n)
+          let behind : List ℕ = replicate (allOctets - sizeBy n) 0 in
+          ap (λ (x : List ℕ). getD x (j / 8) 0) held-parts ∙ (rw e at (getD-append-add octets behind (j / 8 - sizeBy n) 0))
+          ∙ zeros (allOctets - sizeBy n) (j / 8 - sizeBy n)
 
       go : (b : Bool) → ltb j (8 * sizeBy n) ≡ b → bit (held s n) j ≡ 0
       go true t =
