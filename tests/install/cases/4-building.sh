@@ -38,11 +38,11 @@ makes_bare() {
 # The first lines of a build: which crate, and how many are left.
 tells() {
     made && diff "$folder/made" - << END
-liblamphudet.a: 16 crates are proved before it is compiled; target/lamphudet.log has all that is said
-$(cd "$copy" && tools/built-on lamphudet | awk -v n=16 '{ printf "  %s, %d of %d, %d left .. %s\n", $1, NR, n, n - NR,
+liblamphudet.a: 19 crates are proved before it is compiled; target/lamphudet.log has all that is said
+$(cd "$copy" && tools/built-on lamphudet | awk -v n=19 '{ printf "  %s, %d of %d, %d left .. %s\n", $1, NR, n, n - NR,
     NR < n ? "proved (3 s)" : "proved and compiled" }')
-liblamphudet_seals.a: 15 crates are proved before it is compiled; target/lamphudet_seals.log has all that is said
-$(cd "$copy" && tools/built-on lamphudet_seals | awk -v n=15 '{ printf "  %s, %d of %d, %d left .. %s\n", $1, NR, n, n - NR,
+liblamphudet_seals.a: 17 crates are proved before it is compiled; target/lamphudet_seals.log has all that is said
+$(cd "$copy" && tools/built-on lamphudet_seals | awk -v n=17 '{ printf "  %s, %d of %d, %d left .. %s\n", $1, NR, n, n - NR,
     NR < n ? "proved (3 s)" : "proved and compiled" }')
 built target/sharedlib/liblamphudet.so
 built target/sharedlib/liblamphudet_seals.so
@@ -51,7 +51,7 @@ the scanner is target/scanner; target/scanner --help says what it does
 END
 }
 logged() {
-    [[ $(grep -c '^fn .*: proved$' "$copy/target/lamphudet.log") -eq 15 ]]
+    [[ $(grep -c '^fn .*: proved$' "$copy/target/lamphudet.log") -eq 18 ]]
 }
 # The libraries that were built again are these.
 built_again() {
