@@ -10,7 +10,7 @@ use Rattle.zone.specs.declared.form.Recognised.{Recognised}
 use Rattle.zone.specs.declared.form.Recognised.the-variants.{As, Unknown}
 use Rattle.zone.specs.declared.record.Record.{Record}
 use Rattle.zone.specs.Rooms.{numberRoom}
-use Rattle.zone.specs.Record.{blank}
+use Rattle.zone.specs.Record.{blank, holding}
 use Rattle.zone.proofs.Padded.{trimmed-le}
 use Rattle.cells.proofs.ReadingBack.{length-numbers}
 use Rattle.cells.proofs.Shifts.{bits-below}
@@ -26,7 +26,7 @@ pub record Short (r : Record) : Type 0 where
   pub name-short : r .«name_len» < 64
 
 blank-short : Short blank
-unfolding blank
+unfolding blank holding
 blank-short = record { number-short = omega arith; name-short = omega arith }
 
 entry-short : (f : Form) (s : List ℕ) → Short (recordIn f s)

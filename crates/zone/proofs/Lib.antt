@@ -12,3 +12,4 @@ pub mod Trimmed  -- `trimmedLength`: one character more, its bound, and lists jo
 pub mod Fields  -- the characters of a text found in its fields
 pub mod FormTold  -- the form that a text tells, and the one that a number in an entry tells
 pub mod Octets  -- lent octets are below 256
+pub mod Holding  -- what a record holds, and the record of what is held

@@ -1,16 +1,17 @@
 -- The parts of a text: each has its own rank, no two overlap, and what rows say of them.
 use Prim.Native.Nat.{_+_, _-_, _≤_, ℕ}
 use mathlib.Core.Path.{_≡_, refl, sym, _∙_, ap, subst}
-use mathlib.Core.Bool.{Bool, true, false, cond, false≢true}
+use mathlib.Core.Bool.{Bool, true, false, cond, _&&_, false≢true}
 use mathlib.Core.Logic.{_⊎_, inl, inr}
 use mathlib.Core.List.{List, [], _∷_}
 use native.Mathlib.Omega.{arith}
 use borrow.Author.Tests.{eqb-true, eq-eqb}
 use lib.ListN.{getD}
+use Rattle.lent.proofs.Bools.{and-both}
 use Rattle.zone.specs.declared.form.Form.{Form}
 use Rattle.zone.specs.Part.{Part, rank, same, code, state, number, numberCheck, optional, birth, birthCheck, sex, expiry}
 use Rattle.zone.specs.Part.{expiryCheck, nationality, optional2, composite, name, personal, personalCheck}
-use Rattle.zone.specs.Rows.{PartRow, _is_, inRows}
+use Rattle.zone.specs.Rows.{PartRow, _is_, inRows, allRows}
 use Rattle.zone.specs.Form.{Cell, _of_, layout, startIn, start, widthIn, width}
 
 -- one part before the other, whichever
@@ -81,12 +82,35 @@ pub data OfRows {A : Type 0} (Q : Part → A → Type 0) : List (PartRow A) → 
   all-said : OfRows Q []
   _and_ : {y : Part} {a : A} {rows : List (PartRow A)} → Q y a → OfRows Q rows → OfRows Q (y is a ∷ rows)
 
-pub in-rows : {A : Type 0} (Q : Part → A → Type 0) (none : A) (rows : List (PartRow A)) → ((x : Part) → Q x none) → OfRows Q rows
-    → (x : Part) → Q x (inRows none rows x)
+pub in-rows-or : {A : Type 0} (Q : Part → A → Type 0) (none : Part → A) (rows : List (PartRow A)) → ((x : Part) → Q x (none x))
+    → OfRows Q rows → (x : Part) → Q x (inRows (none x) rows x)
 unfolding inRows
-in-rows Q none [] other all-said x = other x
-in-rows {A} Q none (y is a ∷ rows) other (said and left) x = go (same x y) refl (in-rows Q none rows other left x)
+in-rows-or Q none [] other all-said x = other x
+in-rows-or {A} Q none (y is a ∷ rows) other (said and left) x = go (same x y) refl (in-rows-or Q none rows other left x)
   where
-    go : (b : Bool) → same x y ≡ b → Q x (inRows none rows x) → Q x (cond b a (inRows none rows x))
+    go : (b : Bool) → same x y ≡ b → Q x (inRows (none x) rows x) → Q x (cond b a (inRows (none x) rows x))
     go true e rest = subst (λ (z : Part). Q z a) (sym (same-one x y e)) said
     go false e rest = rest
+
+pub in-rows : {A : Type 0} (Q : Part → A → Type 0) (none : A) (rows : List (PartRow A)) → ((x : Part) → Q x none) → OfRows Q rows
+    → (x : Part) → Q x (inRows none rows x)
+in-rows Q none rows = in-rows-or Q (λ x. none) rows
+
+-- what follows of each row
+pub rows-then : {A : Type 0} {P Q : Part → A → Type 0} (rows : List (PartRow A)) → ((x : Part) (a : A) → P x a → Q x a)
+    → OfRows P rows → OfRows Q rows
+rows-then [] h all-said = all-said
+rows-then (x is a ∷ rows) h (said and left) = h x a said and rows-then rows h left
+
+-- a test of every row
+pub rows-pass : {A : Type 0} (p : Part → A → Bool) (rows : List (PartRow A)) → allRows p rows ≡ true
+    → OfRows (λ x a. p x a ≡ true) rows
+unfolding allRows
+rows-pass p [] e = all-said
+rows-pass p (x is a ∷ rows) e = let both = and-both (p x a) (allRows p rows) e in both .0 and rows-pass p rows (both .1)
+
+pub pass-rows : {A : Type 0} (p : Part → A → Bool) (rows : List (PartRow A)) → OfRows (λ x a. p x a ≡ true) rows
+    → allRows p rows ≡ true
+unfolding allRows
+pass-rows p [] all-said = refl
+pass-rows p (x is a ∷ rows) (e and es) = rw (e, pass-rows p rows es)

@@ -1,13 +1,16 @@
 -- The record: document 01, "A record holds form, code, state, number, nationality, birth, sex, expiry, name", and the blank
--- record of "Refusal numbers" (TD1, fillers, lengths 0).
+-- record of "Refusal numbers" (TD1, fillers, lengths 0). Its fields are parts of a text.
 use Prim.Native.Nat.{ℕ, suc, _-_}
-use mathlib.Core.Bool.{cond, _&&_}
+use mathlib.Core.Bool.{Bool, cond, _&&_}
 use mathlib.Core.List.{List, [], _∷_, _++_}
-use lib.ListN.{length, take, replicate}
-use lib.Dec.{eqb}
+use lib.ListN.{length, take, getD, replicate}
+use lib.Dec.{eqb, ltb}
+use Rattle.zone.specs.declared.form.Form.{Form}
 use Rattle.zone.specs.declared.form.Form.the-variants.{Td1}
 use Rattle.zone.specs.declared.record.Record.{Record}
 use Rattle.zone.specs.Alphabet.{filler, isFiller}
+use Rattle.zone.specs.Part.{Part, code, state, number, nationality, birth, sex, expiry, name}
+use Rattle.zone.specs.Rows.{PartRow, _is_, inRows}
 use Rattle.zone.specs.Rooms.{codeRoom, stateRoom, dateRoom, numberRoom, nameRoom}
 
 -- the length without trailing fillers
@@ -23,17 +26,48 @@ trimmed s = take (trimmedLength s) s
 unfoldable pub padded : ℕ → List ℕ → List ℕ
 padded n s = take n s ++ replicate (n - length s) filler
 
-unfoldable pub blank : Record
-blank = record {
-  form = Td1;
-  code = replicate codeRoom filler;
-  state = replicate stateRoom filler;
-  number = replicate numberRoom filler;
-  «number_len» = 0;
-  nationality = replicate stateRoom filler;
-  birth = replicate dateRoom filler;
-  sex = filler;
-  expiry = replicate dateRoom filler;
-  name = replicate nameRoom filler;
-  «name_len» = 0;
+-- the fields that have one width in every form, and so many characters in every record; number and name have lengths of their own
+unfoldable pub plain : List (PartRow ℕ)
+plain =
+    code is codeRoom ∷ state is stateRoom ∷ nationality is stateRoom ∷ birth is dateRoom ∷ sex is 1 ∷ expiry is dateRoom ∷ []
+
+abbrev pub room : Part → ℕ
+room x = inRows 0 plain x
+
+abbrev pub isPlain : Part → Bool
+isPlain x = ltb 0 (room x)
+
+-- the characters that a record holds of each part
+unfoldable pub heldRows : Record → List (PartRow (List ℕ))
+heldRows r =
+    code is (r .code)
+    ∷ state is (r .state)
+    ∷ number is take (r .«number_len») (r .number)
+    ∷ nationality is (r .nationality)
+    ∷ birth is (r .birth)
+    ∷ sex is (r .sex ∷ [])
+    ∷ expiry is (r .expiry)
+    ∷ name is take (r .«name_len») (r .name)
+    ∷ []
+
+abbrev pub held : Record → Part → List ℕ
+held r x = inRows [] (heldRows r) x
+
+-- the record that holds these, with a filler in every place past them
+unfoldable pub holding : Form → (Part → List ℕ) → Record
+holding f g = record {
+  form = f;
+  code = padded codeRoom (g code);
+  state = padded stateRoom (g state);
+  number = padded numberRoom (g number);
+  «number_len» = length (g number);
+  nationality = padded stateRoom (g nationality);
+  birth = padded dateRoom (g birth);
+  sex = getD (g sex) 0 filler;
+  expiry = padded dateRoom (g expiry);
+  name = padded nameRoom (g name);
+  «name_len» = length (g name);
 }
+
+unfoldable pub blank : Record
+blank = holding Td1 (λ x. [])

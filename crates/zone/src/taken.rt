@@ -14,6 +14,12 @@ fn or_filler(s: &[u8], i: usize) -> u8
     if i < s.len() { s[i] } else { FILLER }
 }
 
+pub fn sex_at(s: &[u8], at: usize) -> u8
+    ensures { λ r. ⌜ r ≡ getD (take 1 (drop at (now (s .entry)))) 0 filler ⌝ }
+{
+    or_filler(lent::part(s, at, 1), 0)
+}
+
 pub fn code_at(s: &[u8], at: usize) -> [u8; Form::CODE]
     ensures { λ r. ⌜ r ≡ padded codeRoom (take codeRoom (drop at (now (s .entry)))) ⌝ }
 {

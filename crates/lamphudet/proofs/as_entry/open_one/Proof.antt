@@ -3,7 +3,7 @@ use borrow.Author.Needs.{needs}
 use mathlib.Core.Path.{sym, _∙_}
 use native.Mathlib.Omega.{arith}
 use denote.Ref.{now}
-use Rattle.zone.specs.Record.{blank}
+use Rattle.zone.specs.Record.{blank, holding}
 use Rattle.runs.specs.Run.{standingOf}
 use Rattle.runs.proofs.Lengths.{short-read}
 use Rattle.lamphudet.specs.Opened.{openedInC}
@@ -18,7 +18,7 @@ record-in-c-requires c κs =
     (omega (arith, short .number-short), omega (arith, short .name-short))
 
 record-in-c-requires-2 : tie.Need-record-in-c-requires-2
-unfolding blank
+unfolding blank holding
 record-in-c-requires-2 c κs = rw (c .blank .ensures) (search needs)
 
 returns : tie.Need-returns
