@@ -10,7 +10,7 @@ use Rattle.zone.specs.Part.{rank, same}
 use Rattle.zone.specs.Form.{row, forms, partOf, parts, start, startIn, width, widthIn, firstForm, mayStand, isOf}
 use Rattle.zone.specs.Form.{formOf, field, pieceOf}
 use Rattle.zone.specs.Form.{pieces, cut, joinedCuts, covered}
-use Rattle.zone.specs.Record.{trimmed, trimmedLength, padded}
+use Rattle.zone.specs.Record.{trimmed, trimmedLength, padded, holding}
 use Rattle.zone.specs.Codes.{codeOf}
 use Rattle.digit.specs.Check.{value, weight, sumFrom, checkOf, digitOf}
 use Rattle.field.specs.Date.{pairOf, yearOf, monthOf, dayOf, isLeap, isShort, daysIn, yearRule, monthRule, dayRule, birthRule}
@@ -22,7 +22,7 @@ use Rattle.text_digits.specs.Digits.{digitAt, numberDigit, furtherDigit, isLeft
 use Rattle.text.specs.Order.{characters, fieldRows}
 use Rattle.text_digits.specs.Digits.{inOrder}
 use Rattle.text.specs.Order.{verdictBy}
-use Rattle.text.specs.Read.{recordBy, answered, readBy, readText}
+use Rattle.text.specs.Read.{recordBy, inText, answered, readBy, readText}
 use Rattle.cells.specs.Bits.{put, gathered}
 use Rattle.cells.specs.Bits as bits
 use Rattle.entry.specs.Codes.{sexCode}
@@ -35,7 +35,7 @@ use Rattle.demands.specs.Examples.{told, isRead, isRefused, isPassed, is
 pub starred : allRight examples ≡ true
 unfolding allRight examples isRight isPassed isDigitAt T3 octets checkOf sumFrom value weight isDigit isLetter isFiller birthRule
     pairOf yearOf monthOf dayOf isLeap isShort daysIn yearRule monthRule dayRule row forms firstForm start startIn width
-    widthIn field pieceOf pieces cut joinedCuts covered rank same recordBy spanOf isLong numberBy trimmed trimmedLength
+    widthIn field pieceOf pieces cut joinedCuts covered rank same recordBy holding inText spanOf isLong numberBy trimmed trimmedLength
     padded entryOf octetsOf putRow putCell putAll valuesOf keyValues restValues bits.octets gathered put codeOf sexCode
     alike told isRead isRefused element
     tagAt tagWidth sizeAt sizeOf sized endsWithin

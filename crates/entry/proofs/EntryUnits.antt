@@ -12,7 +12,11 @@ use Rattle.lent.specs.Copied.{copied, copiedAt}
 use Rattle.lent.proofs.Lists.{rest-all, copy-into}
 use Rattle.zone.specs.Alphabet.{filler, isCharacter, isFiller, every, isDigit, isLetter}
 use Rattle.zone.specs.Codes.{codeOf}
-use Rattle.zone.specs.Record.{trimmed, padded}
+use Rattle.zone.specs.Part as text
+use Rattle.zone.specs.Part.{rank, same}
+use Rattle.zone.specs.Rows.{inRows}
+use Rattle.zone.specs.Record.{trimmed, padded, plain, heldRows}
+use Rattle.field.specs.Rules.{ruleRows}
 use Rattle.zone.specs.Rooms.{nameRoom}
 use Rattle.zone.specs.declared.record.Record.{Record}
 use Rattle.zone.proofs.Every.{every-append, every-replicate}
@@ -199,17 +203,18 @@ module _ (house : ℕ) (r : Record) (housed : isHouse house ≡ true) (s : Sound
       (every-replicate isCharacter (frontUnits - nameRoom - 1) filler refl)))
 
   units-held : every (isHeld 6) (unitsOf house r) ≡ true
-  unfolding unitsOf front before every isHeld
+  unfolding unitsOf front before every isHeld heldRows plain ruleRows inRows same rank
   units-held =
-      let sex = sex-tells (r .sex) (s .sex-kept) .1 in
+      let pure = s .characters in
+      let sex = sex-tells (r .sex) (s .kept text.sex refl) .1 in
       let form = entered-tells (r .form) .1 in
       let most = house-range house housed .1 in
       let characters : every isCharacter (before r) ≡ true =
-      every-append isCharacter (r .state) _ (s .state-characters)
+      every-append isCharacter (r .state) _ (pure text.state refl)
       (every-append isCharacter (r .number) _ (s .number-characters)
-      (every-append isCharacter (r .birth) _ (s .birth-characters)
-      (every-append isCharacter (r .expiry) _ (s .expiry-characters)
-      (every-append isCharacter (r .code) _ (s .code-characters) (s .nationality-characters))))) in
+      (every-append isCharacter (r .birth) _ (pure text.birth refl)
+      (every-append isCharacter (r .expiry) _ (pure text.expiry refl)
+      (every-append isCharacter (r .code) _ (pure text.code refl) (pure text.nationality refl))))) in
       every-append (isHeld 6) (front house r) (rest r)
       (rw (
         lt-ltb (head house r / 4096) 64 (omega arith),

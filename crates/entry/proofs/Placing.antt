@@ -9,7 +9,10 @@ use lib.Seq.{set-at}
 use Rattle.lent.specs.Copied.{copiedAt}
 use Rattle.zone.specs.Alphabet.{filler, isDigit, isLetter}
 use Rattle.zone.specs.Codes.{codeOf}
-use Rattle.zone.specs.Record.{padded}
+use Rattle.zone.specs.Part as text
+use Rattle.zone.specs.Part.{rank, same}
+use Rattle.zone.specs.Rows.{inRows}
+use Rattle.zone.specs.Record.{padded, plain, heldRows}
 use Rattle.zone.specs.Rooms.{codeRoom, stateRoom, dateRoom, numberRoom, nameRoom}
 use Rattle.zone.specs.declared.record.Record.{Record}
 use Rattle.zone.proofs.Padded.{copied-behind, padded-append, padded-spare}
@@ -77,10 +80,19 @@ abbrev spaces : List ℕ
 spaces = replicate (frontUnits - nameRoom - 1) filler
 
 pub sound-before : (r : Record) → Sound r → length (before r) + unitOf part.state ≡ unitOf part.sex
-unfolding before
+unfolding before heldRows plain inRows same rank
 sound-before r s =
+    let places = s .places in
     simp length-append
-    (omega (arith, s .state-places, s .number-places, s .birth-places, s .expiry-places, s .code-places, s .nationality-places))
+    (omega (
+      arith,
+      places text.state refl,
+      s .number-places,
+      places text.birth refl,
+      places text.expiry refl,
+      places text.code refl,
+      places text.nationality refl,
+    ))
 
 numbers-behind : (b nm : List ℕ) (x n at to : ℕ) → length b ≡ at → at + (gap + 1) ≡ to
     → set (set (map codeOf (b ++ (filler ∷ filler ∷ filler ∷ filler ∷ nm))) at x) to n

@@ -11,7 +11,11 @@ use lib.Seq.{length-take-le}
 use Rattle.lent.proofs.Bools.{and-both}
 use Rattle.zone.specs.Alphabet.{isCharacter, every}
 use Rattle.zone.specs.Codes.{codeOf}
-use Rattle.zone.specs.Rooms.{codeRoom, stateRoom, dateRoom, numberRoom}
+use Rattle.zone.specs.Part.{Part, code, state, nationality, birth, sex, expiry, rank, same}
+use Rattle.zone.specs.Rows.{inRows}
+use Rattle.zone.specs.Record.{plain, room, isPlain, heldRows, held}
+use Rattle.zone.specs.Rooms.{numberRoom}
+use Rattle.field.specs.Rules.{ruleRows}
 use Rattle.zone.specs.declared.record.Record.{Record}
 use Rattle.zone.proofs.Every.{every-take}
 use Rattle.sound.proofs.SoundRecord.{Sound}
@@ -39,6 +43,10 @@ coded : (n : ℕ) (c : List ℕ) → length c ≡ n → every isCharacter c ≡ 
 coded n c l p = (length-map c codeOf ∙ l, codes-held c p)
 
 module _ (r : Record) (s : Sound r) where
+  plain-coded : (x : Part) → isPlain x ≡ true
+      → (length (map codeOf (held r x)) ≡ room x) × (every (isHeld 6) (map codeOf (held r x)) ≡ true)
+  plain-coded x p = coded (room x) (held r x) (s .places x p) (s .characters x p)
+
   pub name-taken : length (take (r .«name_len») (r .name)) ≡ r .«name_len»
   name-taken = length-take-le (r .«name_len») (r .name) (omega (arith, s .name-most, s .name-places))
 
@@ -52,24 +60,33 @@ module _ (r : Record) (s : Sound r) where
   )
 
   rest-fits : Fits (cells afterKey) (restValues r)
-  unfolding restValues
+  unfolding restValues heldRows plain ruleRows inRows same rank
   rest-fits =
-      let code = coded codeRoom (r .code) (s .code-places) (s .code-characters) in
-      let nationality = coded stateRoom (r .nationality) (s .nationality-places) (s .nationality-characters) in
-      let sex = one-held 2 (sexCode (r .sex)) (sex-tells (r .sex) (s .sex-kept) .1) in
-      (code, (nationality, ((refl, sex), (name-fits, tt))))
+      let sex-fits = one-held 2 (sexCode (r .sex)) (sex-tells (r .sex) (s .kept sex refl) .1) in
+      (plain-coded code refl, (plain-coded nationality refl, ((refl, sex-fits), (name-fits, tt))))
 
   module _ (h : ℕ) (house : isHouse h ≡ true) where
     pub key-fits : Fits (cells key) (keyValues h r)
-    unfolding keyValues
+    unfolding keyValues heldRows plain inRows same rank
     key-fits =
         let house-fits = one-held 15 h (omega (arith, house-range h house .1)) in
         let form-fits = one-held 3 (formCode (r .form)) (entered-tells (r .form) .1) in
-        let state = coded stateRoom (r .state) (s .state-places) (s .state-characters) in
-        let number = coded numberRoom (r .number) (s .number-places) (s .number-characters) in
-        let birth = coded dateRoom (r .birth) (s .birth-places) (s .birth-characters) in
-        let expiry = coded dateRoom (r .expiry) (s .expiry-places) (s .expiry-characters) in
-        ((refl, house-fits), ((refl, form-fits), (state, (number, (birth, (expiry, tt))))))
+        let number = coded numberRoom (r .number) (s .number-places) (s .number-characters) in (
+          (refl, house-fits),
+          (
+            (refl, form-fits),
+            (
+              plain-coded state refl,
+              (
+                number,
+                (
+                  plain-coded birth refl,
+                  (plain-coded expiry refl, tt),
+                ),
+              ),
+            ),
+          ),
+        )
 
     pub values-fit : Fits (cells row) (valuesOf h r)
     unfolding valuesOf keyValues restValues
@@ -77,17 +94,11 @@ module _ (r : Record) (s : Sound r) where
 
   -- ---- lengths
 
-  coded-long : (n : ℕ) (c : List ℕ) → length c ≡ n → length (map codeOf c) ≡ n
-  coded-long n c l = length-map c codeOf ∙ l
-
   pub key-sized : (h : ℕ) → Sized (cells key) (keyValues h r)
-  unfolding keyValues
+  unfolding keyValues heldRows plain inRows same rank
   key-sized h =
-      let state = coded-long stateRoom (r .state) (s .state-places) in
-      let number = coded-long numberRoom (r .number) (s .number-places) in
-      let birth = coded-long dateRoom (r .birth) (s .birth-places) in
-      let expiry = coded-long dateRoom (r .expiry) (s .expiry-places) in
-      (refl, (refl, (state, (number, (birth, (expiry, tt))))))
+      let number = length-map (r .number) codeOf ∙ s .number-places in
+      (refl, (refl, (plain-coded state refl .0, (number, (plain-coded birth refl .0, (plain-coded expiry refl .0, tt))))))
 
   pub values-sized : (h : ℕ) → Sized (cells row) (valuesOf h r)
   unfolding valuesOf keyValues restValues

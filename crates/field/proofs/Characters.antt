@@ -15,13 +15,18 @@ use Rattle.zone.specs.declared.form.Form.{Form}
 use Rattle.zone.specs.declared.form.Kind.{Kind}
 use Rattle.zone.specs.declared.form.Kind.the-variants.{Card, Passport}
 use Rattle.zone.specs.Form.{row}
+use Rattle.zone.specs.Part.{Part, rank, same}
+use Rattle.zone.specs.Rows.{inRows}
+use Rattle.zone.specs.Record.{room, isPlain}
 use Rattle.field.specs.Code.{codeRule, kindRule, cardRule, passportRule, isCardLetter, isSecond}
 use Rattle.field.specs.Letters.{stateRule, lettersThenFillers, sexRule, isNameCharacter}
 use Rattle.field.specs.declared.date.Pair.{Pair}
 use Rattle.field.specs.declared.date.Pair.the-variants.{Known, Unknown, Neither}
 use Rattle.field.specs.Date.{pairOf, yearOf, monthOf, dayOf, daysIn, yearRule, monthRule, dayRule, birthRule, isKnown}
 use Rattle.field.specs.Date.{expiryRule}
+use Rattle.field.specs.Rules.{ruleRows, rule}
 use Rattle.zone.proofs.Every.{every-each}
+use Rattle.zone.proofs.Holding.{each-plain}
 use Rattle.zone.proofs.Classes.{digit-in, either-in, filler-in, letter-in}
 
 two : (s : List ℕ) → length s ≡ 2 → isCharacter (getD s 0 0) ≡ true → isCharacter (getD s 1 0) ≡ true → every isCharacter s ≡ true
@@ -171,3 +176,17 @@ name-pure [] e = refl
 name-pure (c ∷ s) e =
     let both = and-both (isLetter c || isFiller c) (every isNameCharacter s) e in
     rw (either-in c (both .0), name-pure s (both .1))
+
+one-pure : (s : List ℕ) → length s ≡ 1 → sexRule (getD s 0 0) ≡ true → every isCharacter s ≡ true
+one-pure s l e = every-each isCharacter s go
+  where
+    go : (i : ℕ) → i < length s → isCharacter (getD s i 0) ≡ true
+    go zero h = sex-pure (getD s 0 0) e
+    go (suc i) h = absurd (omega arith)
+
+-- so of every field that has one width
+pub plain-pure : (f : Form) (s : List ℕ) (x : Part) → isPlain x ≡ true → length s ≡ room x → rule f x s ≡ true
+    → every isCharacter s ≡ true
+unfolding ruleRows inRows same rank
+plain-pure f s = each-plain (λ x n. length s ≡ n → rule f x s ≡ true → every isCharacter s ≡ true) (code-pure f s) (state-pure s)
+    (state-pure s) (birth-pure s) (one-pure s) (expiry-pure s)

@@ -1,3 +1,4 @@
 pub mod Code
 pub mod Letters
 pub mod Date
+pub mod Rules

@@ -11,7 +11,9 @@ use Rattle.zone.specs.declared.form.Source.the-variants.{Alone}
 use Rattle.zone.specs.declared.record.Record.{Record}
 use Rattle.zone.specs.Alphabet.{isCharacter, every}
 use Rattle.zone.specs.Codes.{codeOf, characterOf}
-use Rattle.zone.specs.Record.{trimmedLength, trimmed, padded}
+use Rattle.zone.specs.Part.{state, birth, expiry, rank, same}
+use Rattle.zone.specs.Rows.{inRows}
+use Rattle.zone.specs.Record.{trimmedLength, trimmed, padded, plain, heldRows}
 use Rattle.zone.specs.Rooms.{numberRoom}
 use Rattle.zone.proofs.FormTold.{as-same}
 use Rattle.zone.proofs.Padded.{padded-exact, padded-trimmed}
@@ -65,8 +67,10 @@ module _ (h k : ℕ) (r q : Record) (house : isHouse h ≡ true) (sound : isSoun
       (sym (key-octets h r o) ∙ e ∙ key-octets k q o′)
 
   agreeing : keyOf h r ≡ keyOf k q → SameKey h r k q
-  unfolding wholeNumber keyValues
+  unfolding wholeNumber keyValues heldRows plain inRows same rank
   agreeing e =
+      let pure = o .characters in
+      let pure′ = o′ .characters in
       let v = same-values e in
       let number : r .number ≡ q .number =
       same-codes (r .number) (q .number) (o .number-characters) (o′ .number-characters) (cc v) in
@@ -74,10 +78,10 @@ module _ (h k : ℕ) (r q : Record) (house : isHouse h ≡ true) (sound : isSoun
       record {
         same-house = cc v;
         same-form = same-form (r .form) (q .form) (cc v);
-        same-state = same-codes (r .state) (q .state) (o .state-characters) (o′ .state-characters) (cc v);
+        same-state = same-codes (r .state) (q .state) (pure state refl) (pure′ state refl) (cc v);
         same-number = rw (number, count);
-        same-birth = same-codes (r .birth) (q .birth) (o .birth-characters) (o′ .birth-characters) (cc v);
-        same-expiry = same-codes (r .expiry) (q .expiry) (o .expiry-characters) (o′ .expiry-characters) (cc v);
+        same-birth = same-codes (r .birth) (q .birth) (pure birth refl) (pure′ birth refl) (cc v);
+        same-expiry = same-codes (r .expiry) (q .expiry) (pure expiry refl) (pure′ expiry refl) (cc v);
       }
 
   agreed : SameKey h r k q → keyOf h r ≡ keyOf k q

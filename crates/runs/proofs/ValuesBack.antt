@@ -1,6 +1,6 @@
 -- A record and the values of its row tell each other.
 use Prim.Native.Nat.{ℕ, _+_}
-use mathlib.Core.Path.{_≡_, ap, sym, _∙_}
+use mathlib.Core.Path.{_≡_, refl, ap, sym, _∙_}
 use mathlib.Core.Bool.{true}
 use mathlib.Core.List.{List, map}
 use native.Mathlib.Omega.{arith}
@@ -8,7 +8,11 @@ use lib.ListN.{length, take, length-map}
 use lib.Seq.{take-all}
 use Rattle.zone.specs.Alphabet.{isCharacter, every}
 use Rattle.zone.specs.Codes.{characterOf}
-use Rattle.zone.specs.Record.{trimmedLength, trimmed, padded}
+use Rattle.zone.specs.Part as text
+use Rattle.zone.specs.Part.{rank, same}
+use Rattle.zone.specs.Rows.{inRows}
+use Rattle.zone.specs.Record.{trimmedLength, trimmed, padded, plain, heldRows}
+use Rattle.field.specs.Rules.{ruleRows}
 use Rattle.zone.specs.Rooms.{codeRoom, stateRoom, dateRoom, numberRoom, nameRoom}
 use Rattle.zone.specs.declared.form.Form.{Form}
 use Rattle.zone.specs.declared.form.Recognised.the-variants.{As}
@@ -32,16 +36,17 @@ use Rattle.runs.specs.Inner.Units.{nameLength}
 
 -- the values of a sound record say that record
 pub record-back : (house : ℕ) (r : Record) → Sound r → recordOf (r .form) (valuesOf house r) ≡ r
-unfolding recordOf valuesOf keyValues restValues trimmed
+unfolding recordOf valuesOf keyValues restValues trimmed heldRows plain ruleRows inRows same rank
 record-back house r s =
     let x = take (r .«name_len») (r .name) in
-    let code = codes-tell (r .code) (s .code-characters) in
-    let state = codes-tell (r .state) (s .state-characters) in
+    let pure = s .characters in
+    let code = codes-tell (r .code) (pure text.code refl) in
+    let state = codes-tell (r .state) (pure text.state refl) in
     let number = codes-tell (r .number) (s .number-characters) in
-    let nationality = codes-tell (r .nationality) (s .nationality-characters) in
-    let birth = codes-tell (r .birth) (s .birth-characters) in
-    let expiry = codes-tell (r .expiry) (s .expiry-characters) in
-    let sex = sex-tells (r .sex) (s .sex-kept) .0 in
+    let nationality = codes-tell (r .nationality) (pure text.nationality refl) in
+    let birth = codes-tell (r .birth) (pure text.birth refl) in
+    let expiry = codes-tell (r .expiry) (pure text.expiry refl) in
+    let sex = sex-tells (r .sex) (s .kept text.sex refl) .0 in
     let ends = ap trimmedLength number ∙ s .number-ends in
     let named : padded nameRoom x ≡ r .name = (rw (s .name-ends) at (padded-trimmed nameRoom (r .name)))
     ∙ padded-exact nameRoom (r .name) (s .name-places) in
@@ -79,19 +84,20 @@ module _ (f : Form) (s : List ℕ) (told : formIn s ≡ As f) (o : Sound (record
   name-pure = ap (every isCharacter) (sym name-there) ∙ every-take isCharacter (length name) _ (o .name-characters)
 
   pub values-back : valuesOf (houseIn s) (recordIn f s) ≡ valuesIn s
-  unfolding valuesOf keyValues restValues houseIn recordIn recordOf formIn numbersAt
+  unfolding valuesOf keyValues restValues houseIn recordIn recordOf formIn numbersAt heldRows plain ruleRows inRows same rank
   values-back =
+      let pure = o .characters in
       let form : formCode f ≡ bitsAt s (start part.form) 3 = tells-entered (bitsAt s (start part.form) 3) f told in
       let sex : sexCode (sexBy (bitsAt s (start part.sex) 2)) ≡ bitsAt s (start part.sex) 2 =
-      tells-sex (bitsAt s (start part.sex) 2) (bits-below s (start part.sex) 2) (o .sex-kept) in
+      tells-sex (bitsAt s (start part.sex) 2) (bits-below s (start part.sex) 2) (o .kept text.sex refl) in
       rw (
         form,
-        characters-tell (numbersAt s (start part.state) stateRoom 6) (o .state-characters),
+        characters-tell (numbersAt s (start part.state) stateRoom 6) (pure text.state refl),
         characters-tell (numbersAt s (start part.number) numberRoom 6) (o .number-characters),
-        characters-tell (numbersAt s (start part.birth) dateRoom 6) (o .birth-characters),
-        characters-tell (numbersAt s (start part.expiry) dateRoom 6) (o .expiry-characters),
-        characters-tell (numbersAt s (start part.code) codeRoom 6) (o .code-characters),
-        characters-tell (numbersAt s (start part.nationality) stateRoom 6) (o .nationality-characters),
+        characters-tell (numbersAt s (start part.birth) dateRoom 6) (pure text.birth refl),
+        characters-tell (numbersAt s (start part.expiry) dateRoom 6) (pure text.expiry refl),
+        characters-tell (numbersAt s (start part.code) codeRoom 6) (pure text.code refl),
+        characters-tell (numbersAt s (start part.nationality) stateRoom 6) (pure text.nationality refl),
         sex,
         name-there,
         characters-tell name name-pure,

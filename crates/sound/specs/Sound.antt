@@ -6,24 +6,23 @@ use lib.ListN.{length, take, drop, getD}
 use lib.Dec.{eqb, leb}
 use Rattle.zone.specs.Alphabet.{isCharacter, isFiller, every}
 use Rattle.zone.specs.Part.{name}
+use Rattle.zone.specs.Rows.{allRows}
 use Rattle.zone.specs.Form.{width, longest}
-use Rattle.zone.specs.Rooms.{codeRoom, stateRoom, dateRoom, nine, numberRoom, nameRoom}
-use Rattle.zone.specs.Record.{trimmedLength}
+use Rattle.zone.specs.Rooms.{nine, numberRoom, nameRoom}
+use Rattle.zone.specs.Record.{trimmedLength, plain, held}
 use Rattle.zone.specs.declared.record.Record.{Record}
-use Rattle.field.specs.Code.{codeRule}
-use Rattle.field.specs.Letters.{stateRule, sexRule, nameRule}
-use Rattle.field.specs.Date.{birthRule, expiryRule}
+use Rattle.field.specs.Letters.{nameRule}
+use Rattle.field.specs.Rules.{rule}
 
 -- fits: the places that each field has in a record
 unfoldable pub isShaped : Record → Bool
 isShaped r =
-    eqb (length (r .code)) codeRoom
-    && (eqb (length (r .state)) stateRoom
-    && (eqb (length (r .number)) numberRoom
-    && (eqb (length (r .nationality)) stateRoom
-    && (eqb (length (r .birth)) dateRoom
-    && (eqb (length (r .expiry)) dateRoom
-    && eqb (length (r .name)) nameRoom)))))
+    allRows (λ x room. eqb (length (held r x)) room) plain
+    && (eqb (length (r .number)) numberRoom && eqb (length (r .name)) nameRoom)
+
+-- code, state, nationality, birth, sex and expiry keep their rules
+unfoldable pub keepsRules : Record → Bool
+keepsRules r = allRows (λ x room. rule (r .form) x (held r x)) plain
 
 -- n characters, not none and at most so many, that end in no filler, and fillers in every place past them
 unfoldable pub isHeld : ℕ → List ℕ → ℕ → Bool
@@ -37,21 +36,11 @@ isSolid c = not (isFiller c)
 unfoldable pub isNumber : List ℕ → ℕ → Bool
 isNumber s n = every isCharacter s && (isSolid (getD s 0 0) && every isSolid (drop nine (take n s)))
 
--- what stands for the document: code, issuing state and number keep their rules
-unfoldable pub isDocument : Record → Bool
-isDocument r =
-    codeRule (r .form) (r .code)
-    && (stateRule (r .state)
-    && (isHeld (longest (r .form)) (r .number) (r .«number_len») && isNumber (r .number) (r .«number_len»)))
+unfoldable pub isNumbered : Record → Bool
+isNumbered r = isHeld (longest (r .form)) (r .number) (r .«number_len») && isNumber (r .number) (r .«number_len»)
 
--- and what stands for its holder
-unfoldable pub isHolder : Record → Bool
-isHolder r =
-    stateRule (r .nationality)
-    && (birthRule (r .birth)
-    && (sexRule (r .sex)
-    && (expiryRule (r .expiry)
-    && (isHeld (width (r .form) name) (r .name) (r .«name_len») && nameRule (r .name)))))
+unfoldable pub isNamed : Record → Bool
+isNamed r = isHeld (width (r .form) name) (r .name) (r .«name_len») && nameRule (r .name)
 
 unfoldable pub isSound : Record → Bool
-isSound r = isShaped r && (isDocument r && isHolder r)
+isSound r = isShaped r && (keepsRules r && (isNumbered r && isNamed r))

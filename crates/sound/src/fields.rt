@@ -1,7 +1,7 @@
 // The rules of the text, asked of a record's fields.
 ghost use mathlib.Core.Path.{_≡_};
 ghost use Rattle.zone.specs.Alphabet.{every};
-ghost use Rattle.sound.specs.Sound.{isHeld, isSolid, isNumber, isDocument, isHolder};
+ghost use Rattle.sound.specs.Sound.{keepsRules, isHeld, isSolid, isNumber, isNumbered, isNamed};
 use field::code::is_code;
 use field::date::is_birth;
 use field::date::is_expiry;
@@ -41,29 +41,34 @@ fn is_number(s: &[u8], n: usize) -> bool
     all_characters(s) & ((lent::octet(s, 0) != FILLER) & all_solid(further))
 }
 
-// Code, issuing state and number.
-pub fn is_document(r: Record) -> bool
-    ensures { λ b. ⌜ b ≡ isDocument r ⌝ }
+pub fn is_numbered(r: Record) -> bool
+    ensures { λ b. ⌜ b ≡ isNumbered r ⌝ }
+{
+    let form = r.form;
+    let number = r.number;
+    let n = r.number_len;
+    is_held(form.longest_number(), &number, n) & is_number(&number, n)
+}
+
+pub fn is_named(r: Record) -> bool
+    ensures { λ b. ⌜ b ≡ isNamed r ⌝ }
+{
+    let form = r.form;
+    let name = r.name;
+    is_held(form.name_width(), &name, r.name_len) & is_name(&name)
+}
+
+// Code, state, nationality, birth, sex and expiry.
+pub fn keeps_rules(r: Record) -> bool
+    ensures { λ b. ⌜ b ≡ keepsRules r ⌝ }
 {
     let form = r.form;
     let code = r.code;
     let state = r.state;
-    let number = r.number;
-    let n = r.number_len;
-    let held = is_held(form.longest_number(), &number, n);
-    is_code(form, &code) & (is_state(&state) & (held & is_number(&number, n)))
-}
-
-// Nationality, birth, sex, expiry and name.
-pub fn is_holder(r: Record) -> bool
-    ensures { λ b. ⌜ b ≡ isHolder r ⌝ }
-{
-    let form = r.form;
     let nationality = r.nationality;
     let birth = r.birth;
     let expiry = r.expiry;
-    let name = r.name;
-    let held = is_held(form.name_width(), &name, r.name_len);
-    is_state(&nationality)
-        & (is_birth(&birth) & (is_sex(r.sex) & (is_expiry(&expiry) & (held & is_name(&name)))))
+    is_code(form, &code)
+        & (is_state(&state)
+            & (is_state(&nationality) & (is_birth(&birth) & (is_sex(r.sex) & is_expiry(&expiry)))))
 }

@@ -1,13 +1,12 @@
 -- What reading a text answers, for every list of octets: document 01, "The text" and "Refusal numbers".
 use Prim.Native.Nat.{ℕ}
-use mathlib.Core.List.{List}
-use lib.ListN.{length, getD}
+use mathlib.Core.List.{List, [], _∷_}
 use Rattle.refusal.specs.Numbers.{by}
 use Rattle.refusal.specs.Outcome.{Outcome, passed, refused, outcomeOf}
-use Rattle.zone.specs.Part.{code, state, nationality, birth, sex, expiry, name}
-use Rattle.zone.specs.Form.{formOf, start, field}
-use Rattle.zone.specs.Record.{blank, trimmed, padded}
-use Rattle.zone.specs.Rooms.{codeRoom, stateRoom, dateRoom, numberRoom, nameRoom}
+use Rattle.zone.specs.Part.{Part, number, name}
+use Rattle.zone.specs.Rows.{_is_, inRows}
+use Rattle.zone.specs.Form.{formOf, field}
+use Rattle.zone.specs.Record.{blank, trimmed, holding}
 use Rattle.zone.specs.declared.form.Form.{Form}
 use Rattle.zone.specs.declared.form.Source.{Source}
 use Rattle.zone.specs.declared.form.Recognised.{Recognised}
@@ -27,22 +26,13 @@ pub record Answer : Type 0 where
 unfoldable pub answerOf : Reading → Answer
 answerOf r = record { outcome = outcomeOf (r .verdict); kept = r .kept }
 
--- the record of a text: the fields that stand in it, number and name without trailing fillers. (A field of a text of its form's
--- length has its width, so that padding changes nothing: `Holds`.)
+-- what stands in a text for a field: number and name without trailing fillers
+unfoldable pub inText : Form → List ℕ → Span → Part → List ℕ
+inText f t span x = inRows (field f x t) (number is numberBy f t span ∷ name is trimmed (field f name t) ∷ []) x
+
+-- the record of a text holds the fields that stand in it
 unfoldable pub recordBy : Form → List ℕ → Span → Record
-recordBy f t span = record {
-  form = f;
-  code = padded codeRoom (field f code t);
-  state = padded stateRoom (field f state t);
-  number = padded numberRoom (numberBy f t span);
-  «number_len» = length (numberBy f t span);
-  nationality = padded stateRoom (field f nationality t);
-  birth = padded dateRoom (field f birth t);
-  sex = getD t (start f sex) 0;
-  expiry = padded dateRoom (field f expiry t);
-  name = padded nameRoom (trimmed (field f name t));
-  «name_len» = length (trimmed (field f name t));
-}
+recordBy f t span = holding f (inText f t span)
 
 -- every refusal gives the blank record
 unfoldable pub answered : Outcome → Record → Answer

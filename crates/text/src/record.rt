@@ -16,6 +16,7 @@ use zone::record::Record;
 use zone::record::trimmed_length;
 use zone::taken::code_at;
 use zone::taken::date_at;
+use zone::taken::sex_at;
 use zone::taken::state_at;
 
 fn name_chars(form: Form, text: &[u8]) -> [u8; Form::NAME]
@@ -83,7 +84,7 @@ pub fn record_by(form: Form, text: &[u8], span: Span) -> Record
     let number_len = number_length(form, text, span);
     let nationality = state_at(text, at.nationality);
     let birth = date_at(text, at.birth);
-    let sex = lent::octet(text, at.sex);
+    let sex = sex_at(text, at.sex);
     let expiry = date_at(text, at.expiry);
     let name = name_chars(form, text);
     let name_len = trimmed_length(&name);

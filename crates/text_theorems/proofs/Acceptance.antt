@@ -5,6 +5,8 @@ use mathlib.Core.Logic.{_↔_}
 use mathlib.Core.Bool.{Bool, true, false, not}
 use mathlib.Core.List.{List, _++_}
 use lib.ListN.{length, take, getD}
+use native.Mathlib.Nat.{add-zero}
+use native.Mathlib.Omega.{arith}
 use borrow.Author.Tests.{eqb-true, eq-eqb}
 use lib.Dec.{eqb}
 use Rattle.lent.proofs.Bools.{and-both, not-true}
@@ -21,11 +23,15 @@ use Rattle.zone.specs.Part.{nationality, composite, name, personal, personalChe
 use Rattle.zone.specs.Rows.{inRows}
 use Rattle.zone.proofs.Parts.{in-rows, _and_, all-said}
 use Rattle.zone.specs.Form.{mayStand, formOf, parts, start, width, has, total, field, covered}
-use Rattle.zone.proofs.Widths.{has-among}
+use Rattle.zone.specs.Record.{plain, isPlain}
+use Rattle.zone.proofs.Widths.{has-among, fixed}
+use Rattle.zone.proofs.Holding.{each-plain}
+use Rattle.zone.proofs.Fields.{in-field}
 use Rattle.digit.specs.Check.{digitOf}
 use Rattle.field.specs.Code.{codeRule}
 use Rattle.field.specs.Letters.{stateRule, sexRule, nameRule}
 use Rattle.field.specs.Date.{birthRule, expiryRule}
+use Rattle.field.specs.Rules.{ruleRows, rule}
 use Rattle.text_digits.specs.declared.number.Span.{Span}
 use Rattle.text_digits.specs.Number.{isLong, spanOf, spanRule, numberRule, checkedBy}
 use Rattle.text_digits.specs.Digits.{numberDigit, furtherDigit, digitRows, digitCheck, inOrder}
@@ -34,7 +40,7 @@ use Rattle.text.specs.Read.{readText, readBy, answered, recordBy}
 use Rattle.text_theorems.specs.Accepted.{Keeps, fillerAt}
 use Rattle.text.proofs.EachCheck.{answered-outcome}
 use Rattle.zone.proofs.FormTold.{told-by, by-told}
-use Rattle.text_theorems.proofs.Common.{common}
+use Rattle.text_theorems.proofs.Common.{common, plain-has}
 use Rattle.refusal.proofs.Outcomes.{refused-not-passed, both-passed, unless-kept, kept-unless}
 use Rattle.text_theorems.proofs.PartByPart.{digit-kept, kept-digit, personal-kept, kept-personal, walk-each, each-walk}
 use Rattle.text_theorems.proofs.NumberSpan.{short-span, long-span, span-ends, long-has}
@@ -43,6 +49,11 @@ use Rattle.text_theorems.proofs.NumberSpan.{short-span, long-span, span
 not-false : (b : Bool) → not b ≡ false → b ≡ true
 not-false true e = refl
 not-false false e = sym e
+
+-- the sex as a field of one character
+sex-there : (f : Form) (t : List ℕ) → getD (field f sex t) 0 0 ≡ getD t (start f sex) 0
+sex-there f t =
+    sym (in-field f sex t 0 (omega (arith, fixed f .sex-width))) ∙ ap (λ i. getD t i 0) (add-zero (start f sex))
 
 -- ---- from an accepted text to its rules
 
@@ -97,20 +108,26 @@ module _ (f : Form) (t : List ℕ) (told : length t ≡ total f) (accepted : ver
       (first-none isForeign t (eqb-true (firstForeign t) (length t)
       (unless-kept (eqb (firstForeign t) (length t)) 2 (firstForeign t) (stages .0))) i h)
 
+  rules-kept : (x : Part) → isPlain x ≡ true → rule f x (field f x t) ≡ true
+  unfolding fieldRows ruleRows inRows same rank
+  rules-kept x p =
+      each-plain (λ y n. fieldCheck f t span y ≡ passed → rule f y (field f y t) ≡ true)
+      (unless-kept (codeRule f (field f code t)) 3 (start f code))
+      (unless-kept (stateRule (field f state t)) 4 (start f state))
+      (unless-kept (stateRule (field f nationality t)) 4 (start f nationality))
+      (unless-kept (birthRule (field f birth t)) 6 (start f birth))
+      (λ e. ap sexRule (sex-there f t) ∙ unless-kept (sexRule (getD t (start f sex) 0)) 7 (start f sex) e)
+      (unless-kept (expiryRule (field f expiry t)) 6 (start f expiry))
+      x p (field-passed x (plain-has f x p))
+
   pub keeps : Keeps f t
   unfolding fieldRows inRows same rank digitRows
   keeps = record {
     size = told;
     alphabet = characters-kept;
-    code-kept = unless-kept (codeRule f (field f code t)) 3 (start f code) (field-passed code (common f .has-code));
-    state-kept = unless-kept (stateRule (field f state t)) 4 (start f state) (field-passed state (common f .has-state));
+    plain-kept = rules-kept;
     number-begins = number-kept .0;
     number-ends = ends;
-    nationality-kept = unless-kept (stateRule (field f nationality t)) 4 (start f nationality)
-        (field-passed nationality (common f .has-nationality));
-    birth-kept = unless-kept (birthRule (field f birth t)) 6 (start f birth) (field-passed birth (common f .has-birth));
-    sex-kept = unless-kept (sexRule (getD t (start f sex) 0)) 7 (start f sex) (field-passed sex (common f .has-sex));
-    expiry-kept = unless-kept (expiryRule (field f expiry t)) 6 (start f expiry) (field-passed expiry (common f .has-expiry));
     name-kept = unless-kept (nameRule (field f name t)) 8 (start f name) (field-passed name (common f .has-name));
     number-digit = short-kept;
     long-digit = long-kept;
@@ -144,15 +161,15 @@ module _ (f : Form) (t : List ℕ) (k : Keeps f t) where
       (eq-eqb (firstForeign t) (length t) (none-first isForeign t (λ i h. ap not (k .alphabet i h))))
 
   fields-pass : (x : Part) → has f x ≡ true → fieldCheck f t (spanOf f t) x ≡ passed
-  unfolding fieldRows numberRule
+  unfolding fieldRows numberRule ruleRows plain inRows same rank
   fields-pass = in-rows (λ x o. has f x ≡ true → o ≡ passed) passed (fieldRows f t (spanOf f t)) (λ x h. refl)
-      ((λ h. kept-unless _ 3 (start f code) (k .code-kept))
-      and (λ h. kept-unless _ 4 (start f state) (k .state-kept))
-      and (λ h. kept-unless _ 4 (start f nationality) (k .nationality-kept))
+      ((λ h. kept-unless _ 3 (start f code) (k .plain-kept code refl))
+      and (λ h. kept-unless _ 4 (start f state) (k .plain-kept state refl))
+      and (λ h. kept-unless _ 4 (start f nationality) (k .plain-kept nationality refl))
       and (λ h. rw (k .number-begins, number-right (isLong f t) refl .0))
-      and (λ h. kept-unless _ 6 (start f birth) (k .birth-kept))
-      and (λ h. kept-unless _ 6 (start f expiry) (k .expiry-kept))
-      and (λ h. kept-unless _ 7 (start f sex) (k .sex-kept))
+      and (λ h. kept-unless _ 6 (start f birth) (k .plain-kept birth refl))
+      and (λ h. kept-unless _ 6 (start f expiry) (k .plain-kept expiry refl))
+      and (λ h. kept-unless _ 7 (start f sex) (ap sexRule (sym (sex-there f t)) ∙ k .plain-kept sex refl))
       and (λ h. kept-unless _ 8 (start f name) (k .name-kept))
       and all-said)
 

@@ -5,6 +5,7 @@ use mathlib.Core.Bool.{Bool, true, false, _&&_}
 use mathlib.Core.List.{List, _++_}
 use native.Mathlib.Omega.{arith}
 use borrow.Author.Tests.{le-leb, eq-eqb}
+use lib.Dec.{eqb}
 use lib.ListN.{length, take, drop, getD, replicate, length-take, length-drop, length-append, drop-of-length-le, List·getD-append}
 use lib.Seq.{take-all, drop-at, getD-take}
 use Rattle.lent.proofs.Bools.{and-both, both-and}
@@ -12,17 +13,21 @@ use Rattle.refusal.specs.Outcome.{passed}
 use Rattle.zone.specs.declared.form.Source.{Source}
 use Rattle.zone.specs.declared.form.Form.{Form}
 use Rattle.zone.specs.Alphabet.{isCharacter, isFiller, isLetter, isDigit, every, filler}
-use Rattle.zone.specs.Part.{Part, code, state, number, optional, birth, expiry, nationality, name, rank, same}
-use Rattle.zone.specs.Form.{start, width, widthIn, layout, total, longest, field}
-use Rattle.zone.specs.Record.{trimmedLength, trimmed, padded}
+use Rattle.zone.specs.declared.record.Record.{Record}
+use Rattle.zone.specs.Part.{Part, number, optional, name, rank, same}
+use Rattle.zone.specs.Rows.{inRows}
+use Rattle.zone.specs.Rooms.{numberRoom, nameRoom}
+use Rattle.zone.specs.Form.{start, width, total, longest, field}
+use Rattle.zone.specs.Record.{trimmedLength, trimmed, padded, room, isPlain, heldRows, held, holding}
 use Rattle.zone.proofs.Widths.{within, fixed, name-room, some-name, longest-number}
-use Rattle.zone.proofs.Padded.{padded-exact, padded-spare, padded-trimmed, length-padded, take-padded, trimmed-le, trimmed-length}
-use Rattle.field.specs.Code.{codeRule}
-use Rattle.field.specs.Letters.{stateRule, nameRule, isNameCharacter}
-use Rattle.field.specs.Date.{birthRule, expiryRule}
+use Rattle.zone.proofs.Holding.{each-plain, passes-plain, plain-width, held-plain}
+use Rattle.zone.proofs.Padded.{padded-spare, padded-trimmed, length-padded, take-padded, trimmed-le, trimmed-length}
+use Rattle.field.specs.Letters.{nameRule, isNameCharacter}
+use Rattle.field.specs.Rules.{rule}
+use Rattle.text_digits.specs.declared.number.Span.{Span}
 use Rattle.text_digits.specs.Number.{isLong, spanOf, numberBy}
-use Rattle.text.specs.Read.{readText, answered, recordBy}
-use Rattle.sound.specs.Sound.{isShaped, isHeld, isSolid, isNumber, isDocument, isHolder, isSound}
+use Rattle.text.specs.Read.{readText, answered, inText, recordBy}
+use Rattle.sound.specs.Sound.{isShaped, keepsRules, isHeld, isSolid, isNumber, isNumbered, isNamed, isSound}
 use Rattle.text_theorems.specs.Accepted.{Keeps, fillerAt}
 use Rattle.text_theorems.specs.Held.{Holds}
 use Rattle.zone.proofs.FormTold.{by-told}
@@ -42,10 +47,10 @@ field-length f x t e = rw (length-take, length-drop) (omega (arith, within f x))
 -- ---- lists with fillers behind them
 
 -- a list that ends in no filler, with room to spare
-held : (most n : ℕ) (s : List ℕ) → 1 ≤ length s → length s ≤ most → length s ≤ n → trimmedLength s ≡ length s
+is-held : (most n : ℕ) (s : List ℕ) → 1 ≤ length s → length s ≤ most → length s ≤ n → trimmedLength s ≡ length s
     → isHeld most (padded n s) (length s) ≡ true
 unfolding isHeld
-held most n s a b c e =
+is-held most n s a b c e =
     rw (
       le-leb 1 (length s) a,
       le-leb (length s) most b,
@@ -84,6 +89,11 @@ record Sure (f : Form) (t num : List ℕ) : Type 0 where
   begins : isFiller (getD num 0 0) ≡ false
   pure : every isCharacter num ≡ true
   further : every isSolid (drop 9 num) ≡ true
+
+-- of a plain field it is what stands in its place
+pub in-text : (f : Form) (t : List ℕ) (span : Span) (x : Part) → isPlain x ≡ true → inText f t span x ≡ field f x t
+unfolding inText inRows same rank
+in-text f t span = each-plain (λ x n. inText f t span x ≡ field f x t) refl refl refl refl refl refl
 
 module _ (f : Form) (t : List ℕ) (k : Keeps f t) where
   all-characters : every isCharacter t ≡ true
@@ -139,11 +149,18 @@ module _ (f : Form) (t : List ℕ) (k : Keeps f t) where
 
   -- ---- the record
 
-  exact : (x : Part) (n : ℕ) → width f x ≡ n → padded n (field f x t) ≡ field f x t
-  exact x n e = padded-exact n (field f x t) (field-length f x t (k .size) ∙ e)
+  abbrev told : Record
+  told = recordBy f t (spanOf f t)
 
-  room : length (numberBy f t (spanOf f t)) ≤ 22
-  room = omega (arith, sure .fits, longest-number f .room-fits)
+  plain-in : (x : Part) → isPlain x ≡ true → held told x ≡ field f x t
+  unfolding recordBy
+  plain-in x p =
+      let g = inText f t (spanOf f t) in
+      let here = in-text f t (spanOf f t) x p in
+      held-plain f g x p (ap length here ∙ field-length f x t (k .size) ∙ plain-width f x p) ∙ here
+
+  number-room : length (numberBy f t (spanOf f t)) ≤ 22
+  number-room = omega (arith, sure .fits, longest-number f .room-fits)
 
   name-length : length (field f name t) ≡ width f name
   name-length = field-length f name t (k .size)
@@ -152,36 +169,31 @@ module _ (f : Form) (t : List ℕ) (k : Keeps f t) where
   name-fits = rw (trimmed-length (field f name t)) (omega (arith, trimmed-le (field f name t), name-length, name-room f))
 
   whole-number : take (length (numberBy f t (spanOf f t))) (padded 22 (numberBy f t (spanOf f t))) ≡ numberBy f t (spanOf f t)
-  whole-number = take-padded 22 (numberBy f t (spanOf f t)) ∙ take-all 22 (numberBy f t (spanOf f t)) room
+  whole-number = take-padded 22 (numberBy f t (spanOf f t)) ∙ take-all 22 (numberBy f t (spanOf f t)) number-room
 
-  pub holds : Holds f t (recordBy f t (spanOf f t))
-  unfolding recordBy numberBy
+  pub holds : Holds f t told
+  unfolding recordBy holding heldRows inText inRows same rank numberBy
   holds = record {
     form-held = refl;
-    code-held = exact code 2 (fixed f .code-width);
-    state-held = exact state 3 (fixed f .state-width);
+    plain-held = plain-in;
     short-held = λ e. whole-number ∙ rw (short-span f t e);
     long-held = λ e. whole-number ∙ rw (long-span f t e (k .number-ends e .0) (k .number-ends e .1));
-    nationality-held = exact nationality 3 (fixed f .nationality-width);
-    birth-held = exact birth 6 (fixed f .birth-width);
-    sex-held = refl;
-    expiry-held = exact expiry 6 (fixed f .expiry-width);
     name-held = take-padded 39 (trimmed (field f name t)) ∙ take-all 39 (trimmed (field f name t)) name-fits;
   }
 
   -- the parts of soundness, in its order
-  shaped : isShaped (recordBy f t (spanOf f t)) ≡ true
-  unfolding isShaped recordBy
+  shaped : isShaped told ≡ true
+  unfolding isShaped recordBy holding inText inRows same rank
   shaped =
-      rw (
-        length-padded 2 (field f code t),
-        length-padded 3 (field f state t),
-        length-padded 22 (numberBy f t (spanOf f t)),
-        length-padded 3 (field f nationality t),
-        length-padded 6 (field f birth t),
-        length-padded 6 (field f expiry t),
-        length-padded 39 (trimmed (field f name t)),
-      )
+      both-and
+      (passes-plain (λ x n. eqb (length (held told x)) n) (λ x p. eq-eqb (length (held told x)) (room x)
+      (ap length (plain-in x p) ∙ field-length f x t (k .size) ∙ plain-width f x p)))
+      (both-and (eq-eqb _ numberRoom (length-padded numberRoom (numberBy f t (spanOf f t))))
+      (eq-eqb _ nameRoom (length-padded nameRoom (trimmed (field f name t)))))
+
+  rules-kept : keepsRules told ≡ true
+  unfolding keepsRules recordBy holding
+  rules-kept = passes-plain (λ x n. rule f x (held told x)) (λ x p. ap (rule f x) (plain-in x p) ∙ k .plain-kept x p)
 
   number-sound : isHeld (longest f) (padded 22 (numberBy f t (spanOf f t))) (length (numberBy f t (spanOf f t)))
       && isNumber (padded 22 (numberBy f t (spanOf f t))) (length (numberBy f t (spanOf f t)))
@@ -190,12 +202,12 @@ module _ (f : Form) (t : List ℕ) (k : Keeps f t) where
   number-sound =
       let n = numberBy f t (spanOf f t) in
       rw (
-        held (longest f) 22 n (sure .some) (sure .fits) room (sure .ends),
-        every-padded isCharacter 22 n room filler-character (sure .pure),
-        first-padded 22 n room (sure .some),
+        is-held (longest f) 22 n (sure .some) (sure .fits) number-room (sure .ends),
+        every-padded isCharacter 22 n number-room filler-character (sure .pure),
+        first-padded 22 n number-room (sure .some),
         sure .begins,
         take-padded 22 n,
-        take-all 22 n room,
+        take-all 22 n number-room,
       )
       (sure .further)
 
@@ -209,25 +221,15 @@ module _ (f : Form) (t : List ℕ) (k : Keeps f t) where
       let some : 0 < length s = omega (arith, name-length, some-name f) in
       let kept : 1 ≤ trimmedLength s = trimmed-some s some (letter-solid (getD s 0 0) (both .0)) in
       both-and
-      (held (width f name) 39 (trimmed s) (rw (trimmed-length s) kept)
+      (is-held (width f name) 39 (trimmed s) (rw (trimmed-length s) kept)
       (rw (trimmed-length s) (omega (arith, trimmed-le s, name-length))) name-fits
       (trimmed-twice s ∙ sym (trimmed-length s)))
       (rw (padded-trimmed 39 s, first-padded 39 s long some, both .0)
       (every-padded isNameCharacter 39 s long filler-in-name (both .1)))
 
-  pub sound : isSound (recordBy f t (spanOf f t)) ≡ true
-  unfolding isSound isDocument isHolder recordBy
-  sound =
-      both-and shaped
-      (both-and
-      (both-and (ap (codeRule f) (exact code 2 (fixed f .code-width)) ∙ k .code-kept)
-      (both-and (ap stateRule (exact state 3 (fixed f .state-width)) ∙ k .state-kept)
-      number-sound))
-      (both-and (ap stateRule (exact nationality 3 (fixed f .nationality-width)) ∙ k .nationality-kept)
-      (both-and (ap birthRule (exact birth 6 (fixed f .birth-width)) ∙ k .birth-kept)
-      (both-and (k .sex-kept)
-      (both-and (ap expiryRule (exact expiry 6 (fixed f .expiry-width)) ∙ k .expiry-kept)
-      name-sound)))))
+  pub sound : isSound told ≡ true
+  unfolding isSound isNumbered isNamed recordBy holding inText inRows same rank
+  sound = both-and shaped (both-and rules-kept (both-and number-sound name-sound))
 
 pub kept-and-sound : (source : Source) (t : List ℕ) → readText source t .outcome ≡ passed
     → (f : Form) × Keeps f t × Holds f t (readText source t .kept) × (isSound (readText source t .kept) ≡ true)

@@ -16,18 +16,18 @@ use Rattle.zone.specs.declared.form.Source.{Source}
 use Rattle.zone.specs.declared.form.Source.the-variants.{Alone}
 use Rattle.zone.specs.declared.record.Record.{Record}
 use Rattle.zone.specs.Alphabet.{isCharacter, isFiller, isLetter, firstFiller, every, filler}
-use Rattle.zone.specs.Part.{code, state, number, numberCheck, optional, birth, birthCheck, sex, expiry, expiryCheck, nationality}
+use Rattle.zone.specs.Part.{number, numberCheck, optional, birth, birthCheck, expiry, expiryCheck}
 use Rattle.zone.specs.Part.{name, personal, personalCheck, rank, same}
 use Rattle.zone.specs.Form.{mayStand, start, width, has, total, longest, field}
-use Rattle.zone.specs.Record.{trimmed, padded}
+use Rattle.zone.specs.Record.{trimmed, padded, plain, heldRows, held}
 use Rattle.zone.proofs.Widths.{fixed, name-room, ones, has-one}
-use Rattle.zone.proofs.Padded.{padded-nil, padded-exact, padded-trimmed, trimmed-length, padded-behind}
+use Rattle.zone.proofs.Padded.{padded-nil, padded-behind}
+use Rattle.zone.proofs.Holding.{same-holding}
 use Rattle.digit.specs.Check.{digitOf}
-use Rattle.field.specs.Code.{codeRule}
-use Rattle.field.specs.Letters.{stateRule, sexRule, nameRule, isNameCharacter}
-use Rattle.field.specs.Date.{birthRule, expiryRule}
+use Rattle.field.specs.Letters.{nameRule, isNameCharacter}
+use Rattle.field.specs.Rules.{rule}
 use Rattle.text_digits.specs.Number.{isLong, spanOf, numberBy}
-use Rattle.text.specs.Read.{Answer, readText, answered, recordBy}
+use Rattle.text.specs.Read.{Answer, readText, answered, inText, recordBy}
 use Rattle.sound.specs.Sound.{isSolid, isSound}
 use Rattle.writing.specs.Text.{numberIn, furtherIn, isWide, atCheck, inOptional, givenRows, textOf}
 use Rattle.zone.specs.Rows.{inRows}
@@ -41,16 +41,13 @@ use Rattle.zone.proofs.Trimmed.{trimmed-cut}
 use Rattle.sound.proofs.Solid.{solid, first-padded}
 use Rattle.digit.proofs.Written.{fillers-digit, digit-solid}
 use Rattle.writing.proofs.Further.{is-wide, further-all, further-fits}
-use Rattle.text_theorems.proofs.TextOfRecord.{length-text, shown, last-shown, one-shown, full-shown}
-use Rattle.text_theorems.proofs.TextOfRecord.{front-shown, text-pure}
+use Rattle.text_theorems.proofs.TextOfRecord.{length-text, shown, last-shown, one-shown, front-shown, text-pure}
+use Rattle.text_theorems.proofs.TextOfRecord.{plain-shown}
+use Rattle.text_theorems.proofs.RecordOfText.{in-text}
 
 and-false : (b : Bool) → b && false ≡ false
 and-false true = refl
 and-false false = refl
-
--- a list that fills its room is what its trimmed list is filled up to
-filled-again : (n : ℕ) (s : List ℕ) → length s ≡ n → padded n (trimmed s) ≡ s
-filled-again n s e = padded-trimmed n s ∙ padded-exact n s e
 
 module _ (r : Record) (s : Sound r) where
   abbrev f : Form
@@ -150,44 +147,20 @@ module _ (r : Record) (s : Sound r) where
       rw (getD-take (width f name) (r .name) 0 0 (omega (arith, s .name-some, s .name-fits)), both .0)
       (every-take isNameCharacter (width f name) (r .name) (both .1))
 
-  code-shown : field f code t ≡ r .code
-  unfolding givenRows inRows same rank
-  code-shown = full-shown r code 2 refl (fixed f .code-width) (s .code-places)
-
-  state-shown : field f state t ≡ r .state
-  unfolding givenRows inRows same rank
-  state-shown = full-shown r state 3 refl (fixed f .state-width) (s .state-places)
-
-  nationality-shown : field f nationality t ≡ r .nationality
-  unfolding givenRows inRows same rank
-  nationality-shown = full-shown r nationality 3 refl (fixed f .nationality-width) (s .nationality-places)
-
-  birth-shown : field f birth t ≡ r .birth
-  unfolding givenRows inRows same rank
-  birth-shown = full-shown r birth 6 refl (fixed f .birth-width) (s .birth-places)
-
-  expiry-shown : field f expiry t ≡ r .expiry
-  unfolding givenRows inRows same rank
-  expiry-shown = full-shown r expiry 6 refl (fixed f .expiry-width) (s .expiry-places)
-
-  sex-shown : getD t (start f sex) 0 ≡ r .sex
-  unfolding givenRows inRows same rank
-  sex-shown = one-shown r sex (r .sex) refl (fixed f .sex-width) refl
-
   birth-right : getD t (start f birthCheck) 0 ≡ digitOf (field f birth t)
-  unfolding givenRows inRows same rank
+  unfolding givenRows heldRows plain inRows same rank
   birth-right =
       one-shown r birthCheck (digitOf (take 6 (r .birth))) refl (ones f .birth-check-one) refl
-      ∙ ap digitOf (take-all 6 (r .birth) (omega (arith, s .birth-places)) ∙ sym birth-shown)
+      ∙ ap digitOf (take-all 6 (r .birth) (omega (arith, s .places birth refl)) ∙ sym (plain-shown r s birth refl))
 
   expiry-right : getD t (start f expiryCheck) 0 ≡ digitOf (field f expiry t)
-  unfolding givenRows inRows same rank
+  unfolding givenRows heldRows plain inRows same rank
   expiry-right =
       one-shown r expiryCheck (digitOf (take 6 (r .expiry))) refl (ones f .expiry-check-one) refl
-      ∙ ap digitOf (take-all 6 (r .expiry) (omega (arith, s .expiry-places)) ∙ sym expiry-shown)
+      ∙ ap digitOf (take-all 6 (r .expiry) (omega (arith, s .places expiry refl)) ∙ sym (plain-shown r s expiry refl))
 
   personal-right : has f personalCheck ≡ true → getD t (start f personalCheck) 0 ≡ digitOf (field f personal t)
-  unfolding givenRows inRows same rank
+  unfolding givenRows heldRows inRows same rank
   personal-right h =
       one-shown r personalCheck 0x30 refl (has-one f personalCheck (ones f .personal-check-most) h) refl
       ∙ sym (ap digitOf (shown r personal refl ∙ padded-nil (width f personal)) ∙ fillers-digit (width f personal))
@@ -196,14 +169,9 @@ module _ (r : Record) (s : Sound r) where
   text-keeps = record {
     size = length-text r;
     alphabet = each-every isCharacter t (text-pure r s);
-    code-kept = ap (codeRule f) code-shown ∙ s .code-kept;
-    state-kept = ap stateRule state-shown ∙ s .state-kept;
+    plain-kept = λ x p. ap (rule f x) (plain-shown r s x p) ∙ s .kept x p;
     number-begins = rw (nine-shown, getD-take 9 (r .number) 0 0 (omega arith)) (solid (getD (r .number) 0 0) (s .number-begins));
     number-ends = λ e. ends (sym long-shown ∙ e);
-    nationality-kept = ap stateRule nationality-shown ∙ s .nationality-kept;
-    birth-kept = ap birthRule birth-shown ∙ s .birth-kept;
-    sex-kept = ap sexRule sex-shown ∙ s .sex-kept;
-    expiry-kept = ap expiryRule expiry-shown ∙ s .expiry-kept;
     name-kept = ap nameRule name-shown ∙ name-rule;
     number-digit = λ e. check-shown ∙ short-digit (sym long-shown ∙ e) ∙ ap digitOf (sym nine-shown);
     long-digit = λ e. digit-shown (sym long-shown ∙ e) ∙ ap digitOf (sym (number-shown (sym long-shown ∙ e)));
@@ -215,36 +183,29 @@ module _ (r : Record) (s : Sound r) where
 
   -- ---- and is read as the record
 
-  number-read : numberBy f t (spanOf f t) ≡ trimmed (r .number)
+  number-read : numberBy f t (spanOf f t) ≡ numberIn r
   unfolding numberBy numberIn trimmed
   number-read = go (isWide r) refl
     where
-      go : (b : Bool) → isWide r ≡ b → numberBy f t (spanOf f t) ≡ trimmed (r .number)
+      go : (b : Bool) → isWide r ≡ b → numberBy f t (spanOf f t) ≡ take (r .«number_len») (r .number)
       go false e =
           rw (short-span f t (long-shown ∙ e), nine-shown)
-          (trimmed-cut 9 (r .number) (omega (arith, s .number-ends, not-wide e)))
+          (trimmed-cut 9 (r .number) (omega (arith, s .number-ends, not-wide e)) ∙ ap (λ n. take n (r .number)) (s .number-ends))
       go true e =
-          rw (long-span f t (long-shown ∙ e) (ends e .0) (ends e .1))
-          (number-shown e ∙ ap (λ n. take n (r .number)) (sym (s .number-ends)))
+          rw (long-span f t (long-shown ∙ e) (ends e .0) (ends e .1)) (number-shown e)
 
-  name-read : trimmed (field f name t) ≡ trimmed (r .name)
-  name-read = ap trimmed name-shown ∙ trimmed-cut (width f name) (r .name) (omega (arith, s .name-ends, s .name-fits))
+  name-read : trimmed (field f name t) ≡ take (r .«name_len») (r .name)
+  unfolding trimmed
+  name-read =
+      ap trimmed name-shown ∙ trimmed-cut (width f name) (r .name) (omega (arith, s .name-ends, s .name-fits))
+      ∙ ap (λ n. take n (r .name)) (s .name-ends)
 
   record-read : recordBy f t (spanOf f t) ≡ r
-  unfolding recordBy
-  record-read = λ i. record {
-    form = f;
-    code = (ap (padded 2) code-shown ∙ padded-exact 2 (r .code) (s .code-places)) i;
-    state = (ap (padded 3) state-shown ∙ padded-exact 3 (r .state) (s .state-places)) i;
-    number = (ap (padded 22) number-read ∙ filled-again 22 (r .number) (s .number-places)) i;
-    «number_len» = (ap length number-read ∙ trimmed-length (r .number) ∙ s .number-ends) i;
-    nationality = (ap (padded 3) nationality-shown ∙ padded-exact 3 (r .nationality) (s .nationality-places)) i;
-    birth = (ap (padded 6) birth-shown ∙ padded-exact 6 (r .birth) (s .birth-places)) i;
-    sex = sex-shown i;
-    expiry = (ap (padded 6) expiry-shown ∙ padded-exact 6 (r .expiry) (s .expiry-places)) i;
-    name = (ap (padded 39) name-read ∙ filled-again 39 (r .name) (s .name-places)) i;
-    «name_len» = (ap length name-read ∙ trimmed-length (r .name) ∙ s .name-ends) i;
-  }
+  unfolding recordBy inText heldRows inRows same rank numberIn
+  record-read =
+      same-holding f (inText f t (spanOf f t)) (held r) (λ x p. in-text f t (spanOf f t) x p ∙ plain-shown r s x p)
+      number-read name-read
+      ∙ s .again
 
   read-written : (source : Source) → mayStand source f ≡ true → readText source t ≡ record { outcome = passed; kept = r }
   unfolding answered

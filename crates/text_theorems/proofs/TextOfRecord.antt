@@ -5,19 +5,20 @@ use mathlib.Core.Bool.{Bool, true, false, cond}
 use mathlib.Core.List.{List, [], _∷_, _++_}
 use lib.ListN.{length, take, drop, getD}
 use Rattle.zone.specs.declared.record.Record.{Record}
-use Rattle.zone.specs.Part.{Part, composite, same}
+use Rattle.zone.specs.Part.{Part, code, state, nationality, birth, sex, expiry, composite, rank, same}
 use Rattle.zone.specs.Rows.{inRows}
 use Rattle.zone.specs.Alphabet.{isDigit, isLetter, isFiller, isCharacter, every, filler}
 use Rattle.zone.specs.Form.{layout, start, width, has, total, field, covered}
-use Rattle.zone.specs.Record.{padded}
+use Rattle.zone.specs.Record.{padded, isPlain, held}
 use Rattle.zone.proofs.Fields.{one-there}
 use Rattle.zone.proofs.Padded.{padded-exact, padded-full}
-use Rattle.zone.proofs.Parts.{same-self, in-rows, _and_, all-said}
+use Rattle.zone.proofs.Parts.{same-self, in-rows-or, _and_, all-said}
+use Rattle.zone.proofs.Holding.{each-plain, plain-width}
 use Rattle.zone.proofs.Widths.{ones, has-one}
 use Rattle.zone.proofs.Every.{every-append, every-take, every-drop}
 use Rattle.digit.specs.Check.{digitOf}
 use Rattle.digit.proofs.Written.{digit-character}
-use Rattle.sound.proofs.SoundRecord.{Sound}
+use Rattle.sound.proofs.SoundRecord.{Sound, held-pure}
 use Rattle.writing.specs.Text.{numberIn, furtherIn, isWide, atCheck, inOptional, givenRows, given, lastDigit, givenAll, textOf}
 use Rattle.writing.specs.Inner.Puts.{put}
 use Rattle.writing.proofs.CompositePlace.{covered-clear}
@@ -55,16 +56,12 @@ module _ (r : Record) where
       → getD (textOf r) (start (r .form) x) 0 ≡ c
   one-shown x c n w g = one-there (r .form) x (textOf r) c w (shown x n ∙ ap (padded (width (r .form) x)) g)
 
-  -- a field as wide as its part
-  pub full-shown : (x : Part) (m : ℕ) → same x composite ≡ false → width (r .form) x ≡ m → length (given r x) ≡ m
-      → field (r .form) x (textOf r) ≡ given r x
-  full-shown x m n w g = shown x n ∙ padded-exact (width (r .form) x) (given r x) (g ∙ sym w)
-
-  -- or wider
+  -- a field that is wider than its part
   pub front-shown : (x : Part) → same x composite ≡ false → width (r .form) x ≤ length (given r x)
       → field (r .form) x (textOf r) ≡ take (width (r .form) x) (given r x)
   front-shown x n w = shown x n ∙ padded-full (width (r .form) x) (given r x) w
-  -- ---- the characters
+
+-- ---- the characters
 
 one-pure : (c : ℕ) → isCharacter c ≡ true → every isCharacter (c ∷ []) ≡ true
 unfolding every
@@ -99,18 +96,21 @@ module _ (r : Record) (s : Sound r) where
   text-pure = every-in-place isCharacter (givenAll r) refl given-pure (layout (r .form))
     where
       given-pure : (x : Part) → every isCharacter (givenAll r x) ≡ true
-      given-pure = in-rows (λ x l. every isCharacter l ≡ true) [] _ (λ x. refl) (digit-pure _
-          and s .code-characters
-          and s .state-characters
-          and s .name-characters
+      given-pure = in-rows-or (λ x l. every isCharacter l ≡ true) (held r) _ (held-pure r s) (digit-pure _
           and s .number-characters
+          and s .name-characters
           and one-pure (atCheck r) check-pure
           and optional-pure
-          and s .nationality-characters
-          and s .birth-characters
           and digit-pure _
-          and one-pure (r .sex) (s .sex-character)
-          and s .expiry-characters
           and digit-pure _
           and refl
           and all-said)
+
+  -- a field of one width stands in its place
+  pub plain-shown : (x : Part) → isPlain x ≡ true → field (r .form) x (textOf r) ≡ held r x
+  unfolding givenRows inRows same rank
+  plain-shown x p =
+      each-plain (λ y n. field (r .form) y (textOf r) ≡ padded (width (r .form) y) (held r y))
+      (shown r code refl) (shown r state refl) (shown r nationality refl) (shown r birth refl) (shown r sex refl)
+      (shown r expiry refl) x p
+      ∙ padded-exact (width (r .form) x) (held r x) (s .places x p ∙ sym (plain-width (r .form) x p))

@@ -7,13 +7,13 @@ use mathlib.Core.List.{List, _++_}
 use lib.ListN.{length, take, getD}
 use Rattle.zone.specs.declared.form.Form.{Form}
 use Rattle.zone.specs.Alphabet.{isCharacter, isFiller, firstFiller}
-use Rattle.zone.specs.Part.{code, state, number, numberCheck, optional, birth, birthCheck, sex, expiry, expiryCheck}
-use Rattle.zone.specs.Part.{nationality, composite, name, personal, personalCheck}
+use Rattle.zone.specs.Part.{Part, number, numberCheck, optional, birth, birthCheck, expiry, expiryCheck, composite, name}
+use Rattle.zone.specs.Part.{personal, personalCheck}
 use Rattle.zone.specs.Form.{start, width, has, total, field, covered}
+use Rattle.zone.specs.Record.{isPlain}
 use Rattle.digit.specs.Check.{digitOf}
-use Rattle.field.specs.Code.{codeRule}
-use Rattle.field.specs.Letters.{stateRule, sexRule, nameRule}
-use Rattle.field.specs.Date.{birthRule, expiryRule}
+use Rattle.field.specs.Letters.{nameRule}
+use Rattle.field.specs.Rules.{rule}
 use Rattle.text_digits.specs.Number.{isLong}
 use Rattle.text_digits.specs.Digits.{isLeftOut}
 
@@ -24,14 +24,10 @@ fillerAt f t = firstFiller (field f optional t)
 pub record Keeps (f : Form) (t : List ℕ) : Type 0 where
   pub size : length t ≡ total f
   pub alphabet : (i : ℕ) → i < length t → isCharacter (getD t i 0) ≡ true
-  pub code-kept : codeRule f (field f code t) ≡ true
-  pub state-kept : stateRule (field f state t) ≡ true
+  -- of code, state, nationality, birth, sex and expiry
+  pub plain-kept : (x : Part) → isPlain x ≡ true → rule f x (field f x t) ≡ true
   pub number-begins : isFiller (getD (field f number t) 0 0) ≡ false
   pub number-ends : isLong f t ≡ true → (2 ≤ fillerAt f t) × (fillerAt f t < width f optional)
-  pub nationality-kept : stateRule (field f nationality t) ≡ true
-  pub birth-kept : birthRule (field f birth t) ≡ true
-  pub sex-kept : sexRule (getD t (start f sex) 0) ≡ true
-  pub expiry-kept : expiryRule (field f expiry t) ≡ true
   pub name-kept : nameRule (field f name t) ≡ true
   pub number-digit : isLong f t ≡ false → getD t (start f numberCheck) 0 ≡ digitOf (field f number t)
   pub long-digit : isLong f t ≡ true

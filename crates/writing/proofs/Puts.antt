@@ -9,9 +9,10 @@ use Rattle.zone.specs.declared.record.Record.{Record}
 use Rattle.zone.specs.Alphabet.{filler}
 use Rattle.zone.specs.Part.{Part, code, state, number, numberCheck, optional, birth, birthCheck, sex, expiry, expiryCheck}
 use Rattle.zone.specs.Part.{nationality, composite, name, personalCheck, rank, same, among}
-use Rattle.zone.specs.Rows.{inRows}
+use Rattle.zone.specs.Rows.{PartRow, inRows, allRows}
+use Rattle.zone.specs.Record.{heldRows, held}
 use Rattle.zone.specs.Form.{layout, start, width, has, total, covered}
-use Rattle.zone.proofs.Parts.{same-one, in-rows, _and_, all-said}
+use Rattle.zone.proofs.Parts.{same-one, OfRows, in-rows-or, in-rows, rows-then, rows-pass}
 use Rattle.zone.proofs.Widths.{fixed, ones}
 use Rattle.digit.specs.Check.{digitOf}
 use Rattle.writing.specs.Text.{numberIn, furtherIn, isWide, atCheck, inOptional, givenRows, given, inPlace, beforeLast}
@@ -49,11 +50,11 @@ module _ (r : Record) where
 
   module _ (t : List ℕ) (e : length t ≡ total (r .form)) where
     opening : putOpening r t ≡ written (state ∷ code ∷ []) t
-    unfolding putOpening written givenRows inRows same rank
+    unfolding putOpening written givenRows heldRows inRows same rank
     opening = refl
 
     dates : putDates r t ≡ written (expiryCheck ∷ expiry ∷ birthCheck ∷ birth ∷ []) t
-    unfolding putDates written givenRows inRows same rank
+    unfolding putDates written givenRows heldRows inRows same rank
     dates =
         rw (
           mark-put r birthCheck (digitOf (take 6 (r .birth))) (written (birth ∷ []) t) (length-written (birth ∷ []) t e)
@@ -63,7 +64,7 @@ module _ (r : Record) where
         )
 
     person : putPerson r t ≡ written (name ∷ sex ∷ nationality ∷ []) t
-    unfolding putPerson written givenRows inRows same rank
+    unfolding putPerson written givenRows heldRows inRows same rank
     person = rw (mark-put r sex (r .sex) (written (nationality ∷ []) t) (length-written (nationality ∷ []) t e)
         (single (fixed (r .form) .sex-width)))
 
@@ -151,26 +152,18 @@ module _ (r : Record) where
 
   -- all that are given anything are among them
   all-given : (y : Part) → onlyIn whole y ≡ given r y
-  unfolding onlyIn whole givenRows among same rank
-  all-given = in-rows (λ y l. cond (among y whole) l [] ≡ l) [] (givenRows r) (λ y. either (among y whole))
-      (refl
-      and refl
-      and refl
-      and refl
-      and refl
-      and refl
-      and refl
-      and refl
-      and refl
-      and refl
-      and refl
-      and refl
-      and refl
-      and all-said)
+  unfolding onlyIn whole givenRows heldRows allRows among same rank
+  all-given = in-rows-or (λ y l. cond (among y whole) l [] ≡ l) (held r) (givenRows r)
+      (in-rows (λ y l. cond (among y whole) l [] ≡ l) [] (heldRows r) (λ y. either (among y whole)) (here (heldRows r) refl))
+      (here (givenRows r) refl)
     where
       either : (b : Bool) → cond {A = List ℕ} b [] [] ≡ []
       either true = refl
       either false = refl
+
+      here : (rows : List (PartRow (List ℕ))) → allRows (λ y l. among y whole) rows ≡ true
+          → OfRows (λ y l. cond (among y whole) l [] ≡ l) rows
+      here rows e = rows-then rows (λ y l h. rw h) (rows-pass (λ y l. among y whole) rows e)
 
   before-in-place : written whole blanks ≡ beforeLast r
   unfolding beforeLast whole once among same rank
@@ -184,7 +177,7 @@ module _ (r : Record) where
 
   -- the composite digit is put last
   pub text-put : put r composite (lastDigit r ∷ []) (beforeLast r) ≡ textOf r
-  unfolding put beforeLast textOf givenRows inRows same rank
+  unfolding put beforeLast textOf givenRows heldRows inRows same rank
   text-put = put-in-place (r .form) (given r) composite (lastDigit r ∷ []) refl
 
   pub put-text : (t : List ℕ) → length t ≡ total (r .form)

@@ -6,13 +6,12 @@ use mathlib.Core.Bool.{Bool, cond}
 use mathlib.Core.List.{List, [], _∷_, _++_}
 use lib.Dec.{ltb}
 use lib.ListN.{take, drop}
-use Rattle.zone.specs.Part.{Part, code, state, number, numberCheck, optional, birth, birthCheck, sex, expiry, expiryCheck}
-use Rattle.zone.specs.Part.{nationality, composite, name, personalCheck}
+use Rattle.zone.specs.Part.{Part, number, numberCheck, optional, birthCheck, expiryCheck, composite, name, personalCheck}
 use Rattle.zone.specs.Rows.{PartRow, _is_, inRows}
 use Rattle.zone.specs.Alphabet.{filler}
 use Rattle.zone.specs.Rooms.{dateRoom, nine, further}
 use Rattle.zone.specs.Form.{Cell, _of_, layout, covered}
-use Rattle.zone.specs.Record.{padded}
+use Rattle.zone.specs.Record.{padded, held}
 use Rattle.zone.specs.declared.record.Record.{Record}
 use Rattle.digit.specs.Check.{digitOf}
 
@@ -38,26 +37,21 @@ atCheck r = cond (isWide r) filler (digitOf (take nine (r .number)))
 unfoldable pub inOptional : Record → List ℕ
 inOptional r = cond (isWide r) (furtherIn r ++ (digitOf (numberIn r) ∷ [])) []
 
--- what each part is given, but for the composite; one that is not here is not given anything. 0 is TD3's personal check
+-- what each part is given, but for the composite: the rooms of number and name, check digits, 0 as TD3's personal check; every other
+-- what the record holds of it
 unfoldable pub givenRows : Record → List (PartRow (List ℕ))
 givenRows r =
-    code is (r .code)
-    ∷ state is (r .state)
+    number is (r .number)
     ∷ name is (r .name)
-    ∷ number is (r .number)
     ∷ numberCheck is (atCheck r ∷ [])
     ∷ optional is inOptional r
-    ∷ nationality is (r .nationality)
-    ∷ birth is (r .birth)
     ∷ birthCheck is (digitOf (take dateRoom (r .birth)) ∷ [])
-    ∷ sex is (r .sex ∷ [])
-    ∷ expiry is (r .expiry)
     ∷ expiryCheck is (digitOf (take dateRoom (r .expiry)) ∷ [])
     ∷ personalCheck is (char.code "0" ∷ [])
     ∷ []
 
 abbrev pub given : Record → Part → List ℕ
-given r x = inRows [] (givenRows r) x
+given r x = inRows (held r x) (givenRows r) x
 
 -- the parts in their order
 unfoldable pub inPlace : (Part → List ℕ) → List Cell → List ℕ
@@ -72,7 +66,7 @@ unfoldable pub lastDigit : Record → ℕ
 lastDigit r = digitOf (covered (r .form) (beforeLast r))
 
 abbrev pub givenAll : Record → Part → List ℕ
-givenAll r x = inRows [] (composite is (lastDigit r ∷ []) ∷ givenRows r) x
+givenAll r x = inRows (held r x) (composite is (lastDigit r ∷ []) ∷ givenRows r) x
 
 unfoldable pub textOf : Record → List ℕ
 textOf r = inPlace (givenAll r) (layout (r .form))

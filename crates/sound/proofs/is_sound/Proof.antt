@@ -12,8 +12,9 @@ is-sound-spec =
     (tie.spec
     (λ c κs. search needs)
     (λ c κs. search needs)
+    (λ c κs. search needs)
     (λ c.
-    let r = c .before .before .args .r in
+    let r = c .before .before .before .args .r in
     let first = shaped r (search needs) (search needs) (search needs) in
     let fits = first (search needs) (search needs) (search needs) (search needs) in
-    rw (c .is-holder .ensures, c .before .is-document .ensures, fits)))
+    rw (c .is-named .ensures, c .before .is-numbered .ensures, c .before .before .keeps-rules .ensures, fits)))

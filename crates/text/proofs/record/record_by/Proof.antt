@@ -3,13 +3,16 @@ use borrow.Author.Needs.{needs}
 use Rattle.zone.proofs.Widths.{fixed}
 use Rattle.zone.specs.Form.{field}
 use Rattle.zone.specs.Inner.Places.{placesOf}
-use Rattle.text.specs.Read.{recordBy}
+use Rattle.zone.specs.Part.{rank, same}
+use Rattle.zone.specs.Rows.{inRows}
+use Rattle.zone.specs.Record.{holding}
+use Rattle.text.specs.Read.{recordBy, inText}
 use Rattle.text.proofs.NameEnds.{name-ends}
 use Rattle.text.proofs.record.record_by.Statement.{statement}
 use Rattle.text.proofs.record.record_by.Tie as tie
 
 returns : tie.Need-returns
-unfolding recordBy placesOf field
+unfolding recordBy holding inText inRows same rank placesOf field
 returns c =
     let early = c .before .before .before .before .before .before in
     let form = early .before .before .before .before .before .before .before .args .form in
@@ -19,7 +22,7 @@ returns c =
       c .before .before .name-chars .ensures,
       name-ends form,
       c .before .before .before .date-at2 .ensures,
-      c .before .before .before .before .octet .ensures,
+      c .before .before .before .before .sex-at .ensures,
       c .before .before .before .before .before .date-at .ensures,
       early .state-at2 .ensures,
       early .before .number-length .ensures,
@@ -31,6 +34,7 @@ returns c =
       widths .state-width,
       widths .nationality-width,
       widths .birth-width,
+      widths .sex-width,
       widths .expiry-width,
     )
 
