@@ -33,15 +33,15 @@ use Rattle.cells.proofs.RowOctets.{length-octets, octets-cut, whole-octets, no-
 use Rattle.entry.specs.Codes.{formCode, sexCode}
 use Rattle.entry.specs.Row.{row, cells}
 use Rattle.entry.specs.Entry.{keyValues, restValues, valuesOf, entryOf, size, isHouse}
-use Rattle.units.specs.Packed.{on, packed, packedOver, packedOnOver}
+use Rattle.packing.specs.Packed.{on, packed, packedOver, packedOnOver}
 use Rattle.entry.specs.Inner.Units.{frontOctets, frontFours, frontUnits, allUnits, allOctets, restFours}
 use Rattle.entry.specs.Inner.Units.{before, front, rest, unitsOf}
 use Rattle.entry.proofs.Coded.{codes-held}
 use Rattle.zone.proofs.FormTold.{entered-tells}
 use Rattle.entry.proofs.Sexes.{sex-tells}
-use Rattle.units.proofs.Packing.{length-packed, pack-room, pack-on-room}
+use Rattle.packing.proofs.Packing.{length-packed, pack-room, pack-on-room}
 use Rattle.entry.proofs.Placing.{sound-before}
-use Rattle.units.proofs.UnitBits.{put-more, octets-packed}
+use Rattle.packing.proofs.UnitBits.{put-more, octets-packed}
 use Rattle.entry.proofs.Values.{house-range, name-taken, name-coded}
 
 -- ---- house and form, and the sex

@@ -1,4 +1,2 @@
 -- The laws of this crate.
-pub mod Packing  -- the loops over units: their codes, and `packed`
-pub mod UnitBits  -- units of six bits as bits
 pub mod Reading  -- bits, and four characters in four octets, as the code works them out

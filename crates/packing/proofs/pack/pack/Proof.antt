@@ -1,9 +1,9 @@
 -- Where there is room, the loop.
 use borrow.Author.Needs.{needs}
 use borrow.Author.Tests.{le-leb, lt-leb}
-use Rattle.units.specs.Packed.{packedOver}
-use Rattle.units.proofs.pack.pack.Statement.{statement}
-use Rattle.units.proofs.pack.pack.Tie as tie
+use Rattle.packing.specs.Packed.{packedOver}
+use Rattle.packing.proofs.pack.pack.Statement.{statement}
+use Rattle.packing.proofs.pack.pack.Tie as tie
 
 returns : tie.Need-returns
 unfolding packedOver

@@ -17,7 +17,7 @@ use Rattle.cells.proofs.Gather.{put-low, put-halves, put-split}
 use Rattle.cells.proofs.BitsOfOctets.{drop-put}
 use Rattle.cells.proofs.OctetsOfBits.{gathered-eight}
 use Rattle.cells.proofs.Fitting.{isHeld}
-use Rattle.units.specs.Packed.{four, fourAt, fourOn, packed}
+use Rattle.packing.specs.Packed.{four, fourAt, fourOn, packed}
 
 -- a number behind another
 pub put-more : (k w v u : ℕ) (t : List ℕ) → u < 2 ^ w → put k v (put w u t) ≡ put (k + w) (v * 2 ^ w + u) t

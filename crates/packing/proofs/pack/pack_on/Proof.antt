@@ -1,9 +1,9 @@
 -- Where there is room, the loop.
 use borrow.Author.Needs.{needs}
 use borrow.Author.Tests.{le-leb, lt-leb, lt-ltb, le-ltb}
-use Rattle.units.specs.Packed.{packedOnOver}
-use Rattle.units.proofs.pack.pack_on.Statement.{statement}
-use Rattle.units.proofs.pack.pack_on.Tie as tie
+use Rattle.packing.specs.Packed.{packedOnOver}
+use Rattle.packing.proofs.pack.pack_on.Statement.{statement}
+use Rattle.packing.proofs.pack.pack_on.Tie as tie
 
 returns : tie.Need-returns
 unfolding packedOnOver

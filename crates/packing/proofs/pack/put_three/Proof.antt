@@ -1,8 +1,8 @@
 -- Three stores.
 use borrow.Author.Needs.{needs}
 use lib.ListN.{length-set}
-use Rattle.units.proofs.pack.put_three.Statement.{statement}
-use Rattle.units.proofs.pack.put_three.Tie as tie
+use Rattle.packing.proofs.pack.put_three.Statement.{statement}
+use Rattle.packing.proofs.pack.put_three.Tie as tie
 
 pub put-three-spec : {M : Type 1} → statement M
 put-three-spec =

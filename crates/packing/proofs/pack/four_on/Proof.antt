@@ -1,8 +1,8 @@
 -- The four, and of the next unit what stands above.
 use borrow.Author.Needs.{needs}
-use Rattle.units.specs.Packed.{fourOn}
-use Rattle.units.proofs.pack.four_on.Statement.{statement}
-use Rattle.units.proofs.pack.four_on.Tie as tie
+use Rattle.packing.specs.Packed.{fourOn}
+use Rattle.packing.proofs.pack.four_on.Statement.{statement}
+use Rattle.packing.proofs.pack.four_on.Tie as tie
 
 returns : tie.Need-returns
 unfolding fourOn

@@ -5,8 +5,8 @@ ghost use Prim.Native.Nat.{_+_, _*_, _/_, _%_, _≤_, _<_};
 ghost use lib.ListN.{length, set};
 ghost use Rattle.lent.specs.Copied.{copied};
 ghost use Rattle.zone.specs.Codes.{codeOf};
-ghost use Rattle.units.specs.Packed.{on, fourAt, fourOn, packed, packedOver, packedOnOver};
-use crate::bits::wide;
+ghost use Rattle.packing.specs.Packed.{on, fourAt, fourOn, packed, packedOver, packedOnOver};
+use units::bits::wide;
 use zone::codes::code_of;
 
 // Every character becomes its code. Every octet is stored, so that the compiler takes many at a time.

@@ -7,8 +7,8 @@ use borrow.Author.Needs.{needs}
 use lib.ListN.{length, take, drop, length-set}
 use Rattle.lent.proofs.Changed.{map-step, map-done}
 use Rattle.zone.specs.Codes.{codeOf}
-use Rattle.units.proofs.pack.to_codes.Statement.{statement}
-use Rattle.units.proofs.pack.to_codes.Tie as tie
+use Rattle.packing.proofs.pack.to_codes.Statement.{statement}
+use Rattle.packing.proofs.pack.to_codes.Tie as tie
 
 abbrev Inv-loop : tie.InvT-loop
 Inv-loop s₀ i₀ s i = (i ≤ length s₀) × (length s ≡ length s₀) × (take i s ++ map codeOf (drop i s) ≡ map codeOf s₀)

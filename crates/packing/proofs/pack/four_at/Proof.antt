@@ -1,8 +1,8 @@
 -- Each octet is the unit at its place.
 use borrow.Author.Needs.{needs}
-use Rattle.units.specs.Packed.{fourAt}
-use Rattle.units.proofs.pack.four_at.Statement.{statement}
-use Rattle.units.proofs.pack.four_at.Tie as tie
+use Rattle.packing.specs.Packed.{fourAt}
+use Rattle.packing.proofs.pack.four_at.Statement.{statement}
+use Rattle.packing.proofs.pack.four_at.Tie as tie
 
 returns : tie.Need-returns
 unfolding fourAt

@@ -9,7 +9,7 @@ use lib.ListN.{length, take, drop, getD, set}
 use lib.Seq.{getD-drop}
 use Rattle.lent.specs.Copied.{copied}
 use Rattle.lent.proofs.Lists.{copy-more, copy-ends}
-use Rattle.units.specs.Packed.{on, fourAt, fourOn, packed, packedOver, packedOnOver}
+use Rattle.packing.specs.Packed.{on, fourAt, fourOn, packed, packedOver, packedOnOver}
 
 -- ---- the loop that packs
 
