@@ -19,9 +19,10 @@ use Rattle.writing.specs.Text.{textOf}
 use Rattle.entry.specs.Entry.{entryOf, isHouse}
 use Rattle.entry.proofs.Values.{length-entry}
 use Rattle.entry.proofs.Entered.{entered}
-use Rattle.lamphudet.specs.Answer.{inC}
-use Rattle.lamphudet.specs.Calls.{readAnswer, readOut, isOnly, writtenAnswer, writtenOut}
-use Rattle.lamphudet.specs.Opened.{openedInC, recordInC}
+use Rattle.border.specs.Answer.{inC}
+use Rattle.border.specs.Calls.{isOnly, writtenAnswer, writtenOut}
+use Rattle.lamphudet.specs.Calls.{readAnswer, readOut}
+use Rattle.border.specs.Opened.{openedInC, recordInC}
 use Rattle.text_theorems.proofs.RoundTrip.{text-read-back}
 use Rattle.run_theorems.specs.Entered.{Leaves}
 use Rattle.run_theorems.proofs.ListReadBack.{kept-both}

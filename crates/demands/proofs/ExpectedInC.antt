@@ -11,8 +11,9 @@ use Rattle.text.specs.Read.{readText}
 use Rattle.chip.specs.Presentation.{readPresentation}
 use Rattle.sha256.specs.Answer.{digestAnswer}
 use Rattle.runs.specs.Run as run
-use Rattle.lamphudet.specs.Answer.{inC}
-use Rattle.lamphudet.specs.Calls.{readAnswer, writtenAnswer, nextInC}
+use Rattle.border.specs.Answer.{inC}
+use Rattle.border.specs.Calls.{writtenAnswer, nextInC}
+use Rattle.lamphudet.specs.Calls.{readAnswer}
 use Rattle.text_theorems.proofs.Expected.{nine-tells}
 use Rattle.presentation_theorems.proofs.Expected.{presentation-nine}
 use Rattle.run_theorems.proofs.OneAnswer.{refused-here}

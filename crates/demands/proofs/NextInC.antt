@@ -8,8 +8,8 @@ use native.Mathlib.Omega.{arith}
 use lib.ListN.{length}
 use Rattle.refusal.specs.Numbers.{Why, by}
 use Rattle.runs.specs.Run.{Onward, next, none, refused, readEntry}
-use Rattle.lamphudet.specs.declared.received.AnswerInC.{AnswerInC}
-use Rattle.lamphudet.specs.Calls.{nextInC}
+use Rattle.border.specs.declared.received.AnswerInC.{AnswerInC}
+use Rattle.border.specs.Calls.{nextInC}
 use Rattle.run_theorems.proofs.ListReadBack.{end-read}
 use Rattle.run_theorems.proofs.OneAnswer.{none-end, next-behind, refused-here}
 

@@ -15,9 +15,10 @@ use Rattle.text.specs.Read.{readText}
 use Rattle.chip.specs.Presentation.{readPresentation}
 use Rattle.sha256.specs.Answer.{digestAnswer}
 use Rattle.runs.specs.Run.{readEntry}
-use Rattle.lamphudet.specs.Answer.{inC}
-use Rattle.lamphudet.specs.Calls.{readAnswer, isOnly, writtenAnswer}
-use Rattle.lamphudet.specs.Opened.{openedInC, recordInC}
+use Rattle.border.specs.Answer.{inC}
+use Rattle.border.specs.Calls.{isOnly, writtenAnswer}
+use Rattle.lamphudet.specs.Calls.{readAnswer}
+use Rattle.border.specs.Opened.{openedInC, recordInC}
 use Rattle.text_theorems.proofs.Expected.{text-numbered}
 use Rattle.presentation_theorems.proofs.Expected.{presentation-numbered}
 use Rattle.run_theorems.proofs.NumbersEntered.{zero-no-refusal}

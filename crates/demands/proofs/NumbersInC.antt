@@ -1,7 +1,7 @@
 -- The numbers that C receives of a call that writes are those of its answer.
 use mathlib.Core.Path.{_≡_, refl}
 use Rattle.refusal.specs.Length.{Length, written, refused}
-use Rattle.lamphudet.specs.Answer.{inC}
+use Rattle.border.specs.Answer.{inC}
 use Rattle.run_theorems.specs.Expected.{numberTold, valueTold}
 
 pub number-in-c : (l : Length) → inC l .number ≡ numberTold l

@@ -11,7 +11,7 @@ use Rattle.refusal.specs.Calls.{ofText, ofPresentation}
 use Rattle.text.specs.Read.{Answer, readText}
 use Rattle.chip.specs.Presentation.{readPresentation}
 use Rattle.entry.proofs.Entered.{Enters}
-use Rattle.lamphudet.specs.Answer.{inC}
+use Rattle.border.specs.Answer.{inC}
 use Rattle.lamphudet.specs.Calls.{readAnswer, readOut}
 use Rattle.text_theorems.proofs.Expected.{text-numbered}
 use Rattle.presentation_theorems.proofs.Expected.{presentation-numbered}

@@ -21,8 +21,8 @@ use Rattle.writing.specs.Text.{textOf}
 use Rattle.writing.specs.Answer.{textAnswer, textOut}
 use Rattle.entry.specs.Entry.{entryOf, isHouse}
 use Rattle.runs.specs.Run.{Onward, next, none, refused, readEntry}
-use Rattle.lamphudet.specs.Answer.{inC}
-use Rattle.lamphudet.specs.Calls.{isOnly, writtenAnswer, writtenOut}
+use Rattle.border.specs.Answer.{inC}
+use Rattle.border.specs.Calls.{isOnly, writtenAnswer, writtenOut}
 use Rattle.text_theorems.proofs.RoundTrip.{text-length}
 use Rattle.run_theorems.specs.Runs.{Line, isKept}
 use Rattle.run_theorems.specs.Entered.{Leaves}

@@ -17,7 +17,7 @@ use Rattle.sound.specs.Sound.{isSound}
 use Rattle.sha256.specs.Answer.{digestAnswer}
 use Rattle.writing.specs.Answer.{textAnswer}
 use Rattle.runs.specs.Run.{readEntry}
-use Rattle.lamphudet.specs.Calls.{isOnly, writtenAnswer}
+use Rattle.border.specs.Calls.{isOnly, writtenAnswer}
 
 module _ (P : Length → Type 0) (ends : (n : ℕ) → P (written n))
     (denies : (n q : ℕ) → (n ≡ 0 → ⊥) → (n ≡ 9 → ⊥) → P (refused (by n) q)) where

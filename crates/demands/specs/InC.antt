@@ -5,8 +5,8 @@ use mathlib.Core.List.{List}
 use Rattle.zone.specs.declared.form.Source.the-variants.{Alone}
 use Rattle.text.specs.Read.{Answer, readText}
 use Rattle.chip.specs.Presentation.{readPresentation}
-use Rattle.lamphudet.specs.declared.received.AnswerInC.{AnswerInC}
-use Rattle.lamphudet.specs.Answer.{inC}
+use Rattle.border.specs.declared.received.AnswerInC.{AnswerInC}
+use Rattle.border.specs.Answer.{inC}
 use Rattle.lamphudet.specs.Calls.{readAnswer}
 
 -- `lamphudet_read_text`

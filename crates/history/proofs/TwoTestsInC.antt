@@ -3,7 +3,7 @@ use Prim.Native.Nat.{ℕ}
 use mathlib.Core.Path.{_≡_}
 use mathlib.Core.List.{List}
 use Rattle.chip.specs.Presentation.{readPresentation}
-use Rattle.lamphudet.specs.Answer.{inC}
+use Rattle.border.specs.Answer.{inC}
 use Rattle.lamphudet.specs.Calls.{readAnswer, readOut}
 use Rattle.history.specs.TwoTests as tested
 use Rattle.history.proofs.TwoTests.{presentation-same}

@@ -6,20 +6,17 @@ ghost use Rattle.text.specs.Read.{readText};
 ghost use Rattle.chip.specs.Presentation.{readPresentation, groupStretch};
 ghost use Rattle.sha256.specs.Answer.{digestAnswer, digestOut};
 ghost use Rattle.runs.specs.Run.{readEntry};
-ghost use Rattle.lamphudet.specs.Answer.{inC};
-ghost use Rattle.lamphudet.specs.Calls.{readAnswer, readOut, writtenAnswer, writtenOut, nextInC, stretchInC};
-ghost use Rattle.lamphudet.specs.Opened.{openedInC};
-use crate::border::in_c;
-use crate::border::next_in_c;
-use crate::border::stretch_in_c;
-use crate::received::AnswerInC;
-use crate::received::RecordInC;
-use crate::received::StretchInC;
+ghost use Rattle.border.specs.Answer.{inC};
+ghost use Rattle.border.specs.Calls.{writtenAnswer, writtenOut, nextInC, stretchInC};
+ghost use Rattle.lamphudet.specs.Calls.{readAnswer, readOut};
+ghost use Rattle.border.specs.Opened.{openedInC};
+use border::answer::in_c;
+use border::answer::next_in_c;
+use border::answer::stretch_in_c;
+use border::received::AnswerInC;
+use border::received::RecordInC;
+use border::received::StretchInC;
 use zone::form::Source;
-
-mod as_entry;
-mod border;
-pub mod received;
 
 // A text is read, and its record entered under a house.
 #[no_mangle]
@@ -55,7 +52,7 @@ pub extern "C" fn lamphudet_write_text(entry: &[u8], text: &mut [u8]) -> AnswerI
     ensures { λ r. ⌜ r ≡ inC (writtenAnswer (now (entry .entry)) (now (text .entry))) ⌝ }
     ensures { λ _. ⌜ now (text .exit) ≡ writtenOut (now (entry .entry)) (now (text .entry)) ⌝ }
 {
-    in_c(as_entry::write_one(entry, text))
+    in_c(border::as_entry::write_one(entry, text))
 }
 
 // The house and the record of exactly one entry.
@@ -63,7 +60,7 @@ pub extern "C" fn lamphudet_write_text(entry: &[u8], text: &mut [u8]) -> AnswerI
 pub extern "C" fn lamphudet_open_entry(entry: &[u8]) -> RecordInC
     ensures { λ r. ⌜ r ≡ openedInC (now (entry .entry)) ⌝ }
 {
-    as_entry::open_one(entry)
+    border::as_entry::open_one(entry)
 }
 
 // Where a run of entries goes on.

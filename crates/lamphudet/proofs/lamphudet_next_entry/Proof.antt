@@ -2,7 +2,7 @@
 use borrow.Author.Needs.{needs}
 use mathlib.Core.Path.{ap, _∙_}
 use Rattle.runs.specs.Run.{Standing, standingOf}
-use Rattle.lamphudet.specs.Calls.{nextInC}
+use Rattle.border.specs.Calls.{nextInC}
 use Rattle.lamphudet.proofs.lamphudet_next_entry.Statement.{statement}
 use Rattle.lamphudet.proofs.lamphudet_next_entry.Tie as tie
 
