@@ -23,7 +23,7 @@ use Rattle.zone.specs.Record.{blank}
 use Rattle.text.specs.Read.{readText}
 use Rattle.text.proofs.Within.{text-within}
 use Rattle.sha256.specs.Hash.{sha256}
-use Rattle.sha256.specs.Answer.{digestAnswer, digestOut}
+use Rattle.digest.specs.Answer.{digestAnswer, digestOut}
 use Rattle.sha256.proofs.DigestLength.{digest-length}
 use Rattle.writing.specs.Answer.{textAnswer, textOut}
 use Rattle.runs.specs.Run as run

@@ -9,7 +9,7 @@ use Rattle.refusal.specs.Outcome.{Outcome}
 use Rattle.refusal.specs.Length as told
 use Rattle.text.specs.Read.{readText}
 use Rattle.chip.specs.Presentation.{readPresentation}
-use Rattle.sha256.specs.Answer.{digestAnswer}
+use Rattle.digest.specs.Answer.{digestAnswer}
 use Rattle.runs.specs.Run as run
 use Rattle.border.specs.Answer.{inC}
 use Rattle.border.specs.Calls.{writtenAnswer, nextInC}

@@ -6,7 +6,7 @@ use native.Mathlib.Omega.{arith}
 use Rattle.refusal.specs.Outcome.{Outcome, passed, refused}
 use Rattle.refusal.specs.declared.Written.{Written}
 use Rattle.refusal.proofs.Numbers.{refused-tells, outcome-tells, length-tells}
-use Rattle.sha256.specs.Answer.{Digests}
+use Rattle.digest.specs.Answer.{Digests}
 use Rattle.zone.specs.declared.form.Source.the-variants.{Alone}
 use Rattle.zone.specs.declared.record.Record.{Record}
 use Rattle.text.specs.declared.read.Reading.{Reading}

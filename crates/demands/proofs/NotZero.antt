@@ -13,7 +13,7 @@ use Rattle.refusal.specs.Length.{Length, written, refused}
 use Rattle.refusal.proofs.Outcomes.{refused-not-written}
 use Rattle.text.specs.Read.{readText}
 use Rattle.chip.specs.Presentation.{readPresentation}
-use Rattle.sha256.specs.Answer.{digestAnswer}
+use Rattle.digest.specs.Answer.{digestAnswer}
 use Rattle.runs.specs.Run.{readEntry}
 use Rattle.border.specs.Answer.{inC}
 use Rattle.border.specs.Calls.{isOnly, writtenAnswer}

@@ -14,7 +14,7 @@ use Rattle.refusal.proofs.Output.{write-each}
 use Rattle.zone.specs.declared.record.Record.{Record}
 use Rattle.zone.specs.Form.{total}
 use Rattle.sound.specs.Sound.{isSound}
-use Rattle.sha256.specs.Answer.{digestAnswer}
+use Rattle.digest.specs.Answer.{digestAnswer}
 use Rattle.writing.specs.Answer.{textAnswer}
 use Rattle.runs.specs.Run.{readEntry}
 use Rattle.border.specs.Calls.{isOnly, writtenAnswer}

@@ -4,7 +4,7 @@ ghost use mathlib.Core.Path.{_≡_};
 ghost use Rattle.zone.specs.declared.form.Source.the-variants.{Alone};
 ghost use Rattle.text.specs.Read.{readText};
 ghost use Rattle.chip.specs.Presentation.{readPresentation, groupStretch};
-ghost use Rattle.sha256.specs.Answer.{digestAnswer, digestOut};
+ghost use Rattle.digest.specs.Answer.{digestAnswer, digestOut};
 ghost use Rattle.runs.specs.Run.{readEntry};
 ghost use Rattle.border.specs.Answer.{inC};
 ghost use Rattle.border.specs.Calls.{writtenAnswer, writtenOut, nextInC, stretchInC};
@@ -79,7 +79,7 @@ pub extern "C" fn lamphudet_digest(input: &[u8], digest: &mut [u8]) -> AnswerInC
     ensures { λ r. ⌜ r ≡ inC (digestAnswer (now (input .entry)) (now (digest .entry))) ⌝ }
     ensures { λ _. ⌜ now (digest .exit) ≡ digestOut (now (input .entry)) (now (digest .entry)) ⌝ }
 {
-    in_c(sha256::digest(input, digest))
+    in_c(digest::digest(input, digest))
 }
 
 // Where the file of a group stands in a presentation.

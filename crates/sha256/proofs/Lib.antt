@@ -1,9 +1,5 @@
 -- lists: parts, runs of one element, several stores
 pub mod ListLaws
--- bitwise formulas that agree on single bits; Ch and Maj
-pub mod BitLaws
--- rotations of words of any width
-pub mod RotationLaws
 -- numbers and words as octets
 pub mod OctetLaws
 -- the words of a block's schedule

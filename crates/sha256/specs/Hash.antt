@@ -2,8 +2,8 @@
 use mathlib.Core.List.{List, [], _∷_, _++_}
 use Prim.Native.Nat.{ℕ, zero, suc, _-_, _/_}
 use lib.ListN.{length, getD, take, drop}
-use Rattle.sha256.specs.Words.{_⊞_}
-use Rattle.sha256.specs.Functions.{Ch, Maj, Σ0, Σ1, σ0, σ1}
+use Rattle.sha256_words.specs.Words.{_⊞_}
+use Rattle.sha256_words.specs.Functions.{Ch, Maj, Σ0, Σ1, σ0, σ1}
 use Rattle.sha256.specs.Constants.{K, H0}
 use Rattle.sha256.specs.Padding.{padded}
 use Rattle.sha256.specs.Parsing.{word, joined}

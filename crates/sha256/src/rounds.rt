@@ -7,7 +7,7 @@ ghost use Rattle.sha256.specs.Hash as S;
 ghost use Rattle.sha256.specs.Inner.Ring as R;
 use super::constants;
 use super::schedule;
-use super::words;
+use sha256_words::words;
 
 // The working variables.
 pub struct Working {

@@ -6,7 +6,7 @@ ghost use Rattle.sha256.specs.Parsing as Q;
 ghost use Rattle.sha256.specs.Hash as S;
 ghost use Rattle.sha256.specs.Inner.Ring as R;
 use super::octets;
-use super::words;
+use sha256_words::words;
 
 // The word sixteen after the one at place i: of the words 2, 7, 15 and 16 before it.
 pub(crate) fn follower(w: &[u32], i: usize) -> u32

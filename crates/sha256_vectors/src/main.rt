@@ -16,7 +16,7 @@ fn print_octets(octets: &[u8]) {
 
 // The digest, or the number of its refusal.
 fn print_answer(message: &[u8], out: &mut [u8]) {
-    match sha256::digest(message, out) {
+    match digest::digest(message, out) {
         Written::Octets(_) => print_octets(out),
         Written::Refused(refusal) => {
             io::write_all(STDOUT_FILENO, b"refused ");

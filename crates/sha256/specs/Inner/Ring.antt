@@ -3,8 +3,8 @@
 use mathlib.Core.List.{List}
 use Prim.Native.Nat.{ℕ, zero, suc, _+_, _%_}
 use lib.ListN.{getD, set}
-use Rattle.sha256.specs.Words.{_⊞_}
-use Rattle.sha256.specs.Functions.{σ0, σ1}
+use Rattle.sha256_words.specs.Words.{_⊞_}
+use Rattle.sha256_words.specs.Functions.{σ0, σ1}
 
 -- the word sixteen after the one at place i
 unfoldable pub follower : ℕ → List ℕ → ℕ

@@ -3,11 +3,11 @@ use lib.Dec.{lit≤}
 use mathlib.Core.Path.{ap}
 use Prim.Native.Nat.{ℕ}
 use borrow.Author.Needs.{needs}
-use Rattle.sha256.specs.Words.{_⊕_, shr}
-use Rattle.sha256.specs.Functions.{σ1}
-use Rattle.sha256.proofs.RotationLaws.{nest-two}
-use Rattle.sha256.proofs.words.lower_sigma1.Statement.{statement}
-use Rattle.sha256.proofs.words.lower_sigma1.Tie as tie
+use Rattle.sha256_words.specs.Words.{_⊕_, shr}
+use Rattle.sha256_words.specs.Functions.{σ1}
+use Rattle.sha256_words.proofs.RotationLaws.{nest-two}
+use Rattle.sha256_words.proofs.words.lower_sigma1.Statement.{statement}
+use Rattle.sha256_words.proofs.words.lower_sigma1.Tie as tie
 
 pub lower-sigma1-spec : {M : Type 1} → statement M
 unfolding σ1

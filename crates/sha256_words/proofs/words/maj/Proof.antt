@@ -1,8 +1,8 @@
 -- The shorter formula agrees with the paper's on single bits (`majority`).
-use Rattle.sha256.specs.Functions.{Maj}
-use Rattle.sha256.proofs.BitLaws.{majority}
-use Rattle.sha256.proofs.words.maj.Statement.{statement}
-use Rattle.sha256.proofs.words.maj.Tie as tie
+use Rattle.sha256_words.specs.Functions.{Maj}
+use Rattle.sha256_words.proofs.BitLaws.{majority}
+use Rattle.sha256_words.proofs.words.maj.Statement.{statement}
+use Rattle.sha256_words.proofs.words.maj.Tie as tie
 
 pub maj-spec : {M : Type 1} → statement M
 unfolding Maj

@@ -3,10 +3,10 @@ use mathlib.Core.Path.{_∙_}
 use denote.Ref.{now}
 use borrow.Author.Tests.{le-leb, lt-leb}
 use borrow.Author.Needs.{needs}
-use Rattle.sha256.specs.Answer.{digestAnswer, digestOut}
+use Rattle.digest.specs.Answer.{digestAnswer, digestOut}
 use Rattle.sha256.proofs.ListLaws.{front-copied}
-use Rattle.sha256.proofs.digest.Statement.{statement}
-use Rattle.sha256.proofs.digest.Tie as tie
+use Rattle.digest.proofs.digest.Statement.{statement}
+use Rattle.digest.proofs.digest.Tie as tie
 
 pub digest-spec : {M : Type 1} → statement M
 unfolding digestAnswer digestOut

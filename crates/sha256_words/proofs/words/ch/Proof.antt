@@ -1,8 +1,8 @@
 -- The shorter formula agrees with the paper's on single bits (`choose`).
-use Rattle.sha256.specs.Functions.{Ch}
-use Rattle.sha256.proofs.BitLaws.{choose}
-use Rattle.sha256.proofs.words.ch.Statement.{statement}
-use Rattle.sha256.proofs.words.ch.Tie as tie
+use Rattle.sha256_words.specs.Functions.{Ch}
+use Rattle.sha256_words.proofs.BitLaws.{choose}
+use Rattle.sha256_words.proofs.words.ch.Statement.{statement}
+use Rattle.sha256_words.proofs.words.ch.Tie as tie
 
 pub ch-spec : {M : Type 1} → statement M
 unfolding Ch

@@ -1,10 +1,10 @@
 -- Nested rotations add, and pass through XOR (`nest-three`).
 use lib.Dec.{lit≤}
 use borrow.Author.Needs.{needs}
-use Rattle.sha256.specs.Functions.{Σ1}
-use Rattle.sha256.proofs.RotationLaws.{nest-three}
-use Rattle.sha256.proofs.words.upper_sigma1.Statement.{statement}
-use Rattle.sha256.proofs.words.upper_sigma1.Tie as tie
+use Rattle.sha256_words.specs.Functions.{Σ1}
+use Rattle.sha256_words.proofs.RotationLaws.{nest-three}
+use Rattle.sha256_words.proofs.words.upper_sigma1.Statement.{statement}
+use Rattle.sha256_words.proofs.words.upper_sigma1.Tie as tie
 
 pub upper-sigma1-spec : {M : Type 1} → statement M
 unfolding Σ1

@@ -7,8 +7,8 @@ use native.Mathlib.Omega.{arith}
 use lib.Arith.{digits-lt}
 use lib.Bits.{bitXor, or-shifted-r, xor-shr, xor-mod, xor-block, xor-lt}
 use lib.Pow.{pow-pos, pow-add, shl-shr, shr-lt, shr-shr, mod-pow-add}
-use Rattle.sha256.specs.Words.{rotr}
-use Rattle.sha256.proofs.BitLaws.{xor-assoc}
+use Rattle.sha256_words.specs.Words.{rotr}
+use Rattle.sha256_words.proofs.BitLaws.{xor-assoc}
 
 -- a left shift by k of a word of k + n bits keeps its n low bits
 shl-kept : (k n x : ℕ) → x * 2 ^ k % 2 ^ (k + n) ≡ (x % 2 ^ n) * 2 ^ k
