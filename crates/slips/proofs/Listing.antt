@@ -7,7 +7,7 @@ use native.Mathlib.Numerals.{add-one}
 use native.Mathlib.Omega.{arith}
 use lib.ListN.{length, take, set}
 use lib.Seq.{take-suc-set, append-snoc}
-use Rattle.digit.specs.Pairs.{Pair, pairAt, isUndetected, undetectedFrom}
+use Rattle.digit_theorems.specs.Pairs.{Pair, pairAt, isUndetected, undetectedFrom}
 
 unfoldable pub listing : (modulus : ℕ) (numbers : List ℕ) (count n : ℕ) → List Pair
 listing modulus numbers count n = map pairAt (take count numbers) ++ undetectedFrom modulus (1369 - n) n

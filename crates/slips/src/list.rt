@@ -3,7 +3,7 @@ ghost use mathlib.Core.Path.{_≡_};
 ghost use mathlib.Core.List.{map};
 ghost use Prim.Native.Nat.{_≤_, _<_};
 ghost use lib.ListN.{length, take};
-ghost use Rattle.digit.specs.Pairs.{pairAt, isUndetected, undetected};
+ghost use Rattle.digit_theorems.specs.Pairs.{pairAt, isUndetected, undetected};
 use digit::sum::value;
 use zone::codes::characters;
 

@@ -2,7 +2,7 @@
 use Prim.Native.Nat.{_/_, _%_, _<_}
 use native.Mathlib.Omega.{arith}
 use borrow.Author.Needs.{needs}
-use Rattle.digit.specs.Pairs.{pairAt, isUndetected}
+use Rattle.digit_theorems.specs.Pairs.{pairAt, isUndetected}
 use Rattle.slips.proofs.list.is_undetected.Statement.{statement}
 use Rattle.slips.proofs.list.is_undetected.Tie as tie
 

@@ -5,7 +5,7 @@ use mathlib.Core.Logic.{⊎-elim}
 use native.Mathlib.Omega.{arith}
 use borrow.Author.Needs.{needs}
 use lib.ListN.{length, length-set}
-use Rattle.digit.specs.Pairs.{undetected}
+use Rattle.digit_theorems.specs.Pairs.{undetected}
 use Rattle.slips.proofs.Listing.{listing, one-more, passed-over, all-listed}
 use Rattle.slips.proofs.list.undetected.Statement.{statement}
 use Rattle.slips.proofs.list.undetected.Tie as tie

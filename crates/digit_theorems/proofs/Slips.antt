@@ -8,9 +8,9 @@ use native.Mathlib.Nat.{mod-lt, suc-mod, zero-add, add-mul-mod-self-left, div-ad
 use native.Mathlib.Omega.{arith}
 use lib.Dec.{lit<}
 use lib.ListN.{length, getD}
 use Rattle.digit.specs.Check.{value, weight, sumFrom, checkOf}
-use Rattle.digit.specs.Slips.{OnePlace, Neighbours}
+use Rattle.digit_theorems.specs.Slips.{OnePlace, Neighbours}
 use Rattle.digit.proofs.Sums.{sum-append}
 
 -- two numbers differ by a multiple of m
 unfoldable Apart : ℕ → ℕ → ℕ → Type 0

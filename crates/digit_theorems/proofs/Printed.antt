@@ -4,9 +4,9 @@ use lib.ListN.{length}
 use Rattle.lent.specs.Octets.{octets}
 use Rattle.zone.specs.Alphabet.{isDigit, isLetter}
 use Rattle.zone.specs.Codes.{codeOf, characterOf}
 use Rattle.digit.specs.Check.{value}
-use Rattle.digit.specs.Pairs.{pairOf, pairAt, isUndetected, undetectedFrom, undetected}
-use Rattle.digit.specs.Printed.{pairsIn, pairsOf, onePlacePairs, neighbourPairs}
+use Rattle.digit_theorems.specs.Pairs.{pairOf, pairAt, isUndetected, undetectedFrom, undetected}
+use Rattle.digit_theorems.specs.Printed.{pairsIn, pairsOf, onePlacePairs, neighbourPairs}
 
 pub one-place-printed : undetected 10 ≡ pairsOf onePlacePairs
 unfolding undetected undetectedFrom isUndetected pairAt value characterOf isDigit isLetter pairsOf pairsIn pairOf octets codeOf

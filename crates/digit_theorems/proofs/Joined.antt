@@ -10,11 +10,11 @@ use lib.Dec.{eqb}
 use lib.ListN.{length, replicate}
 use Rattle.lent.proofs.Bools.{and-both}
 use Rattle.zone.specs.Alphabet.{filler}
 use Rattle.digit.specs.Check.{sumFrom, checkOf, digitOf}
-use Rattle.digit.specs.Joined.{checkFrom, checksFrom, checks, inThrees}
-use Rattle.digit.specs.Joined.{Joined, AfterThrees, FillersBehind, JoinedFields, FieldsInThrees}
+use Rattle.digit_theorems.specs.Joined.{checkFrom, checksFrom, checks, inThrees}
+use Rattle.digit_theorems.specs.Joined.{Joined, AfterThrees, FillersBehind, JoinedFields, FieldsInThrees}
 use Rattle.digit.proofs.Sums.{sum-mod, sum-append}
 use Rattle.digit.proofs.Written.{sum-fillers}
 
 pub joined : Joined
 unfolding checkOf checkFrom

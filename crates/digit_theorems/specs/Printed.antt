@@ -3,7 +3,7 @@ use Prim.Native.Nat.{ℕ}
 use Prim.Native.String.{String}
 use mathlib.Core.List.{List, [], _∷_, _++_}
 use Rattle.lent.specs.Octets.{octets}
-use Rattle.digit.specs.Pairs.{Pair, pairOf}
+use Rattle.digit_theorems.specs.Pairs.{Pair, pairOf}
 
 unfoldable pub pairsIn : List ℕ → List Pair
 pairsIn [] = []

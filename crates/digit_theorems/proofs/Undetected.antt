@@ -8,11 +8,11 @@ use native.Mathlib.Omega.{arith}
 use Rattle.zone.specs.Alphabet.{isDigit, isLetter, isCharacter}
 use Rattle.zone.specs.Codes.{codeOf}
 use Rattle.zone.proofs.Coding.{isTold, code-tells}
 use Rattle.digit.specs.Check.{value}
-use Rattle.digit.specs.Pairs.{pairOf, undetected, On, ListsOnePlace, ListsNeighbours}
+use Rattle.digit_theorems.specs.Pairs.{pairOf, undetected, On, ListsOnePlace, ListsNeighbours}
 use Rattle.digit.proofs.Sums.{value-le}
-use Rattle.digit.proofs.Slips.{one-place, neighbours}
-use Rattle.digit.proofs.Pairs.{complete}
+use Rattle.digit_theorems.proofs.Slips.{one-place, neighbours}
+use Rattle.digit_theorems.proofs.Pairs.{complete}
 
 -- a code is at most one more than the value
 code-le : (c : ℕ) → codeOf c ≤ suc (value c)
