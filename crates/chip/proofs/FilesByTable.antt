@@ -16,8 +16,8 @@ use Rattle.tlv.specs.Read.{Read, value, refusal, andThen, outcomeIn}
 use Rattle.tlv.specs.Element.{element}
 use Rattle.lent.specs.Octets.{alike, stands}
 use Rattle.tlv.specs.Tags.{groupOf, isGroup}
-use Rattle.chip.specs.Outer.{File, fileAt, filesFrom, files, sizeCheck, outer, walked}
-use Rattle.chip.specs.declared.outer.Outer.{Outer}
+use Rattle.outer.specs.Outer.{File, fileAt, filesFrom, files, sizeCheck, outer, walked}
+use Rattle.outer.specs.declared.Outer.{Outer}
 use Rattle.object.specs.Object.{GroupHash}
 use Rattle.sha256.specs.Hash.{sha256}
 use Rattle.chip.specs.Files.{fileOctets, isExpected, isDigested, fileCheck, filesCheck}
@@ -25,7 +25,7 @@ use Rattle.object.specs.Object.{digestFor}
 use Rattle.chip.specs.Inner.ByTable.{filesIn, fileBy, filesBy}
 use Rattle.refusal.proofs.Outcomes.{refused-not-passed}
 use Rattle.tlv.proofs.Joined.{never-value, same-value, first-value, checked-value}
-use Rattle.chip.proofs.FilesWalked.{before, group-there, files-next, files-refused, files-done}
+use Rattle.outer.proofs.FilesWalked.{before, group-there, files-next, files-refused, files-done}
 
 -- ---- one file after the other
 

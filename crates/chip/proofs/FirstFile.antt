@@ -13,11 +13,11 @@ use Rattle.refusal.specs.Outcome.{passed}
 use Rattle.tlv.specs.declared.Stretch.{Stretch}
 use Rattle.tlv.specs.Read.{Read, value, refusal, andThen, outcomeIn}
 use Rattle.tlv.specs.Tags.{groupOf}
-use Rattle.chip.specs.Outer.{File, fileAt, files}
+use Rattle.outer.specs.Outer.{File, fileAt, files}
 use Rattle.chip.specs.Inner.ByTable.{filesIn}
 use Rattle.chip.specs.Presentation.{firstFile, fileOrNone}
 use Rattle.chip.specs.Inner.Found.{orFound}
-use Rattle.chip.proofs.FilesWalked.{before, file-behind, files-next, files-refused, files-done}
+use Rattle.outer.proofs.FilesWalked.{before, file-behind, files-next, files-refused, files-done}
 use Rattle.refusal.proofs.Outcomes.{refused-not-passed}
 use Rattle.chip.proofs.FilesByTable.{in-next}
 

@@ -1,32 +1,15 @@
--- Both stages are what stands before the files, and then these (`front-walked`); so is where a group's file stands
--- (`group-behind`, `group-without`).
+-- Where a group's file stands is what stands before the files, and then these (`group-behind`, `group-without`).
 use Prim.Native.Nat.{ℕ}
-use mathlib.Core.Path.{_≡_, refl, ap, sym, _∙_}
+use mathlib.Core.Path.{_≡_, refl, ap, _∙_}
 use mathlib.Core.List.{List}
 use Rattle.refusal.specs.Numbers.{Why}
-use Rattle.refusal.specs.Outcome.{Outcome, passed, refused}
-use Rattle.tlv.specs.Read.{Read, value, refusal, andThen, checked}
-use Rattle.tlv.specs.Element.{element}
-use Rattle.tlv.specs.Tags as Tag
-use Rattle.tlv.proofs.Joined.{then-then, then-same}
-use Rattle.chip.specs.declared.outer.Outer.{Outer}
-use Rattle.chip.specs.Outer.{File, sizeCheck, files, outer, walked}
+use Rattle.tlv.specs.Read.{Read, value, refusal, andThen}
+use Rattle.outer.specs.declared.Outer.{Outer}
+use Rattle.outer.specs.Outer.{File, files}
+use Rattle.outer.specs.Inner.Onward.{front, behindObject}
+use Rattle.outer.proofs.BeforeFiles.{front-walked}
 use Rattle.chip.specs.Presentation.{firstFile, fileOrNone, groupStretch}
-use Rattle.chip.specs.Inner.Onward.{behindEfCom, front, behindObject}
 use Rattle.chip.specs.Inner.Found.{orFound}
-
-checked-then : {A B : Type 0} (o : Outcome) (m : Read A) (go : A → Read B) → andThen (checked o m) go ≡ checked o (andThen m go)
-unfolding andThen checked
-checked-then passed m go = refl
-checked-then (refused n p) m go = refl
-
-pub front-walked : (w : List ℕ) → walked w ≡ andThen (front w) (λ o. behindObject w o)
-unfolding walked outer front andThen
-front-walked w =
-    let efcom = element w 0 Tag.efCom in
-    sym (checked-then (sizeCheck w) (andThen efcom (λ e. behindEfCom w e)) (λ o. behindObject w o)
-    ∙ ap (checked (sizeCheck w)) (then-then efcom (λ e. behindEfCom w e) (λ o. behindObject w o)
-    ∙ then-same efcom _ _ (λ e q. then-then (element w (e .to) Tag.sequence) _ (λ o. behindObject w o))))
 
 module _ (w : List ℕ) (group : ℕ) where
   -- the first file of the group, once the files are walked

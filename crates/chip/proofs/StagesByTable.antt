@@ -7,7 +7,7 @@ use lib.ListN.{length, getD}
 use Rattle.refusal.specs.Outcome.{passed}
 use Rattle.zone.specs.declared.record.Record.{Record}
 use Rattle.tlv.specs.Read.{Read, value, refusal, andThen, checked, outcomeIn}
-use Rattle.chip.specs.Outer.{File, files}
+use Rattle.outer.specs.Outer.{File, files}
 use Rattle.object.specs.Object.{GroupHash}
 use Rattle.object.specs.Object.{digestFor}
 use Rattle.chip.specs.Files.{filesCheck}

@@ -9,7 +9,7 @@ use Rattle.sha256.specs.Hash.{sha256}
 use Rattle.tlv.specs.Cut.{cut}
 use Rattle.lent.specs.Octets.{alike, stands}
 use Rattle.tlv.specs.Tags.{groupOf}
-use Rattle.chip.specs.Outer.{File}
+use Rattle.outer.specs.Outer.{File}
 use Rattle.object.specs.Object.{GroupHash, digestFor}
 
 -- the octets of a file

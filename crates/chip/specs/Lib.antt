@@ -1,5 +1,3 @@
--- stages 1 and 2: size, and the outer walk
-pub mod Outer
 -- stage 5: each group file
 pub mod Files
 -- all stages, and the file of a group

@@ -2,5 +2,4 @@
 mod files;
 pub mod group_file;
 mod group_one;
-pub mod outer;
 pub mod presentation;

@@ -17,13 +17,14 @@ use Rattle.entry.specs.Entry.{isHouse}
 use Rattle.tlv.specs.declared.Stretch.{Stretch}
 use Rattle.tlv.specs.Read.{value, checked}
 use Rattle.tlv.specs.Element.{element}
-use Rattle.chip.specs.declared.outer.Outer.{Outer}
+use Rattle.outer.specs.declared.Outer.{Outer}
 use Rattle.tlv.specs.Cut.{cut, endCheck}
-use Rattle.chip.specs.Outer.{File, files, walked}
+use Rattle.outer.specs.Outer.{File, files, walked}
 use Rattle.efcom.specs.EfCom.{readEfCom}
 use Rattle.object.specs.Object.{readObject}
 use Rattle.chip.specs.Files.{filesCheck}
-use Rattle.chip.specs.Presentation.{firstFile, moved, textAt, groupOne, decided, readStages, readPresentation}
+use Rattle.group_text.specs.Text.{moved, textAt}
+use Rattle.chip.specs.Presentation.{firstFile, groupOne, decided, readStages, readPresentation}
 use Rattle.run_theorems.specs.Keys.{keyOf, SameKey}
 use Rattle.demands.specs.Answered.{Accepted, of-text, of-presentation}
 use Rattle.text_theorems.proofs.RecordOfText.{kept-and-sound}

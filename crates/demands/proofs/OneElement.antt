@@ -11,9 +11,9 @@ use Rattle.efcom.specs.EfCom.{readEfCom}
 use Rattle.object.specs.Object.{readObject}
 use Rattle.object.specs.declared.ObjectRead.{ObjectRead}
 use Rattle.object.specs.Inner.Seen.{ObjectAnswer, objectAnswerOf, objectAnswer}
-use Rattle.chip.specs.declared.outer.Walked.{Walked}
-use Rattle.chip.specs.Outer.{fileAt, walked, walkedOf}
-use Rattle.chip.proofs.Told.{walked-tells}
+use Rattle.outer.specs.declared.Walked.{Walked}
+use Rattle.outer.specs.Outer.{fileAt, walked, walkedOf}
+use Rattle.outer.proofs.Told.{walked-tells}
 
 pub only-element : (s : List ℕ) (at tag : ℕ) (r q : Taken) → takenOf r ≡ element s at tag → takenOf q ≡ element s at tag → r ≡ q
 only-element s at tag r q e f = taken-tells r q (e ∙ sym f)

@@ -16,9 +16,10 @@ use Rattle.efcom.specs.EfCom.{isVersion, isUnicode}
 use Rattle.efcom.specs.EfCom as now
 use Rattle.object.specs.Object.{GroupHash, isZero, isSha256, entries}
 use Rattle.object.specs.Object as now-object
-use Rattle.chip.specs.Outer.{files, walked}
+use Rattle.outer.specs.Outer.{files, walked}
 use Rattle.chip.specs.Files.{filesCheck}
-use Rattle.chip.specs.Presentation.{groupOne, answerBy}
+use Rattle.group_text.specs.Text.{answerBy}
+use Rattle.chip.specs.Presentation.{groupOne}
 
 -- "first an unknown tag, then a repeated one (each at its octet), then more than fifteen (at 5C)"
 unfoldable pub tagsCheck : List ℕ → Stretch → ℕ → Outcome

@@ -15,13 +15,14 @@ use Rattle.text.specs.Read.{Answer, readText}
 use Rattle.tlv.specs.declared.Stretch.{Stretch}
 use Rattle.tlv.specs.Read.{Read, value, refusal, andThen, checked}
 use Rattle.tlv.specs.Element.{tlv}
-use Rattle.chip.specs.declared.outer.Outer.{Outer}
+use Rattle.outer.specs.declared.Outer.{Outer}
 use Rattle.tlv.specs.Cut.{cut}
-use Rattle.chip.specs.Outer.{File, files, walked}
+use Rattle.outer.specs.Outer.{File, files, walked}
 use Rattle.efcom.specs.EfCom.{readEfCom}
 use Rattle.object.specs.Object.{GroupHash, readObject}
 use Rattle.chip.specs.Files.{filesCheck}
-use Rattle.chip.specs.Presentation.{groupOne, decided, readStages, answerBy, readPresentation}
+use Rattle.group_text.specs.Text.{answerBy}
+use Rattle.chip.specs.Presentation.{groupOne, decided, readStages, readPresentation}
 use Rattle.zone.specs.Octets.{areOctets}
 use Rattle.presentation_theorems.specs.Presented.{Signed, Lent, Contents, commonInside, commonOf, objectInside, objectOf}
 use Rattle.presentation_theorems.specs.Presented.{allLent, octetsOf, isIn, isOnce, numbers, tagsOf, FileKept, Presented}

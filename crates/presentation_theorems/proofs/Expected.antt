@@ -23,7 +23,8 @@ use Rattle.tlv.specs.Read.{Read, value, refusal, andThen, checked, outcomeIn}
 use Rattle.tlv.specs.Cut.{cut}
 use Rattle.tlv.proofs.Stretches.{cut-within}
 use Rattle.tlv.proofs.Each.{EachRead, each-value, each-refusal, each-then}
-use Rattle.chip.specs.Presentation.{moved, readStages, answerBy, readPresentation}
+use Rattle.group_text.specs.Text.{moved, answerBy}
+use Rattle.chip.specs.Presentation.{readStages, readPresentation}
 use Rattle.text_theorems.proofs.Expected.{text-numbered}
 use Rattle.presentation_theorems.specs.Expected.{textStretch, FromText}
 use Rattle.presentation_theorems.proofs.Refusals.{before-text}

@@ -15,7 +15,7 @@ use Rattle.tlv.specs.declared.Stretch.{Stretch}
 use Rattle.tlv.specs.Read.{Read, value, refusal, checked}
 use Rattle.tlv.specs.Tags.{isGroup, groupOf}
 use Rattle.object.specs.Object.{GroupHash, digestFor}
-use Rattle.chip.specs.Outer.{fileAt, filesFrom, files}
+use Rattle.outer.specs.Outer.{fileAt, filesFrom, files}
 use Rattle.chip.specs.Files.{isExpected, isDigested, fileCheck, filesCheck}
 use Rattle.text_theorems.proofs.FirstFailing.{firstOf}
 use Rattle.row_theorems.specs.Standing.{each}

@@ -14,7 +14,7 @@ use Rattle.refusal.specs.Outcome.{Outcome, passed, unless}
 use Rattle.sha256.specs.Hash.{sha256}
 use Rattle.lent.specs.Octets.{stands}
 use Rattle.tlv.specs.Tags.{groupOf}
-use Rattle.chip.specs.Outer.{File}
+use Rattle.outer.specs.Outer.{File}
 use Rattle.object.specs.Object.{GroupHash, digestFor}
 use Rattle.chip.specs.Files.{fileOctets, isExpected, isDigested, fileCheck, filesCheck}
 use Rattle.presentation_theorems.specs.Presented.{Signed, Lent, fileOf, isIn, isOnce, numbers, tagsOf}

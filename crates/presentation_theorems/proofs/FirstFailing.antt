@@ -19,8 +19,8 @@ use Rattle.tlv.specs.Tags as Tag
 use Rattle.tlv.proofs.Joined.{value-then}
 use Rattle.efcom.specs.EfCom.{readEfCom}
 use Rattle.object.specs.Object.{GroupHash, digestFor, readObject}
-use Rattle.chip.specs.declared.outer.Outer.{Outer}
-use Rattle.chip.specs.Outer.{sizeCheck, files, outer, walked}
+use Rattle.outer.specs.declared.Outer.{Outer}
+use Rattle.outer.specs.Outer.{sizeCheck, files, outer, walked}
 use Rattle.chip.specs.Files.{filesCheck}
 use Rattle.chip.specs.Presentation.{groupOne, decided, readStages, readPresentation}
 use Rattle.text_theorems.specs.Ordered.{FirstFailing}

@@ -17,10 +17,10 @@ use Rattle.tlv.specs.declared.Stretch.{Stretch}
 use Rattle.tlv.specs.Read.{Read, value, refusal, andThen}
 use Rattle.tlv.specs.Element.{tlv}
 use Rattle.tlv.proofs.Joined.{never-value, same-value, first-value, then-known, value-then}
-use Rattle.chip.specs.declared.outer.Outer.{Outer}
+use Rattle.outer.specs.declared.Outer.{Outer}
 use Rattle.tlv.specs.Cut.{cut}
 use Rattle.tlv.specs.Tags.{groupOf, isGroup}
-use Rattle.chip.specs.Outer.{File, fileAt, filesFrom, files, walked}
+use Rattle.outer.specs.Outer.{File, fileAt, filesFrom, files, walked}
 use Rattle.chip.specs.Presentation.{firstFile, fileOrNone, groupStretch}
 use Rattle.zone.specs.Octets.{areOctets}
 use Rattle.presentation_theorems.specs.Presented.{Lent, fileOf, allLent, isIn, Outside, NoFile, FirstFile, placeOf}

@@ -15,7 +15,7 @@ use Rattle.tlv.proofs.Joined.{never-value, same-value, kept-value, first-value,
 use Rattle.tlv.proofs.Encoded.{Stands, length-tlv, some-head, tag-first}
 use Rattle.tlv.specs.Cut.{cut}
 use Rattle.tlv.specs.Tags.{groupOf, isGroup}
-use Rattle.chip.specs.Outer.{File, fileAt, filesFrom}
+use Rattle.outer.specs.Outer.{File, fileAt, filesFrom}
 use Rattle.chip.specs.Files.{fileOctets}
 use Rattle.zone.specs.Octets.{areOctets}
 use Rattle.presentation_theorems.specs.Presented.{Lent, fileOf, allLent, isIn}

@@ -22,8 +22,9 @@ use Rattle.tlv.proofs.Encoded.{inside}
 use Rattle.tlv.specs.Cut.{cut, endCheck}
 use Rattle.lent.specs.Octets.{stands}
 use Rattle.tlv.specs.Tags.{groupOf}
-use Rattle.chip.specs.Outer.{File}
-use Rattle.chip.specs.Presentation.{firstFile, moved, textAt, groupOne}
+use Rattle.outer.specs.Outer.{File}
+use Rattle.group_text.specs.Text.{moved, textAt}
+use Rattle.chip.specs.Presentation.{firstFile, groupOne}
 use Rattle.zone.specs.Octets.{areOctets}
 use Rattle.presentation_theorems.specs.Presented.{Lent, isIn, isOnce, tagsOf}
 use Rattle.presentation_theorems.proofs.NoneTwice.{stands-later}

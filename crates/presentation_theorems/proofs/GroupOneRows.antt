@@ -15,7 +15,8 @@ use Rattle.tlv.specs.Read.{Read, value, checked}
 use Rattle.tlv.specs.Cut.{cut, endCheck}
 use Rattle.tlv.specs.Tags.{groupOf}
 use Rattle.tlv.specs.Tags as Tag
-use Rattle.chip.specs.Presentation.{firstFile, movedTo, moved, textAt, groupOne}
+use Rattle.group_text.specs.Text.{movedTo, moved, textAt}
+use Rattle.chip.specs.Presentation.{firstFile, groupOne}
 use Rattle.text_theorems.specs.Ordered.{checksOf}
 use Rattle.text_theorems.proofs.FirstFailing.{firstOf, read-first}
 use Rattle.row_theorems.specs.Standing.{stretchAt, coded}

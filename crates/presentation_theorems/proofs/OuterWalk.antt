@@ -13,9 +13,9 @@ use Rattle.tlv.specs.Read.{Read, value, andThen}
 use Rattle.tlv.specs.Element.{tlv, element}
 use Rattle.tlv.proofs.Joined.{same-value, first-value, value-then, checked-value, value-checked}
 use Rattle.tlv.proofs.Encoded.{Stands}
-use Rattle.chip.specs.declared.outer.Outer.{Outer}
+use Rattle.outer.specs.declared.Outer.{Outer}
 use Rattle.tlv.specs.Cut.{cut}
-use Rattle.chip.specs.Outer.{sizeCheck, File, files, outer, walked}
+use Rattle.outer.specs.Outer.{sizeCheck, File, files, outer, walked}
 use Rattle.zone.specs.Octets.{areOctets}
 use Rattle.presentation_theorems.specs.Presented.{Lent, allLent}
 use Rattle.refusal.proofs.Outcomes.{unless-kept, kept-unless}

@@ -26,8 +26,8 @@ use Rattle.tlv.proofs.Each.{EachRead, each-value, each-refusal, each-then, each
 use Rattle.efcom.specs.EfCom as efcom
 use Rattle.object.specs.Object as object
 use Rattle.object.proofs.EntryPlaces.{entry-stands}
-use Rattle.chip.specs.declared.outer.Outer.{Outer}
-use Rattle.chip.specs.Outer.{File, sizeCheck, fileAt, filesFrom, files, outer, walked}
+use Rattle.outer.specs.declared.Outer.{Outer}
+use Rattle.outer.specs.Outer.{File, sizeCheck, fileAt, filesFrom, files, outer, walked}
 use Rattle.chip.specs.Files.{isExpected, isDigested, fileCheck, filesCheck}
 use Rattle.chip.specs.Presentation.{firstFile}
 use Rattle.presentation_theorems.specs.Expected.{textStretch}

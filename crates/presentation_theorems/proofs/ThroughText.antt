@@ -18,9 +18,10 @@ use Rattle.tlv.proofs.Past.{value-within}
 use Rattle.tlv.proofs.Joined.{first-value, checked-value, same-value}
 use Rattle.efcom.specs.EfCom.{readEfCom}
 use Rattle.object.specs.Object.{readObject}
-use Rattle.chip.specs.Outer.{files, walked}
+use Rattle.outer.specs.Outer.{files, walked}
 use Rattle.chip.specs.Files.{filesCheck}
-use Rattle.chip.specs.Presentation.{firstFile, moved, textAt, groupOne, decided, readStages}
+use Rattle.group_text.specs.Text.{moved, textAt}
+use Rattle.chip.specs.Presentation.{firstFile, groupOne, decided, readStages}
 use Rattle.presentation_theorems.specs.Expected.{textStretch}
 use Rattle.presentation_theorems.proofs.Elements.{cut-before}
 

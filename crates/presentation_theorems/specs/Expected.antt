@@ -15,7 +15,7 @@ use Rattle.tlv.specs.Cut.{cut, endCheck}
 use Rattle.tlv.specs.Tags as Tag
 use Rattle.efcom.specs.EfCom.{readEfCom}
 use Rattle.object.specs.Object.{readObject}
-use Rattle.chip.specs.Outer.{files, walked}
+use Rattle.outer.specs.Outer.{files, walked}
 use Rattle.chip.specs.Files.{filesCheck}
 use Rattle.chip.specs.Presentation.{firstFile}
 

@@ -14,9 +14,9 @@ use Rattle.tlv.specs.Cut.{cut, endCheck}
 use Rattle.tlv.specs.Tags.{isGroup, groupOf}
 use Rattle.tlv.specs.Tags as Tag
 use Rattle.object.specs.Object.{GroupHash}
-use Rattle.chip.specs.Outer.{File}
+use Rattle.outer.specs.Outer.{File}
 use Rattle.chip.specs.Files.{isDigested}
-use Rattle.chip.specs.Presentation.{movedTo}
+use Rattle.group_text.specs.Text.{movedTo}
 use Rattle.text_theorems.specs.Ordered.{checksOf}
 use Rattle.row_theorems.specs.Standing.{stretchAt, coded, places, each}
 use Rattle.presentation_theorems.specs.EfComChecks.{tagList, efComChecks}

@@ -11,7 +11,7 @@ use Rattle.sha256.specs.Hash.{sha256}
 use Rattle.tlv.specs.Read.{Read, value, refusal}
 use Rattle.lent.specs.Octets.{alike, stands}
 use Rattle.tlv.specs.Tags.{groupOf}
-use Rattle.chip.specs.Outer.{File, files}
+use Rattle.outer.specs.Outer.{File, files}
 use Rattle.chip.specs.Files.{fileOctets}
 
 -- the files that were walked

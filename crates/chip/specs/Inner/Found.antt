@@ -8,7 +8,7 @@ use Rattle.refusal.specs.Numbers.{by}
 use Rattle.tlv.specs.Read.{Read, value, refusal}
 use Rattle.chip.specs.declared.group_file.Found.{Found}
 use Rattle.chip.specs.declared.group_file.Found.the-variants.{Lent, Missing}
-use Rattle.chip.specs.Outer.{File}
+use Rattle.outer.specs.Outer.{File}
 use Rattle.chip.specs.Presentation.{firstFile, fileOrNone}
 
 -- 14 at the presentation's length, where no such file is lent

@@ -3,27 +3,13 @@ use Prim.Native.Nat.{ℕ}
 use mathlib.Core.List.{List, []}
 use Rattle.zone.specs.declared.record.Record.{Record}
 use Rattle.tlv.specs.declared.Stretch.{Stretch}
-use Rattle.tlv.specs.Read.{Read, value, andThen, checked}
-use Rattle.tlv.specs.Element.{element}
-use Rattle.tlv.specs.Tags as Tag
+use Rattle.tlv.specs.Read.{Read, andThen, checked}
 use Rattle.tlv.specs.Cut.{cut}
 use Rattle.object.specs.Object.{readObject}
-use Rattle.chip.specs.declared.outer.Outer.{Outer}
-use Rattle.chip.specs.Outer.{sizeCheck, files}
+use Rattle.outer.specs.Outer.{files}
 use Rattle.chip.specs.Files.{filesCheck}
 use Rattle.chip.specs.Presentation.{groupOne}
 use Rattle.chip.specs.Inner.ByTable.{lentFrom, filesBy}
-
--- size, EF.COM and the security object, before the files
-abbrev pub behindEfCom : List ℕ → Stretch → Read Outer
-behindEfCom w efcom = andThen (element w (efcom .to) Tag.sequence) (λ object. value (record { efcom = efcom; object = object }))
-
-unfoldable pub front : List ℕ → Read Outer
-front w = checked (sizeCheck w) (andThen (element w 0 Tag.efCom) (λ efcom. behindEfCom w efcom))
-
--- the outer walk behind them
-abbrev pub behindObject : List ℕ → Outer → Read Outer
-behindObject w o = andThen (files w (o .object .to)) (λ all. value o)
 
 -- stages 5 and 6, by the table of digests
 abbrev pub withDigests : List ℕ → ℕ → Stretch → List ℕ → Read Record

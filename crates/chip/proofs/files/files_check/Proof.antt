@@ -9,9 +9,9 @@ use Rattle.refusal.specs.Outcome.{outcomeOf, passed}
 use Rattle.tlv.specs.Read.{outcomeIn}
 use Rattle.tlv.specs.Element.{takenOf}
 use Rattle.tlv.specs.Tags.{groupOf}
-use Rattle.chip.specs.Outer.{files}
+use Rattle.outer.specs.Outer.{files}
 use Rattle.chip.specs.Inner.ByTable.{filesIn, filesBy}
-use Rattle.chip.proofs.FilesWalked.{file-behind}
+use Rattle.outer.proofs.FilesWalked.{file-behind}
 use Rattle.chip.proofs.FilesByTable.{in-next, lent-on, lent-refused, lent-never, lent-done}
 use Rattle.chip.proofs.files.files_check.Statement.{statement}
 use Rattle.chip.proofs.files.files_check.Tie as tie

@@ -9,10 +9,10 @@ use Rattle.refusal.specs.Outcome.{passed}
 use Rattle.tlv.specs.Read.{outcomeIn}
 use Rattle.tlv.specs.Element.{takenOf}
 use Rattle.tlv.specs.Tags.{groupOf}
-use Rattle.chip.specs.Outer.{files}
+use Rattle.outer.specs.Outer.{files}
 use Rattle.chip.specs.Inner.ByTable.{filesIn}
 use Rattle.chip.specs.Presentation.{firstFile}
-use Rattle.chip.proofs.FilesWalked.{file-behind}
+use Rattle.outer.proofs.FilesWalked.{file-behind}
 use Rattle.chip.proofs.FilesByTable.{in-next, lent-never}
 use Rattle.chip.proofs.FirstFile.{first-here, first-on, first-missing}
 use Rattle.chip.proofs.group_file.first_file.Statement.{statement}

@@ -7,9 +7,9 @@ use denote.Ref.{now}
 use lib.ListN.{length}
 use Rattle.tlv.specs.Element.{takenOf}
 use Rattle.tlv.specs.Tags.{groupOf}
-use Rattle.chip.specs.Outer.{files}
+use Rattle.outer.specs.Outer.{files}
 use Rattle.chip.specs.Inner.Found.{orFound}
-use Rattle.chip.proofs.FilesWalked.{file-behind}
+use Rattle.outer.proofs.FilesWalked.{file-behind}
 use Rattle.chip.proofs.FirstFile.{found-here, found-on, found-done, found-refused}
 use Rattle.chip.proofs.group_file.group_from.Statement.{statement}
 use Rattle.chip.proofs.group_file.group_from.Tie as tie

@@ -2,7 +2,7 @@
 use borrow.Author.Needs.{needs}
 use mathlib.Core.Path.{ap, sym, _∙_}
 use denote.Ref.{now}
-use Rattle.chip.specs.Outer.{walkedOf}
+use Rattle.outer.specs.Outer.{walkedOf}
 use Rattle.chip.proofs.Front.{group-behind, group-without}
 use Rattle.chip.proofs.group_file.group_stretch.Statement.{statement}
 use Rattle.chip.proofs.group_file.group_stretch.Tie as tie

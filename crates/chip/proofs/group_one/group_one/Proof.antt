@@ -4,7 +4,8 @@ use mathlib.Core.Path.{ap, sym, _∙_}
 use denote.Ref.{now}
 use lib.ListN.{length}
 use Rattle.tlv.specs.Read.{andThen}
-use Rattle.chip.specs.Presentation.{textAt, groupOne, answerBy}
+use Rattle.group_text.specs.Text.{textAt, answerBy}
+use Rattle.chip.specs.Presentation.{groupOne}
 use Rattle.chip.specs.Inner.Found.{foundOf}
 use Rattle.chip.proofs.group_one.group_one.Statement.{statement}
 use Rattle.chip.proofs.group_one.group_one.Tie as tie

@@ -3,7 +3,7 @@ use borrow.Author.Needs.{needs}
 use mathlib.Core.Path.{ap, sym, _∙_}
 use denote.Ref.{now}
 use Rattle.tlv.specs.Read.{andThen}
-use Rattle.chip.specs.Outer.{walkedOf}
+use Rattle.outer.specs.Outer.{walkedOf}
 use Rattle.chip.specs.Presentation.{readStages, readPresentation}
 use Rattle.chip.proofs.FilesByTable.{walked-files}
 use Rattle.chip.proofs.presentation.read.Statement.{statement}

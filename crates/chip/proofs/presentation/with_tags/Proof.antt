@@ -6,7 +6,7 @@ use Rattle.refusal.specs.Outcome.{outcomeOf}
 use Rattle.tlv.proofs.Joined.{refused-then}
 use Rattle.tlv.specs.Cut.{cut}
 use Rattle.object.specs.Object.{readObject}
-use Rattle.chip.specs.Presentation.{answerBy}
+use Rattle.group_text.specs.Text.{answerBy}
 use Rattle.chip.proofs.StagesByTable.{onward, by-entries}
 use Rattle.chip.proofs.presentation.with_tags.Statement.{statement}
 use Rattle.chip.proofs.presentation.with_tags.Tie as tie
