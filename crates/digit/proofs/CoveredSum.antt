@@ -14,7 +14,7 @@ use lib.Seq.{take-nil, getD-drop}
 use Rattle.lent.proofs.Bools.{and-both}
 use Rattle.zone.specs.Alphabet.{isDigit, isLetter}
 use Rattle.zone.specs.Part.{Part, number, numberCheck, optional, optional2, birth, birthCheck, expiry, expiryCheck, personal}
-use Rattle.zone.specs.Part.{personalCheck, composite, rank, same}
+use Rattle.zone.specs.Part.{personalCheck, composite}
 use Rattle.zone.proofs.AllForms.{all-forms}
 use Rattle.zone.proofs.Widths.{fixed, ones}
 use Rattle.zone.specs.Rooms.{nine}
@@ -165,8 +165,8 @@ coveredParts f =
 
 same-weights : (f : Form)
     → cond (has f composite) (weightsOver (coveredParts f) ≡ weightsOver (inTurn 0 (pieces f))) Unit
-unfolding weightsOver both behind weightsFrom coveredParts inTurn before pieces pieceOf weight
-    width widthIn start startIn row rank same forms
+unfolding weightsOver both behind weightsFrom coveredParts inTurn before pieces pieceOf weight width widthIn start startIn row
+    forms
 same-weights = all-forms
     (λ f. cond (has f composite) (weightsOver (coveredParts f) ≡ weightsOver (inTurn 0 (pieces f))) Unit) (search needs)
 
@@ -219,7 +219,7 @@ composite-digit f t h =
 
 -- a long number: its further characters stand behind the nine
 number-before : (f : Form) → start f number + nine ≤ start f optional
-unfolding start startIn row rank same forms
+unfolding start startIn row forms
 number-before = all-forms (λ f. start f number + nine ≤ start f optional) (search needs)
 
 pub long-sum : (f : Form) (t : List ℕ) (n : ℕ)

@@ -13,8 +13,6 @@ use Rattle.lent.proofs.Lists.{rest-all, copy-into}
 use Rattle.zone.specs.Alphabet.{filler, isCharacter, isFiller, every, isDigit, isLetter}
 use Rattle.zone.specs.Codes.{codeOf}
 use Rattle.zone.specs.Part as text
-use Rattle.zone.specs.Part.{rank, same}
-use Rattle.zone.specs.Rows.{inRows}
 use Rattle.zone.specs.Record.{trimmed, padded, plain, heldRows}
 use Rattle.field.specs.Rules.{ruleRows}
 use Rattle.zone.specs.Rooms.{nameRoom}
@@ -203,7 +201,7 @@ module _ (house : ℕ) (r : Record) (housed : isHouse house ≡ true) (s : Sound
       (every-replicate isCharacter (frontUnits - nameRoom - 1) filler refl)))
 
   units-held : every (isHeld 6) (unitsOf house r) ≡ true
-  unfolding unitsOf front before every isHeld heldRows plain ruleRows inRows same rank
+  unfolding unitsOf front before every isHeld heldRows plain ruleRows
   units-held =
       let pure = s .characters in
       let sex = sex-tells (r .sex) (s .kept text.sex refl) .1 in

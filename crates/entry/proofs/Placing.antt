@@ -10,8 +10,6 @@ use Rattle.lent.specs.Copied.{copiedAt}
 use Rattle.zone.specs.Alphabet.{filler, isDigit, isLetter}
 use Rattle.zone.specs.Codes.{codeOf}
 use Rattle.zone.specs.Part as text
-use Rattle.zone.specs.Part.{rank, same}
-use Rattle.zone.specs.Rows.{inRows}
 use Rattle.zone.specs.Record.{padded, plain, heldRows}
 use Rattle.zone.specs.Rooms.{codeRoom, stateRoom, dateRoom, numberRoom, nameRoom}
 use Rattle.zone.specs.declared.record.Record.{Record}
@@ -80,7 +78,7 @@ abbrev spaces : List ℕ
 spaces = replicate (frontUnits - nameRoom - 1) filler
 
 pub sound-before : (r : Record) → Sound r → length (before r) + unitOf part.state ≡ unitOf part.sex
-unfolding before heldRows plain inRows same rank
+unfolding before heldRows plain
 sound-before r s =
     let places = s .places in
     simp length-append

@@ -11,8 +11,7 @@ use lib.Seq.{length-take-le}
 use Rattle.lent.proofs.Bools.{and-both}
 use Rattle.zone.specs.Alphabet.{isCharacter, every}
 use Rattle.zone.specs.Codes.{codeOf}
-use Rattle.zone.specs.Part.{Part, code, state, nationality, birth, sex, expiry, rank, same}
-use Rattle.zone.specs.Rows.{inRows}
+use Rattle.zone.specs.Part.{Part, code, state, nationality, birth, sex, expiry}
 use Rattle.zone.specs.Record.{plain, room, isPlain, heldRows, held}
 use Rattle.zone.specs.Rooms.{numberRoom}
 use Rattle.field.specs.Rules.{ruleRows}
@@ -60,14 +59,14 @@ module _ (r : Record) (s : Sound r) where
   )
 
   rest-fits : Fits (cells afterKey) (restValues r)
-  unfolding restValues heldRows plain ruleRows inRows same rank
+  unfolding restValues heldRows plain ruleRows
   rest-fits =
       let sex-fits = one-held 2 (sexCode (r .sex)) (sex-tells (r .sex) (s .kept sex refl) .1) in
       (plain-coded code refl, (plain-coded nationality refl, ((refl, sex-fits), (name-fits, tt))))
 
   module _ (h : ℕ) (house : isHouse h ≡ true) where
     pub key-fits : Fits (cells key) (keyValues h r)
-    unfolding keyValues heldRows plain inRows same rank
+    unfolding keyValues heldRows plain
     key-fits =
         let house-fits = one-held 15 h (omega (arith, house-range h house .1)) in
         let form-fits = one-held 3 (formCode (r .form)) (entered-tells (r .form) .1) in
@@ -95,7 +94,7 @@ module _ (r : Record) (s : Sound r) where
   -- ---- lengths
 
   pub key-sized : (h : ℕ) → Sized (cells key) (keyValues h r)
-  unfolding keyValues heldRows plain inRows same rank
+  unfolding keyValues heldRows plain
   key-sized h =
       let number = length-map (r .number) codeOf ∙ s .number-places in
       (refl, (refl, (plain-coded state refl .0, (number, (plain-coded birth refl .0, (plain-coded expiry refl .0, tt))))))

@@ -15,8 +15,7 @@ use Rattle.zone.specs.declared.form.Form.{Form}
 use Rattle.zone.specs.declared.form.Kind.{Kind}
 use Rattle.zone.specs.declared.form.Kind.the-variants.{Card, Passport}
 use Rattle.zone.specs.Form.{row}
-use Rattle.zone.specs.Part.{Part, rank, same}
-use Rattle.zone.specs.Rows.{inRows}
+use Rattle.zone.specs.Part.{Part}
 use Rattle.zone.specs.Record.{room, isPlain}
 use Rattle.field.specs.Code.{codeRule, kindRule, cardRule, passportRule, isCardLetter, isSecond}
 use Rattle.field.specs.Letters.{stateRule, lettersThenFillers, sexRule, isNameCharacter}
@@ -187,6 +186,6 @@ one-pure s l e = every-each isCharacter s go
 -- so of every field that has one width
 pub plain-pure : (f : Form) (s : List ℕ) (x : Part) → isPlain x ≡ true → length s ≡ room x → rule f x s ≡ true
     → every isCharacter s ≡ true
-unfolding ruleRows inRows same rank
+unfolding ruleRows
 plain-pure f s = each-plain (λ x n. length s ≡ n → rule f x s ≡ true → every isCharacter s ≡ true) (code-pure f s) (state-pure s)
     (state-pure s) (birth-pure s) (one-pure s) (expiry-pure s)

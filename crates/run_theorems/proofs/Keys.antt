@@ -11,8 +11,7 @@ use Rattle.zone.specs.declared.form.Source.the-variants.{Alone}
 use Rattle.zone.specs.declared.record.Record.{Record}
 use Rattle.zone.specs.Alphabet.{isCharacter, every}
 use Rattle.zone.specs.Codes.{codeOf, characterOf}
-use Rattle.zone.specs.Part.{state, birth, expiry, rank, same}
-use Rattle.zone.specs.Rows.{inRows}
+use Rattle.zone.specs.Part.{state, birth, expiry}
 use Rattle.zone.specs.Record.{trimmedLength, trimmed, padded, plain, heldRows}
 use Rattle.zone.specs.Rooms.{numberRoom}
 use Rattle.zone.proofs.FormTold.{as-same}
@@ -67,7 +66,7 @@ module _ (h k : ℕ) (r q : Record) (house : isHouse h ≡ true) (sound : isSoun
       (sym (key-octets h r o) ∙ e ∙ key-octets k q o′)
 
   agreeing : keyOf h r ≡ keyOf k q → SameKey h r k q
-  unfolding wholeNumber keyValues heldRows plain inRows same rank
+  unfolding wholeNumber keyValues heldRows plain
   agreeing e =
       let pure = o .characters in
       let pure′ = o′ .characters in

@@ -9,8 +9,6 @@ use lib.Seq.{take-all}
 use Rattle.zone.specs.Alphabet.{isCharacter, every}
 use Rattle.zone.specs.Codes.{characterOf}
 use Rattle.zone.specs.Part as text
-use Rattle.zone.specs.Part.{rank, same}
-use Rattle.zone.specs.Rows.{inRows}
 use Rattle.zone.specs.Record.{trimmedLength, trimmed, padded, plain, heldRows}
 use Rattle.field.specs.Rules.{ruleRows}
 use Rattle.zone.specs.Rooms.{codeRoom, stateRoom, dateRoom, numberRoom, nameRoom}
@@ -36,7 +34,7 @@ use Rattle.runs.specs.Inner.Units.{nameLength}
 
 -- the values of a sound record say that record
 pub record-back : (house : ℕ) (r : Record) → Sound r → recordOf (r .form) (valuesOf house r) ≡ r
-unfolding recordOf valuesOf keyValues restValues trimmed heldRows plain ruleRows inRows same rank
+unfolding recordOf valuesOf keyValues restValues trimmed heldRows plain ruleRows
 record-back house r s =
     let x = take (r .«name_len») (r .name) in
     let pure = s .characters in
@@ -84,7 +82,7 @@ module _ (f : Form) (s : List ℕ) (told : formIn s ≡ As f) (o : Sound (record
   name-pure = ap (every isCharacter) (sym name-there) ∙ every-take isCharacter (length name) _ (o .name-characters)
 
   pub values-back : valuesOf (houseIn s) (recordIn f s) ≡ valuesIn s
-  unfolding valuesOf keyValues restValues houseIn recordIn recordOf formIn numbersAt heldRows plain ruleRows inRows same rank
+  unfolding valuesOf keyValues restValues houseIn recordIn recordOf formIn numbersAt heldRows plain ruleRows
   values-back =
       let pure = o .characters in
       let form : formCode f ≡ bitsAt s (start part.form) 3 = tells-entered (bitsAt s (start part.form) 3) f told in

@@ -12,8 +12,6 @@ use Rattle.refusal.specs.Outcome.{refused}
 use Rattle.zone.specs.declared.form.Source.the-variants.{Seal}
 use Rattle.zone.specs.Alphabet.{every}
 use Rattle.zone.specs.declared.form.Form.the-variants.{Td2}
-use Rattle.zone.specs.Part.{rank, same}
-use Rattle.zone.specs.Rows.{inRows}
 use Rattle.zone.specs.Form.{row, mayStand, partOf, parts, start, startIn, width, widthIn, field}
 use Rattle.field.specs.Code.{isCardLetter, cardRule, kindRule, codeRule}
 use Rattle.text_digits.specs.Number.{spanOf}
@@ -34,8 +32,7 @@ use Rattle.seal_theorems.proofs.TextCharacters.{filled-passed}
 
 -- TD2 knows no code that begins with V
 code-v : (u : List ℕ) → inOrder (fieldCheck Td2 (code "V" ∷ u) (spanOf Td2 (code "V" ∷ u))) (parts Td2) ≡ refused (by 3) 0
-unfolding inOrder parts partOf row fieldRows inRows codeRule kindRule cardRule isCardLetter field start startIn width widthIn
-    same rank
+unfolding inOrder parts partOf row fieldRows codeRule kindRule cardRule isCardLetter field start startIn width widthIn
 code-v u = refl
 
 filled-v : (t : List ℕ) → 0 < length t → getD t 0 0 ≡ code "V" → (u : List ℕ) × (filled t ≡ code "V" ∷ u)

@@ -8,15 +8,13 @@ use lib.ListN.{length, take, drop, length-take, length-drop}
 use lib.Seq.{take-all}
 use Rattle.zone.specs.Rooms.{codeRoom, stateRoom, dateRoom, nine, numberRoom, nameRoom}
 use Rattle.zone.specs.declared.record.Record.{Record}
-use Rattle.zone.specs.Part.{rank, same}
-use Rattle.zone.specs.Rows.{inRows, allRows}
 use Rattle.zone.specs.Record.{plain, heldRows}
 use Rattle.sound.specs.Sound.{isShaped}
 
 pub shaped : (r : Record) → length (r .code) ≡ codeRoom → length (r .state) ≡ stateRoom → length (r .number) ≡ numberRoom
     → length (r .nationality) ≡ stateRoom → length (r .birth) ≡ dateRoom → length (r .expiry) ≡ dateRoom
     → length (r .name) ≡ nameRoom → isShaped r ≡ true
-unfolding isShaped plain heldRows inRows allRows same rank
+unfolding isShaped plain heldRows
 shaped r code state number nationality birth expiry name = rw (code, state, number, nationality, birth, expiry, name)
 
 -- the characters from the tenth on are all that is left there

@@ -11,8 +11,7 @@ use lib.ListN.{length, take, drop, getD}
 use Rattle.lent.proofs.Bools.{and-both}
 use Rattle.zone.specs.Alphabet.{isLetter, isCharacter, every}
 use Rattle.zone.specs.declared.record.Record.{Record}
-use Rattle.zone.specs.Part.{Part, code, state, nationality, birth, sex, expiry, name, rank, same}
-use Rattle.zone.specs.Rows.{inRows}
+use Rattle.zone.specs.Part.{Part, code, state, nationality, birth, sex, expiry, name}
 use Rattle.zone.specs.Form.{width, longest}
 use Rattle.zone.specs.Rooms.{nine, numberRoom, nameRoom}
 use Rattle.zone.specs.Record.{trimmedLength, plain, room, isPlain, heldRows, held, holding}
@@ -102,7 +101,7 @@ taken-apart r e =
 
 -- whatever it holds
 pub held-pure : (r : Record) → Sound r → (x : Part) → every isCharacter (held r x) ≡ true
-unfolding heldRows plain inRows every same rank
+unfolding heldRows plain every
 held-pure r s = in-rows (λ x l. every isCharacter l ≡ true) [] (heldRows r) (λ x. refl)
     (s .characters code refl
     and s .characters state refl

@@ -6,9 +6,8 @@ use borrow.Author.Needs.{needs}
 use lib.Dec.{ltb}
 use Rattle.refusal.specs.Outcome.{Outcome, orElse}
 use Rattle.refusal.proofs.Outcomes.{orElse-assoc, orElse-passed}
-use Rattle.zone.specs.Rows.{inRows}
 use Rattle.zone.specs.declared.form.Form.{Form}
-use Rattle.zone.specs.Part.{Part, code, state, number, birth, sex, expiry, nationality, name, rank, same}
+use Rattle.zone.specs.Part.{Part, code, state, number, birth, sex, expiry, nationality, name}
 use Rattle.zone.specs.Form.{row, forms, partOf, parts, start, startIn}
 use Rattle.zone.proofs.AllForms.{all-forms}
 use Rattle.text_digits.specs.Digits.{inOrder}
@@ -32,7 +31,7 @@ joined f t span =
 
 -- the name and the nationality stand before number and person, TD2 and TD3, or behind them, TD1
 pub fields-in-order : (f : Form) (t : List ℕ) (span : Span) → joined f t span ≡ inOrder (fieldCheck f t span) (parts f)
-unfolding inOrder inTurn fieldRows inRows same rank parts partOf row forms start startIn
+unfolding inOrder inTurn fieldRows parts partOf row forms start startIn
 fields-in-order f t span =
     all-forms (λ g. joined g t span ≡ inOrder (fieldCheck g t span) (parts g))
     (simp (orElse-assoc, orElse-passed) (search needs)) f

@@ -6,10 +6,8 @@ use borrow.Author.Needs.{needs}
 use lib.Dec.{ltb}
 use Rattle.refusal.specs.Outcome.{Outcome, orElse}
 use Rattle.refusal.proofs.Outcomes.{orElse-assoc, orElse-passed}
-use Rattle.zone.specs.Rows.{inRows}
 use Rattle.zone.specs.declared.form.Form.{Form}
 use Rattle.zone.specs.Part.{Part, numberCheck, optional, birth, birthCheck, expiryCheck, personal, personalCheck, composite}
-use Rattle.zone.specs.Part.{rank, same}
 use Rattle.zone.specs.Form.{row, forms, partOf, parts, start, startIn, width, widthIn, has}
 use Rattle.zone.proofs.AllForms.{all-forms}
 use Rattle.text_digits.specs.Digits.{digitRows, digitCheck, inOrder}
@@ -32,7 +30,7 @@ joined f t span =
 
 -- the optional field stands before birth, TD1, or behind expiry, or there is none
 pub digits-in-order : (f : Form) (t : List ℕ) (span : Span) → joined f t span ≡ inOrder (digitCheck f t span) (parts f)
-unfolding inOrder inTurn digitRows inRows same rank ifHas parts partOf row forms start startIn width widthIn
+unfolding inOrder inTurn digitRows ifHas parts partOf row forms start startIn width widthIn
 digits-in-order f t span =
     all-forms (λ g. joined g t span ≡ inOrder (digitCheck g t span) (parts g))
     (simp (orElse-assoc, orElse-passed) (search needs)) f

@@ -19,8 +19,7 @@ use Rattle.zone.specs.declared.form.Recognised.the-variants.{As, Unknown}
 use Rattle.zone.specs.Alphabet.{isCharacter, isFiller, isForeign, firstForeign}
 use Rattle.zone.proofs.First.{first-none, none-first}
 use Rattle.zone.specs.Part.{Part, code, state, number, numberCheck, optional, birth, birthCheck, sex, expiry, expiryCheck}
-use Rattle.zone.specs.Part.{nationality, composite, name, personal, personalCheck, same, rank}
-use Rattle.zone.specs.Rows.{inRows}
+use Rattle.zone.specs.Part.{nationality, composite, name, personal, personalCheck}
 use Rattle.zone.proofs.Parts.{in-rows, _and_, all-said}
 use Rattle.zone.specs.Form.{mayStand, formOf, parts, start, width, has, total, field, covered}
 use Rattle.zone.specs.Record.{plain, isPlain}
@@ -77,7 +76,7 @@ module _ (f : Form) (t : List ℕ) (told : length t ≡ total f) (accepted : ver
   digit-passed x h = walk-each (digitCheck f t span) (parts f) (stages .2) x (rw (has-among f x) at h)
 
   number-kept : (isFiller (getD (field f number t) 0 0) ≡ false) × (spanRule span ≡ true)
-  unfolding fieldRows inRows same rank numberRule
+  unfolding fieldRows numberRule
   number-kept =
       let both = and-both (not (isFiller (getD (field f number t) 0 0))) (spanRule span)
       (unless-kept (numberRule f t span) 5 (start f number) (field-passed number (common f .has-number))) in
@@ -88,7 +87,7 @@ module _ (f : Form) (t : List ℕ) (told : length t ≡ total f) (accepted : ver
   ends long = span-ends f t (number-kept .1) long
 
   short-kept : isLong f t ≡ false → getD t (start f numberCheck) 0 ≡ digitOf (field f number t)
-  unfolding span digitRows inRows same rank numberDigit checkedBy
+  unfolding span digitRows numberDigit checkedBy
   short-kept short =
       digit-kept t (start f numberCheck) (field f number t)
       (rw (short-span f t short) at (digit-passed numberCheck (common f .has-number-check)))
@@ -96,7 +95,7 @@ module _ (f : Form) (t : List ℕ) (told : length t ≡ total f) (accepted : ver
   long-kept : isLong f t ≡ true
       → getD t (start f optional + (fillerAt f t - 1)) 0
       ≡ digitOf (field f number t ++ take (fillerAt f t - 1) (field f optional t))
-  unfolding span digitRows inRows same rank furtherDigit checkedBy
+  unfolding span digitRows furtherDigit checkedBy
   long-kept long =
       digit-kept t (start f optional + (fillerAt f t - 1)) (field f number t ++ take (fillerAt f t - 1) (field f optional t))
       (rw (long-span f t long (ends long .0) (ends long .1)) at (digit-passed optional (long-has f t long)))
@@ -109,7 +108,7 @@ module _ (f : Form) (t : List ℕ) (told : length t ≡ total f) (accepted : ver
       (unless-kept (eqb (firstForeign t) (length t)) 2 (firstForeign t) (stages .0))) i h)
 
   rules-kept : (x : Part) → isPlain x ≡ true → rule f x (field f x t) ≡ true
-  unfolding fieldRows ruleRows inRows same rank
+  unfolding fieldRows ruleRows
   rules-kept x p =
       each-plain (λ y n. fieldCheck f t span y ≡ passed → rule f y (field f y t) ≡ true)
       (unless-kept (codeRule f (field f code t)) 3 (start f code))
@@ -121,7 +120,7 @@ module _ (f : Form) (t : List ℕ) (told : length t ≡ total f) (accepted : ver
       x p (field-passed x (plain-has f x p))
 
   pub keeps : Keeps f t
-  unfolding fieldRows inRows same rank digitRows
+  unfolding fieldRows digitRows
   keeps = record {
     size = told;
     alphabet = characters-kept;
@@ -161,7 +160,7 @@ module _ (f : Form) (t : List ℕ) (k : Keeps f t) where
       (eq-eqb (firstForeign t) (length t) (none-first isForeign t (λ i h. ap not (k .alphabet i h))))
 
   fields-pass : (x : Part) → has f x ≡ true → fieldCheck f t (spanOf f t) x ≡ passed
-  unfolding fieldRows numberRule ruleRows plain inRows same rank
+  unfolding fieldRows numberRule ruleRows plain
   fields-pass = in-rows (λ x o. has f x ≡ true → o ≡ passed) passed (fieldRows f t (spanOf f t)) (λ x h. refl)
       ((λ h. kept-unless _ 3 (start f code) (k .plain-kept code refl))
       and (λ h. kept-unless _ 4 (start f state) (k .plain-kept state refl))

@@ -2,7 +2,7 @@
 use mathlib.Core.Path.{_≡_, ap, _∙_}
 use mathlib.Core.Bool.{true}
 use Rattle.zone.specs.declared.form.Form.{Form}
-use Rattle.zone.specs.Part.{Part, number, numberCheck, birthCheck, expiryCheck, name, rank, same}
+use Rattle.zone.specs.Part.{Part, number, numberCheck, birthCheck, expiryCheck, name}
 use Rattle.zone.specs.Form.{row, forms, width, widthIn, has}
 use Rattle.zone.specs.Record.{isPlain}
 use Rattle.zone.proofs.AllForms.{all-forms}
@@ -19,7 +19,7 @@ pub record Common (f : Form) : Type 0 where
   pub has-expiry-check : has f expiryCheck ≡ true
 
 pub common : (f : Form) → Common f
-unfolding width widthIn row forms same rank
+unfolding width widthIn row forms
 common = all-forms Common (search needs)
 
 pub plain-has : (f : Form) (x : Part) → isPlain x ≡ true → has f x ≡ true

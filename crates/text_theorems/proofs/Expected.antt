@@ -23,7 +23,7 @@ use Rattle.zone.specs.declared.form.Recognised.the-variants.{As, Unknown}
 use Rattle.zone.specs.Alphabet.{isFiller, every}
 use Rattle.zone.specs.Record.{blank}
 use Rattle.zone.specs.Part.{Part, numberCheck, optional, birth, birthCheck, expiry}
-use Rattle.zone.specs.Part.{expiryCheck, composite, personal, personalCheck, rank, same}
+use Rattle.zone.specs.Part.{expiryCheck, composite, personal, personalCheck, same}
 use Rattle.zone.specs.Form.{row, forms, formOf, start, startIn, width, widthIn, has, total, field, pieces, joinedCuts, covered}
 use Rattle.zone.proofs.AllForms.{all-forms}
 use Rattle.zone.proofs.Widths.{within, here-or-end}
@@ -58,7 +58,7 @@ record Covers (t : List ℕ) (f : Form) : Type 0 where
   of-short : coveredAt f t (start f numberCheck) ≡ checkedBy f t (spanOf f t)
 
 covers : (f : Form) (t : List ℕ) → Covers t f
-unfolding coveredAt field covered joinedCuts pieces row forms start startIn width widthIn same rank
+unfolding coveredAt field covered joinedCuts pieces row forms start startIn width widthIn
 covers f t = all-forms (Covers t) (search needs) f
 
 -- a place of the optional field is not where another part begins
@@ -74,7 +74,7 @@ elsewhere f n h x other = ne-eqb (start f optional + n) (start f x) (λ e. go e 
 
 long-covered : (f : Form) (t : List ℕ) (n : ℕ) → n < width f optional
     → coveredAt f t (start f optional + n) ≡ checkedBy f t (spanOf f t)
-unfolding coveredAt same rank
+unfolding coveredAt
 long-covered f t n h =
     rw (
       elsewhere f n h birthCheck refl,

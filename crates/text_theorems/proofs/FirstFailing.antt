@@ -12,7 +12,7 @@ use Rattle.refusal.specs.Outcome.{Outcome, passed, refused, orElse}
 use Rattle.zone.specs.declared.form.Source.{Source}
 use Rattle.zone.specs.declared.form.Recognised.{Recognised}
 use Rattle.zone.specs.declared.form.Recognised.the-variants.{As, Unknown}
-use Rattle.zone.specs.Part.{Part, optional, rank, same}
+use Rattle.zone.specs.Part.{Part, optional}
 use Rattle.zone.specs.Record.{blank}
 use Rattle.zone.specs.declared.form.Form.{Form}
 use Rattle.zone.specs.Form.{row, forms, formOf, partOf, parts, start, startIn, width}
@@ -102,7 +102,7 @@ refused-exactly source t n p = (
 
 -- the order is by place: in the walk over a form's parts each part starts behind the one before
 pub in-text-order : (f : Form) → isRising (map (start f) (parts f)) ≡ true
-unfolding isRising parts partOf row forms start startIn rank same
+unfolding isRising parts partOf row forms start startIn
 in-text-order = all-forms (λ f. isRising (map (start f) (parts f)) ≡ true) (search needs)
 
 -- and a long number's digit stands within the optional field, which the walk looks at in its stead

@@ -14,8 +14,7 @@ use Rattle.zone.specs.declared.form.Source.{Source}
 use Rattle.zone.specs.declared.form.Form.{Form}
 use Rattle.zone.specs.Alphabet.{isCharacter, isFiller, isLetter, isDigit, every, filler}
 use Rattle.zone.specs.declared.record.Record.{Record}
-use Rattle.zone.specs.Part.{Part, number, optional, name, rank, same}
-use Rattle.zone.specs.Rows.{inRows}
+use Rattle.zone.specs.Part.{Part, number, optional, name}
 use Rattle.zone.specs.Rooms.{numberRoom, nameRoom}
 use Rattle.zone.specs.Form.{start, width, total, longest, field}
 use Rattle.zone.specs.Record.{trimmedLength, trimmed, padded, room, isPlain, heldRows, held, holding}
@@ -92,7 +91,7 @@ record Sure (f : Form) (t num : List ℕ) : Type 0 where
 
 -- of a plain field it is what stands in its place
 pub in-text : (f : Form) (t : List ℕ) (span : Span) (x : Part) → isPlain x ≡ true → inText f t span x ≡ field f x t
-unfolding inText inRows same rank
+unfolding inText
 in-text f t span = each-plain (λ x n. inText f t span x ≡ field f x t) refl refl refl refl refl refl
 
 module _ (f : Form) (t : List ℕ) (k : Keeps f t) where
@@ -172,7 +171,7 @@ module _ (f : Form) (t : List ℕ) (k : Keeps f t) where
   whole-number = take-padded 22 (numberBy f t (spanOf f t)) ∙ take-all 22 (numberBy f t (spanOf f t)) number-room
 
   pub holds : Holds f t told
-  unfolding recordBy holding heldRows inText inRows same rank numberBy
+  unfolding recordBy holding heldRows inText numberBy
   holds = record {
     form-held = refl;
     plain-held = plain-in;
@@ -183,7 +182,7 @@ module _ (f : Form) (t : List ℕ) (k : Keeps f t) where
 
   -- the parts of soundness, in its order
   shaped : isShaped told ≡ true
-  unfolding isShaped recordBy holding inText inRows same rank
+  unfolding isShaped recordBy holding inText
   shaped =
       both-and
       (passes-plain (λ x n. eqb (length (held told x)) n) (λ x p. eq-eqb (length (held told x)) (room x)
@@ -228,7 +227,7 @@ module _ (f : Form) (t : List ℕ) (k : Keeps f t) where
       (every-padded isNameCharacter 39 s long filler-in-name (both .1)))
 
   pub sound : isSound told ≡ true
-  unfolding isSound isNumbered isNamed recordBy holding inText inRows same rank
+  unfolding isSound isNumbered isNamed recordBy holding inText
   sound = both-and shaped (both-and rules-kept (both-and number-sound name-sound))
 
 pub kept-and-sound : (source : Source) (t : List ℕ) → readText source t .outcome ≡ passed

@@ -17,7 +17,7 @@ use Rattle.zone.specs.declared.form.Source.the-variants.{Alone}
 use Rattle.zone.specs.declared.record.Record.{Record}
 use Rattle.zone.specs.Alphabet.{isCharacter, isFiller, isLetter, firstFiller, every, filler}
 use Rattle.zone.specs.Part.{number, numberCheck, optional, birth, birthCheck, expiry, expiryCheck}
-use Rattle.zone.specs.Part.{name, personal, personalCheck, rank, same}
+use Rattle.zone.specs.Part.{name, personal, personalCheck}
 use Rattle.zone.specs.Form.{mayStand, start, width, has, total, longest, field}
 use Rattle.zone.specs.Record.{trimmed, padded, plain, heldRows, held}
 use Rattle.zone.proofs.Widths.{fixed, name-room, ones, has-one}
@@ -30,7 +30,6 @@ use Rattle.text_digits.specs.Number.{isLong, spanOf, numberBy}
 use Rattle.text.specs.Read.{Answer, readText, answered, inText, recordBy}
 use Rattle.sound.specs.Sound.{isSolid, isSound}
 use Rattle.writing.specs.Text.{numberIn, furtherIn, isWide, atCheck, inOptional, givenRows, textOf}
-use Rattle.zone.specs.Rows.{inRows}
 use Rattle.text_theorems.specs.Accepted.{Keeps, fillerAt}
 use Rattle.text_theorems.proofs.NumberSpan.{short-span, long-span}
 use Rattle.text_theorems.proofs.Acceptance.{passes, read-as}
@@ -59,13 +58,13 @@ module _ (r : Record) (s : Sound r) where
   -- ---- the number in the text
 
   nine-shown : field f number t ≡ take 9 (r .number)
-  unfolding givenRows inRows same rank
+  unfolding givenRows
   nine-shown =
       let w = fixed f .number-width in
       front-shown r number refl (omega (arith, w, s .number-places)) ∙ ap (λ n. take n (r .number)) w
 
   check-shown : getD t (start f numberCheck) 0 ≡ atCheck r
-  unfolding givenRows inRows same rank
+  unfolding givenRows
   check-shown = one-shown r numberCheck (atCheck r) refl (ones f .number-check-one) refl
 
   long-shown : isLong f t ≡ isWide r
@@ -95,7 +94,7 @@ module _ (r : Record) (s : Sound r) where
     one-more = length-append (furtherIn r) (digitOf (numberIn r) ∷ [])
 
     optional-padded : field f optional t ≡ padded (width f optional) (furtherIn r ++ (digitOf (numberIn r) ∷ []))
-    unfolding givenRows inRows inOptional same rank
+    unfolding givenRows inOptional
     optional-padded = shown r optional refl ∙ rw wide
 
     filler-shown : fillerAt f t ≡ length (furtherIn r) + 1
@@ -137,7 +136,7 @@ module _ (r : Record) (s : Sound r) where
   -- ---- the text keeps every rule
 
   name-shown : field f name t ≡ take (width f name) (r .name)
-  unfolding givenRows inRows same rank
+  unfolding givenRows
   name-shown = front-shown r name refl (omega (arith, s .name-places, name-room f))
 
   name-rule : nameRule (take (width f name) (r .name)) ≡ true
@@ -148,19 +147,19 @@ module _ (r : Record) (s : Sound r) where
       (every-take isNameCharacter (width f name) (r .name) (both .1))
 
   birth-right : getD t (start f birthCheck) 0 ≡ digitOf (field f birth t)
-  unfolding givenRows heldRows plain inRows same rank
+  unfolding givenRows heldRows plain
   birth-right =
       one-shown r birthCheck (digitOf (take 6 (r .birth))) refl (ones f .birth-check-one) refl
       ∙ ap digitOf (take-all 6 (r .birth) (omega (arith, s .places birth refl)) ∙ sym (plain-shown r s birth refl))
 
   expiry-right : getD t (start f expiryCheck) 0 ≡ digitOf (field f expiry t)
-  unfolding givenRows heldRows plain inRows same rank
+  unfolding givenRows heldRows plain
   expiry-right =
       one-shown r expiryCheck (digitOf (take 6 (r .expiry))) refl (ones f .expiry-check-one) refl
       ∙ ap digitOf (take-all 6 (r .expiry) (omega (arith, s .places expiry refl)) ∙ sym (plain-shown r s expiry refl))
 
   personal-right : has f personalCheck ≡ true → getD t (start f personalCheck) 0 ≡ digitOf (field f personal t)
-  unfolding givenRows heldRows inRows same rank
+  unfolding givenRows heldRows
   personal-right h =
       one-shown r personalCheck 0x30 refl (has-one f personalCheck (ones f .personal-check-most) h) refl
       ∙ sym (ap digitOf (shown r personal refl ∙ padded-nil (width f personal)) ∙ fillers-digit (width f personal))
@@ -201,7 +200,7 @@ module _ (r : Record) (s : Sound r) where
       ∙ ap (λ n. take n (r .name)) (s .name-ends)
 
   record-read : recordBy f t (spanOf f t) ≡ r
-  unfolding recordBy inText heldRows inRows same rank numberIn
+  unfolding recordBy inText heldRows numberIn
   record-read =
       same-holding f (inText f t (spanOf f t)) (held r) (λ x p. in-text f t (spanOf f t) x p ∙ plain-shown r s x p)
       number-read name-read

@@ -5,14 +5,14 @@ use mathlib.Core.Bool.{Bool, true, false, cond}
 use mathlib.Core.List.{List, [], _∷_, _++_}
 use lib.ListN.{length, take, drop, getD}
 use Rattle.zone.specs.declared.record.Record.{Record}
-use Rattle.zone.specs.Part.{Part, code, state, nationality, birth, sex, expiry, composite, rank, same}
-use Rattle.zone.specs.Rows.{inRows}
+use Rattle.zone.specs.Part.{Part, code, state, nationality, birth, sex, expiry, composite, same}
 use Rattle.zone.specs.Alphabet.{isDigit, isLetter, isFiller, isCharacter, every, filler}
 use Rattle.zone.specs.Form.{layout, start, width, has, total, field, covered}
 use Rattle.zone.specs.Record.{padded, isPlain, held}
 use Rattle.zone.proofs.Fields.{one-there}
 use Rattle.zone.proofs.Padded.{padded-exact, padded-full}
-use Rattle.zone.proofs.Parts.{same-self, in-rows-or, _and_, all-said}
+use Rattle.zone.specs.Rows.{_is_}
+use Rattle.zone.proofs.Parts.{in-rows-or, _and_, all-said}
 use Rattle.zone.proofs.Holding.{each-plain, plain-width}
 use Rattle.zone.proofs.Widths.{ones, has-one}
 use Rattle.zone.proofs.Every.{every-append, every-take, every-drop}
@@ -37,17 +37,16 @@ module _ (r : Record) where
 
   -- each part holds what it is given, with fillers behind that
   pub shown : (x : Part) → same x composite ≡ false → field (r .form) x (textOf r) ≡ padded (width (r .form) x) (given r x)
-  unfolding inRows
   shown x n = shown-all x ∙ rw n
 
   pub last-shown : has (r .form) composite ≡ true
       → getD (textOf r) (start (r .form) composite) 0 ≡ digitOf (covered (r .form) (textOf r))
-  unfolding lastDigit inRows
+  unfolding lastDigit
   last-shown there =
       let f = r .form in
       let d = lastDigit r in
       let one = has-one f composite (ones f .composite-most) there in
-      let last : givenAll r composite ≡ d ∷ [] = rw (same-self composite) in
+      let last : givenAll r composite ≡ d ∷ [] = refl in
       one-there f composite (textOf r) d one (shown-all composite ∙ ap (padded (width f composite)) last)
       ∙ ap digitOf (sym (covered-clear r d _ there (length-before r)) ∙ ap (covered f) (text-put r))
 
@@ -96,7 +95,8 @@ module _ (r : Record) (s : Sound r) where
   text-pure = every-in-place isCharacter (givenAll r) refl given-pure (layout (r .form))
     where
       given-pure : (x : Part) → every isCharacter (givenAll r x) ≡ true
-      given-pure = in-rows-or (λ x l. every isCharacter l ≡ true) (held r) _ (held-pure r s) (digit-pure _
+      given-pure = in-rows-or (λ x l. every isCharacter l ≡ true) (held r) (composite is (lastDigit r ∷ []) ∷ givenRows r)
+          (held-pure r s) (digit-pure _
           and s .number-characters
           and s .name-characters
           and one-pure (atCheck r) check-pure
@@ -108,7 +108,7 @@ module _ (r : Record) (s : Sound r) where
 
   -- a field of one width stands in its place
   pub plain-shown : (x : Part) → isPlain x ≡ true → field (r .form) x (textOf r) ≡ held r x
-  unfolding givenRows inRows same rank
+  unfolding givenRows
   plain-shown x p =
       each-plain (λ y n. field (r .form) y (textOf r) ≡ padded (width (r .form) y) (held r y))
       (shown r code refl) (shown r state refl) (shown r nationality refl) (shown r birth refl) (shown r sex refl)

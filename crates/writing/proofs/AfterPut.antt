@@ -12,7 +12,7 @@ use lib.Seq.{take-all, take-nil, drop-drop}
 use Rattle.lent.specs.Copied.{copied, copiedAt}
 use Rattle.zone.specs.declared.form.Form.{Form}
 use Rattle.zone.specs.declared.record.Record.{Record}
-use Rattle.zone.specs.Part.{Part, same}
+use Rattle.zone.specs.Part.{Part}
 use Rattle.zone.specs.Form.{start, width, total, field}
 use Rattle.zone.specs.Record.{padded}
 use Rattle.zone.proofs.Widths.{within}

@@ -13,7 +13,7 @@ use Rattle.lent.specs.Copied.{copiedAt}
 use Rattle.lent.proofs.Bools.{and-both, or-either}
 use Rattle.zone.specs.declared.form.Form.{Form}
 use Rattle.zone.specs.declared.record.Record.{Record}
-use Rattle.zone.specs.Part.{composite, rank, same}
+use Rattle.zone.specs.Part.{composite}
 use Rattle.zone.specs.Form.{row, forms, start, startIn, has, total, Piece, pieceOf, pieces, cut, joinedCuts, covered}
 use Rattle.zone.proofs.AllForms.{all-forms}
 use Rattle.zone.proofs.Widths.{within, ones, has-one}
@@ -28,7 +28,7 @@ areClear p [] = true
 areClear p (s ∷ ss) = isClear p s && areClear p ss
 
 composite-clear : (f : Form) → areClear (start f composite) (pieces f) ≡ true
-unfolding areClear isClear row forms start startIn rank same pieceOf pieces
+unfolding areClear isClear row forms start startIn pieceOf pieces
 composite-clear = all-forms (λ f. areClear (start f composite) (pieces f) ≡ true) (search needs)
 
 module _ (t : List ℕ) (p c : ℕ) (h : p + 1 ≤ length t) where

@@ -11,7 +11,7 @@ use Rattle.lent.specs.Copied.{copied, copiedAt}
 use Rattle.lent.proofs.Bools.{and-both, or-neither, not-true}
 use Rattle.zone.specs.declared.form.Form.{Form}
 use Rattle.zone.specs.Alphabet.{every, filler}
-use Rattle.zone.specs.Part.{Part, rank, same, among}
+use Rattle.zone.specs.Part.{Part, same, among}
 use Rattle.zone.specs.Form.{Cell, _of_, row, forms, layout, partOf, startIn, widthIn, start, width, total, field}
 use Rattle.zone.specs.Record.{padded}
 use Rattle.zone.proofs.AllForms.{all-forms}
@@ -77,7 +77,7 @@ noneTwice [] = true
 noneTwice (x of w ∷ cells) = not (among x (map partOf cells)) && noneTwice cells
 
 none-twice : (f : Form) → noneTwice (layout f) ≡ true
-unfolding noneTwice among partOf same rank row forms
+unfolding noneTwice among partOf row forms
 none-twice = all-forms (λ f. noneTwice (layout f) ≡ true) (search needs)
 
 same-other : (x y : Part) → same x y ≡ false → same y x ≡ false

@@ -8,8 +8,8 @@ use Rattle.lent.proofs.Bools.{and-both, not-true}
 use Rattle.zone.specs.declared.record.Record.{Record}
 use Rattle.zone.specs.Alphabet.{filler}
 use Rattle.zone.specs.Part.{Part, code, state, number, numberCheck, optional, birth, birthCheck, sex, expiry, expiryCheck}
-use Rattle.zone.specs.Part.{nationality, composite, name, personalCheck, rank, same, among}
-use Rattle.zone.specs.Rows.{PartRow, inRows, allRows}
+use Rattle.zone.specs.Part.{nationality, composite, name, personalCheck, same, among}
+use Rattle.zone.specs.Rows.{PartRow, allRows}
 use Rattle.zone.specs.Record.{heldRows, held}
 use Rattle.zone.specs.Form.{layout, start, width, has, total, covered}
 use Rattle.zone.proofs.Parts.{same-one, OfRows, in-rows-or, in-rows, rows-then, rows-pass}
@@ -50,11 +50,11 @@ module _ (r : Record) where
 
   module _ (t : List ℕ) (e : length t ≡ total (r .form)) where
     opening : putOpening r t ≡ written (state ∷ code ∷ []) t
-    unfolding putOpening written givenRows heldRows inRows same rank
+    unfolding putOpening written givenRows heldRows
     opening = refl
 
     dates : putDates r t ≡ written (expiryCheck ∷ expiry ∷ birthCheck ∷ birth ∷ []) t
-    unfolding putDates written givenRows heldRows inRows same rank
+    unfolding putDates written givenRows heldRows
     dates =
         rw (
           mark-put r birthCheck (digitOf (take 6 (r .birth))) (written (birth ∷ []) t) (length-written (birth ∷ []) t e)
@@ -64,18 +64,18 @@ module _ (r : Record) where
         )
 
     person : putPerson r t ≡ written (name ∷ sex ∷ nationality ∷ []) t
-    unfolding putPerson written givenRows heldRows inRows same rank
+    unfolding putPerson written givenRows heldRows
     person = rw (mark-put r sex (r .sex) (written (nationality ∷ []) t) (length-written (nationality ∷ []) t e)
         (single (fixed (r .form) .sex-width)))
 
     personal-zero : mark r personalCheck 0x30 t ≡ written (personalCheck ∷ []) t
-    unfolding written givenRows inRows same rank
+    unfolding written givenRows
     personal-zero = mark-put r personalCheck 0x30 t e (single-or-none r personalCheck (ones (r .form) .personal-check-most))
 
     -- short, or long where the further characters and their digit have room
     number-put : (isWide r ≡ true → length (furtherIn r) < width (r .form) optional)
         → putNumber r t ≡ written (optional ∷ numberCheck ∷ number ∷ []) t
-    unfolding putNumber putLong putShort written givenRows inRows same rank atCheck inOptional
+    unfolding putNumber putLong putShort written givenRows atCheck inOptional
     number-put room = go (isWide r) refl
       where
         marked : (c : ℕ) → mark r numberCheck c (put r number (r .number) t)
@@ -152,7 +152,7 @@ module _ (r : Record) where
 
   -- all that are given anything are among them
   all-given : (y : Part) → onlyIn whole y ≡ given r y
-  unfolding onlyIn whole givenRows heldRows allRows among same rank
+  unfolding onlyIn whole givenRows heldRows among
   all-given = in-rows-or (λ y l. cond (among y whole) l [] ≡ l) (held r) (givenRows r)
       (in-rows (λ y l. cond (among y whole) l [] ≡ l) [] (heldRows r) (λ y. either (among y whole)) (here (heldRows r) refl))
       (here (givenRows r) refl)
@@ -166,7 +166,7 @@ module _ (r : Record) where
       here rows e = rows-then rows (λ y l h. rw h) (rows-pass (λ y l. among y whole) rows e)
 
   before-in-place : written whole blanks ≡ beforeLast r
-  unfolding beforeLast whole once among same rank
+  unfolding beforeLast whole once among
   before-in-place =
       written-in-place whole refl
       ∙ same-in-place (onlyIn whole) (given r) all-given (layout (r .form))
@@ -177,7 +177,7 @@ module _ (r : Record) where
 
   -- the composite digit is put last
   pub text-put : put r composite (lastDigit r ∷ []) (beforeLast r) ≡ textOf r
-  unfolding put beforeLast textOf givenRows heldRows inRows same rank
+  unfolding put beforeLast textOf givenRows heldRows
   text-put = put-in-place (r .form) (given r) composite (lastDigit r ∷ []) refl
 
   pub put-text : (t : List ℕ) → length t ≡ total (r .form)

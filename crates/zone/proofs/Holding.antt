@@ -10,8 +10,8 @@ use lib.Seq.{length-take-le}
 use Rattle.zone.specs.declared.form.Form.{Form}
 use Rattle.zone.specs.declared.record.Record.{Record}
 use Rattle.zone.specs.Alphabet.{filler}
-use Rattle.zone.specs.Part.{Part, code, state, number, nationality, birth, sex, expiry, name, rank, same}
-use Rattle.zone.specs.Rows.{inRows, allRows}
+use Rattle.zone.specs.Part.{Part, code, state, number, nationality, birth, sex, expiry, name}
+use Rattle.zone.specs.Rows.{allRows}
 use Rattle.zone.specs.Form.{width}
 use Rattle.zone.specs.Rooms.{codeRoom, stateRoom, dateRoom, numberRoom, nameRoom}
 use Rattle.zone.specs.Record.{trimmedLength, trimmed, padded, plain, room, isPlain, heldRows, held, holding}
@@ -31,7 +31,7 @@ plain-passes p e = in-rows (λ x n. ltb 0 n ≡ true → p x n ≡ true) 0 plain
     (rows-then plain (λ x n e h. e) (rows-pass p plain e))
 
 pub passes-plain : (p : Part → ℕ → Bool) → ((x : Part) → isPlain x ≡ true → p x (room x) ≡ true) → allRows p plain ≡ true
-unfolding plain inRows same rank
+unfolding plain
 passes-plain p h = pass-rows p plain
     (h code refl and h state refl and h nationality refl and h birth refl and h sex refl and h expiry refl and all-said)
 
@@ -49,7 +49,7 @@ one-held (c ∷ (d ∷ s)) e = absurd (omega arith)
 
 -- what fits its room is held
 pub held-plain : (f : Form) (g : Part → List ℕ) (x : Part) → isPlain x ≡ true → length (g x) ≡ room x → held (holding f g) x ≡ g x
-unfolding heldRows holding inRows same rank
+unfolding heldRows holding
 held-plain f g = each-plain (λ x n. length (g x) ≡ n → held (holding f g) x ≡ g x) (padded-exact codeRoom (g code))
     (padded-exact stateRoom (g state)) (padded-exact stateRoom (g nationality)) (padded-exact dateRoom (g birth))
     (one-held (g sex)) (padded-exact dateRoom (g expiry))
@@ -57,7 +57,7 @@ held-plain f g = each-plain (λ x n. length (g x) ≡ n → held (holding f g) x
 -- two records that hold the same are the same
 pub same-holding : (f : Form) (g h : Part → List ℕ) → ((x : Part) → isPlain x ≡ true → g x ≡ h x) → g number ≡ h number
     → g name ≡ h name → holding f g ≡ holding f h
-unfolding holding plain inRows same rank
+unfolding holding plain
 same-holding f g h p n m = λ i. record {
   form = f;
   code = padded codeRoom (p code refl i);
@@ -84,7 +84,7 @@ held-length n s e = length-take-le n s (omega (arith, trimmed-le s))
 pub holding-held : (r : Record) → ((x : Part) → isPlain x ≡ true → length (held r x) ≡ room x)
     → length (r .number) ≡ numberRoom → trimmedLength (r .number) ≡ r .«number_len»
     → length (r .name) ≡ nameRoom → trimmedLength (r .name) ≡ r .«name_len» → holding (r .form) (held r) ≡ r
-unfolding holding heldRows plain inRows same rank
+unfolding holding heldRows plain
 holding-held r p l n k m = λ i. record {
   form = r .form;
   code = padded-exact codeRoom (r .code) (p code refl) i;

@@ -19,7 +19,6 @@ Apart : List Cell → Part → Part → Type 0
 Apart cells x y = (startIn cells x + widthIn cells x ≤ startIn cells y) ⊎ (startIn cells y + widthIn cells y ≤ startIn cells x)
 
 both-there : (x y z : Part) → same x y ≡ false → same x z ≡ true → same y z ≡ true → ⊥
-unfolding same
 both-there x y z n p q =
     let a = eqb-true (rank x) (rank z) p in
     let b = eqb-true (rank y) (rank z) q in
@@ -50,7 +49,7 @@ ranked n =
     ∷ name ∷ personal ∷ personalCheck ∷ []) n code
 
 ranked-rank : (x : Part) → ranked (rank x) ≡ x
-unfolding ranked rank
+unfolding ranked
 ranked-rank code = refl
 ranked-rank state = refl
 ranked-rank number = refl
@@ -69,11 +68,9 @@ ranked-rank personal = refl
 ranked-rank personalCheck = refl
 
 pub same-one : (x y : Part) → same x y ≡ true → x ≡ y
-unfolding same
 same-one x y e = sym (ranked-rank x) ∙ (ap ranked (eqb-true (rank x) (rank y) e) ∙ ranked-rank y)
 
 pub same-self : (x : Part) → same x x ≡ true
-unfolding same
 same-self x = eq-eqb (rank x) (rank x) refl
 
 -- what holds of what each row says, and of what stands for none, holds of every part
@@ -84,7 +81,6 @@ pub data OfRows {A : Type 0} (Q : Part → A → Type 0) : List (PartRow A) → 
 
 pub in-rows-or : {A : Type 0} (Q : Part → A → Type 0) (none : Part → A) (rows : List (PartRow A)) → ((x : Part) → Q x (none x))
     → OfRows Q rows → (x : Part) → Q x (inRows (none x) rows x)
-unfolding inRows
 in-rows-or Q none [] other all-said x = other x
 in-rows-or {A} Q none (y is a ∷ rows) other (said and left) x = go (same x y) refl (in-rows-or Q none rows other left x)
   where
@@ -105,12 +101,10 @@ rows-then (x is a ∷ rows) h (said and left) = h x a said and rows-then rows h 
 -- a test of every row
 pub rows-pass : {A : Type 0} (p : Part → A → Bool) (rows : List (PartRow A)) → allRows p rows ≡ true
     → OfRows (λ x a. p x a ≡ true) rows
-unfolding allRows
 rows-pass p [] e = all-said
 rows-pass p (x is a ∷ rows) e = let both = and-both (p x a) (allRows p rows) e in both .0 and rows-pass p rows (both .1)
 
 pub pass-rows : {A : Type 0} (p : Part → A → Bool) (rows : List (PartRow A)) → OfRows (λ x a. p x a ≡ true) rows
     → allRows p rows ≡ true
-unfolding allRows
 pass-rows p [] all-said = refl
 pass-rows p (x is a ∷ rows) (e and es) = rw (e, pass-rows p rows es)

@@ -11,7 +11,7 @@ use Rattle.lent.proofs.Bools.{and-both}
 use mathlib.Core.Logic.{_⊎_, inl, inr}
 use lib.ListN.{length}
 use Rattle.zone.specs.declared.form.Form.{Form}
-use Rattle.zone.specs.Part.{Part, code, state, number, birth, sex, expiry, nationality, rank, same, among, numberCheck}
+use Rattle.zone.specs.Part.{Part, code, state, number, birth, sex, expiry, nationality, same, among, numberCheck}
 use Rattle.zone.specs.Part.{birthCheck}
 use Rattle.zone.specs.Part.{expiryCheck, optional, composite, personalCheck, name}
 use Rattle.zone.specs.Rooms.{codeRoom, stateRoom, dateRoom, nine, numberRoom, nameRoom}
@@ -30,7 +30,7 @@ pub record Fixed (f : Form) : Type 0 where
   pub expiry-width : width f expiry ≡ dateRoom
 
 pub fixed : (f : Form) → Fixed f
-unfolding row width widthIn rank same forms
+unfolding row width widthIn forms
 fixed = all-forms Fixed (search needs)
 
 unfoldable pub totalIn : List Cell → ℕ
@@ -69,7 +69,7 @@ pub record Ones (f : Form) : Type 0 where
   pub composite-most : width f composite ≤ 1
 
 pub ones : (f : Form) → Ones f
-unfolding row width widthIn rank same forms
+unfolding row width widthIn forms
 ones = all-forms Ones (search needs)
 
 pub has-one : (f : Form) (x : Part) → width f x ≤ 1 → has f x ≡ true → width f x ≡ 1
@@ -83,15 +83,15 @@ pub record Longest (f : Form) : Type 0 where
   pub long-room : nine < longest f → longest f ≡ width f optional + 7
 
 pub longest-number : (f : Form) → Longest f
-unfolding row width widthIn rank same forms
+unfolding row width widthIn forms
 longest-number = all-forms Longest (search needs)
 
 pub some-name : (f : Form) → 0 < width f name
-unfolding row width widthIn rank same forms
+unfolding row width widthIn forms
 some-name = all-forms (λ f. 0 < width f name) (search needs)
 
 pub name-room : (f : Form) → width f name ≤ nameRoom
-unfolding row width widthIn rank same forms
+unfolding row width widthIn forms
 name-room = all-forms (λ f. width f name ≤ nameRoom) (search needs)
 
 -- no part of a layout is empty

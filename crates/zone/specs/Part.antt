@@ -9,7 +9,7 @@ pub data Part : Type 0 where
   optional2 composite name personal personalCheck : Part
 
 -- a number for each, by which two are compared
-unfoldable pub rank : Part → ℕ
+abbrev pub rank : Part → ℕ
 rank code = 0
 rank state = 1
 rank number = 2
@@ -27,7 +27,7 @@ rank name = 13
 rank personal = 14
 rank personalCheck = 15
 
-unfoldable pub same : Part → Part → Bool
+abbrev pub same : Part → Part → Bool
 same x y = eqb (rank x) (rank y)
 
 unfoldable pub among : Part → List Part → Bool

@@ -8,11 +8,11 @@ infix 70 _is_
 pub data PartRow (A : Type 0) : Type 0 where
   _is_ : Part → A → PartRow A
 
-unfoldable pub inRows : {A : Type 0} → A → List (PartRow A) → Part → A
+abbrev pub inRows : {A : Type 0} → A → List (PartRow A) → Part → A
 inRows none [] x = none
 inRows none (y is a ∷ rows) x = cond (same x y) a (inRows none rows x)
 
 -- whether a test holds of every row
-unfoldable pub allRows : {A : Type 0} → (Part → A → Bool) → List (PartRow A) → Bool
+abbrev pub allRows : {A : Type 0} → (Part → A → Bool) → List (PartRow A) → Bool
 allRows p [] = true
 allRows p (x is a ∷ rows) = p x a && allRows p rows

@@ -1,8 +1,6 @@
 -- One test for each field.
 use mathlib.Core.Bool.{and-true}
 use borrow.Author.Needs.{needs}
-use Rattle.zone.specs.Part.{rank, same}
-use Rattle.zone.specs.Rows.{inRows, allRows}
 use Rattle.zone.specs.Record.{plain, heldRows}
 use Rattle.field.specs.Rules.{ruleRows}
 use Rattle.sound.specs.Sound.{keepsRules}
@@ -10,7 +8,7 @@ use Rattle.sound.proofs.fields.keeps_rules.Statement.{statement}
 use Rattle.sound.proofs.fields.keeps_rules.Tie as tie
 
 returns : tie.Need-returns
-unfolding keepsRules plain heldRows ruleRows inRows allRows same rank
+unfolding keepsRules plain heldRows ruleRows
 returns c =
     let sex = c .before .before in
     let birth = sex .before in

@@ -1,15 +1,13 @@
 -- The rule on the field, at the field's start.
 use borrow.Author.Needs.{needs}
 use Rattle.text.specs.Order.{fieldRows}
-use Rattle.zone.specs.Part.{same, rank}
-use Rattle.zone.specs.Rows.{inRows}
 use Rattle.zone.specs.Form.{field}
 use Rattle.zone.specs.Inner.Places.{placesOf}
 use Rattle.text.proofs.fields.name_check.Statement.{statement}
 use Rattle.text.proofs.fields.name_check.Tie as tie
 
 returns : tie.Need-returns
-unfolding fieldRows inRows same rank placesOf field
+unfolding fieldRows placesOf field
 returns c = λ span.
     rw (
       c .judged .ensures,

@@ -1,7 +1,5 @@
 -- The rule on the field, at the field's start.
 use borrow.Author.Needs.{needs}
-use Rattle.zone.specs.Part.{same, rank}
-use Rattle.zone.specs.Rows.{inRows}
 use Rattle.zone.proofs.Widths.{fixed}
 use Rattle.text.specs.Order.{fieldRows}
 use Rattle.zone.specs.Form.{field}
@@ -10,7 +8,7 @@ use Rattle.text.proofs.fields.nationality_check.Statement.{statement}
 use Rattle.text.proofs.fields.nationality_check.Tie as tie
 
 returns : tie.Need-returns
-unfolding fieldRows inRows same rank placesOf field
+unfolding fieldRows placesOf field
 returns c = λ span.
     rw (
       c .judged .ensures,

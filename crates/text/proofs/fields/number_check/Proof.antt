@@ -1,7 +1,5 @@
 -- The rule on the field, at the field's start.
 use borrow.Author.Needs.{needs}
-use Rattle.zone.specs.Part.{same, rank}
-use Rattle.zone.specs.Rows.{inRows}
 use Rattle.zone.proofs.Widths.{fixed}
 use Rattle.text.specs.Order.{fieldRows}
 use Rattle.zone.specs.Form.{field}
@@ -11,7 +9,7 @@ use Rattle.text.proofs.fields.number_check.Statement.{statement}
 use Rattle.text.proofs.fields.number_check.Tie as tie
 
 returns : tie.Need-returns
-unfolding fieldRows inRows same rank placesOf field numberRule
+unfolding fieldRows placesOf field numberRule
 returns c =
     rw (
       c .judged .ensures,

@@ -3,8 +3,6 @@ use borrow.Author.Needs.{needs}
 use Rattle.zone.proofs.Widths.{fixed}
 use Rattle.zone.specs.Form.{field}
 use Rattle.zone.specs.Inner.Places.{placesOf}
-use Rattle.zone.specs.Part.{rank, same}
-use Rattle.zone.specs.Rows.{inRows}
 use Rattle.zone.specs.Record.{holding}
 use Rattle.text.specs.Read.{recordBy, inText}
 use Rattle.text.proofs.NameEnds.{name-ends}
@@ -12,7 +10,7 @@ use Rattle.text.proofs.record.record_by.Statement.{statement}
 use Rattle.text.proofs.record.record_by.Tie as tie
 
 returns : tie.Need-returns
-unfolding recordBy holding inText inRows same rank placesOf field
+unfolding recordBy holding inText placesOf field
 returns c =
     let early = c .before .before .before .before .before .before in
     let form = early .before .before .before .before .before .before .before .args .form in

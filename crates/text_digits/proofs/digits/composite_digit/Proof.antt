@@ -2,8 +2,6 @@
 use borrow.Author.Needs.{needs}
 use borrow.Author.Tests.{lt-ltb, le-ltb}
 use denote.Ref.{now}
-use Rattle.zone.specs.Part.{same, rank}
-use Rattle.zone.specs.Rows.{inRows}
 use Rattle.zone.specs.Inner.Places.{placesOf}
 use Rattle.digit.specs.Inner.Covered.{compositeSum}
 use Rattle.digit.proofs.CoveredSum.{composite-digit}
@@ -15,7 +13,7 @@ use Rattle.text_digits.proofs.digits.composite_digit.Statement.{stateme
 use Rattle.text_digits.proofs.digits.composite_digit.Tie as tie
 
 returns : tie.Need-returns
-unfolding ifHas digitRows inRows same rank placesOf
+unfolding ifHas digitRows placesOf
 returns c =
     λ span.
     let start = c .before .before .before .before .before .before in

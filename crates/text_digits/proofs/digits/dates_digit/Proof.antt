@@ -2,8 +2,6 @@
 use mathlib.Core.Path.{ap}
 use borrow.Author.Needs.{needs}
 use denote.Ref.{now}
-use Rattle.zone.specs.Part.{same, rank}
-use Rattle.zone.specs.Rows.{inRows}
 use Rattle.zone.specs.Part.{birth, expiry}
 use Rattle.zone.specs.Form.{field}
 use Rattle.zone.specs.Inner.Places.{placesOf}
@@ -14,7 +12,7 @@ use Rattle.text_digits.proofs.digits.dates_digit.Statement.{statement}
 use Rattle.text_digits.proofs.digits.dates_digit.Tie as tie
 
 returns : tie.Need-returns
-unfolding digitRows inRows same rank placesOf sumsOf
+unfolding digitRows placesOf sumsOf
 returns c =
     λ span.
     let start = c .before .before .before .before .before .before .before in

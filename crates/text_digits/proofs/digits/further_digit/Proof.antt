@@ -1,15 +1,13 @@
 -- The cases of `furtherDigit`, where the form has room.
 use borrow.Author.Needs.{needs}
 use borrow.Author.Tests.{lt-ltb, le-ltb}
-use Rattle.zone.specs.Part.{same, rank}
-use Rattle.zone.specs.Rows.{inRows}
 use Rattle.text_digits.specs.Digits.{furtherDigit, digitRows}
 use Rattle.text_digits.specs.Inner.Checks.{ifHas}
 use Rattle.text_digits.proofs.digits.further_digit.Statement.{statement}
 use Rattle.text_digits.proofs.digits.further_digit.Tie as tie
 
 returns : tie.Need-returns
-unfolding ifHas digitRows inRows same rank furtherDigit
+unfolding ifHas digitRows furtherDigit
 returns c =
     rw (
       rw (c .before .before .before .optional-width .ensures) at (lt-ltb _ _ (c .before .before .if1 .taken)),
@@ -27,7 +25,7 @@ returns-2 c =
     )
 
 returns-3 : tie.Need-returns-3
-unfolding ifHas digitRows inRows same rank furtherDigit
+unfolding ifHas digitRows furtherDigit
 returns-3 c =
     rw (
       rw (c .before .before .before .optional-width .ensures) at (lt-ltb _ _ (c .before .before .if1 .taken)),

@@ -2,8 +2,6 @@
 use borrow.Author.Needs.{needs}
 use mathlib.Core.Path.{ap}
 use native.Mathlib.Omega.{arith}
-use Rattle.zone.specs.Part.{same, rank}
-use Rattle.zone.specs.Rows.{inRows}
 use Rattle.zone.specs.Part.{optional}
 use Rattle.zone.specs.Inner.Places.{placesOf}
 use Rattle.zone.specs.declared.form.Places.{Places}
@@ -21,7 +19,7 @@ add-judged-digit c =
     omega (arith, ap (λ (p : Places). p .optional) (c .before .places .ensures), within form optional, total-le form)
 
 pub long-digit-spec : {M : Type 1} → statement M
-unfolding digitRows inRows same rank furtherDigit placesOf
+unfolding digitRows furtherDigit placesOf
 long-digit-spec =
     tie.close
     (tie.spec

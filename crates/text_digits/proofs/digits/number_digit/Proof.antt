@@ -2,8 +2,6 @@
 use mathlib.Core.Path.{ap}
 use borrow.Author.Needs.{needs}
 use denote.Ref.{now}
-use Rattle.zone.specs.Part.{same, rank}
-use Rattle.zone.specs.Rows.{inRows}
 use Rattle.zone.specs.Part.{number}
 use Rattle.zone.specs.Form.{field}
 use Rattle.zone.specs.Inner.Places.{placesOf}
@@ -15,7 +13,7 @@ use Rattle.text_digits.proofs.digits.number_digit.Statement.{statement}
 use Rattle.text_digits.proofs.digits.number_digit.Tie as tie
 
 returns : tie.Need-returns
-unfolding digitRows inRows same rank numberDigit checkedBy placesOf sumsOf
+unfolding digitRows numberDigit checkedBy placesOf sumsOf
 returns c =
     let start = c .before .before .before .before .before .before in
     let gone = ap (λ (s : Sums). s .number) (start .pre) in
@@ -26,7 +24,7 @@ returns c =
     )
 
 pub number-digit-spec : {M : Type 1} → statement M
-unfolding digitRows inRows same rank numberDigit
+unfolding digitRows numberDigit
 number-digit-spec =
     tie.close
     (tie.spec

@@ -3,8 +3,6 @@ use mathlib.Core.Path.{ap}
 use borrow.Author.Needs.{needs}
 use denote.Ref.{now}
 use borrow.Author.Tests.{lt-ltb, le-ltb}
-use Rattle.zone.specs.Part.{same, rank}
-use Rattle.zone.specs.Rows.{inRows}
 use Rattle.zone.specs.Part.{personal}
 use Rattle.zone.specs.Form.{field}
 use Rattle.zone.specs.Inner.Places.{placesOf}
@@ -16,7 +14,7 @@ use Rattle.text_digits.proofs.digits.personal_digit.Statement.{statemen
 use Rattle.text_digits.proofs.digits.personal_digit.Tie as tie
 
 returns : tie.Need-returns
-unfolding ifHas digitRows inRows same rank personalDigit isLeftOut placesOf field
+unfolding ifHas digitRows personalDigit isLeftOut placesOf field
 returns c =
     λ span.
     let places = c .before .before .before .before .before .before .places .ensures in
@@ -32,7 +30,7 @@ returns c =
     rw (has, out)
 
 returns-2 : tie.Need-returns-2
-unfolding ifHas digitRows inRows same rank personalDigit isLeftOut placesOf field sumsOf
+unfolding ifHas digitRows personalDigit isLeftOut placesOf field sumsOf
 returns-2 c =
     λ span.
     let tested = c .before .before in
