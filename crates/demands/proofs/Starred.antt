@@ -8,7 +8,7 @@ use Rattle.zone.specs.Alphabet.{isDigit, isLetter, isFiller, isCharacter, isFor
 use Rattle.zone.specs.Form.{row, forms, partOf, parts, start, startIn, width, widthIn, firstForm, mayStand, isOf}
 use Rattle.zone.specs.Form.{formOf, field, pieceOf}
 use Rattle.zone.specs.Form.{pieces, cut, joinedCuts, covered}
-use Rattle.zone.specs.Record.{trimmed, trimmedLength, padded, holding}
+use Rattle.zone.specs.Record.{trimmed, trimmedLength, padded, heldRows, holding}
 use Rattle.zone.specs.Codes.{codeOf}
 use Rattle.digit.specs.Check.{value, weight, sumFrom, checkOf, digitOf}
 use Rattle.field.specs.Date.{pairOf, yearOf, monthOf, dayOf, isLeap, isShort, daysIn, yearRule, monthRule, dayRule, birthRule}
@@ -25,7 +25,7 @@ use Rattle.cells.specs.Bits.{put, gathered}
 use Rattle.cells.specs.Bits as bits
 use Rattle.entry.specs.Codes.{sexCode}
 use Rattle.cells.specs.Cells.{putAll, putCell, putRow, octetsOf}
-use Rattle.entry.specs.Entry.{keyValues, restValues, valuesOf, entryOf}
+use Rattle.entry.specs.Entry.{said, entryOf}
 use Rattle.tlv.specs.Element.{element, tagAt, tagWidth, sizeAt, sizeOf, sized, endsWithin}
 use Rattle.lent.specs.Octets.{alike, octets}
 use Rattle.demands.specs.Examples.{told, isRead, isRefused, isPassed, isDigitAt, isRight, T3, examples, allRight}
@@ -34,7 +34,7 @@ pub starred : allRight examples ≡ true
 unfolding allRight examples isRight isPassed isDigitAt T3 octets checkOf sumFrom value weight isDigit isLetter isFiller
     birthRule pairOf yearOf monthOf dayOf isLeap isShort daysIn yearRule monthRule dayRule row forms firstForm start startIn
     width widthIn field pieceOf pieces cut joinedCuts covered recordBy holding inText spanOf isLong numberBy trimmed
-    trimmedLength padded entryOf octetsOf putRow putCell putAll valuesOf keyValues restValues bits.octets gathered put codeOf
+    trimmedLength padded entryOf octetsOf putRow putCell putAll said heldRows bits.octets gathered put codeOf
     sexCode alike told isRead isRefused element tagAt tagWidth sizeAt sizeOf sized endsWithin readText readBy answered mayStand
     isOf formOf verdictBy characters firstForeign first isForeign isCharacter inOrder parts partOf fieldRows codeRule kindRule
     stateRule numberRule spanRule sexRule nameRule isNameCharacter every expiryRule digitRows numberDigit furtherDigit

@@ -30,7 +30,7 @@ use Rattle.cells.proofs.Putting.{all-append, all-followed, all-bits, length-all
 use Rattle.cells.proofs.RowOctets.{length-octets, octets-cut, whole-octets, no-bits}
 use Rattle.entry.specs.Codes.{formCode, sexCode}
 use Rattle.entry.specs.Row.{row, cells}
-use Rattle.entry.specs.Entry.{keyValues, restValues, valuesOf, entryOf, size, isHouse}
+use Rattle.entry.specs.Entry.{said, values, entryOf, size, isHouse}
 use Rattle.packing.specs.Packed.{on, packed, packedOver, packedOnOver}
 use Rattle.entry.specs.Inner.Units.{frontOctets, frontFours, frontUnits, allUnits, allOctets, restFours}
 use Rattle.entry.specs.Inner.Units.{before, front, rest, unitsOf}
@@ -85,8 +85,8 @@ characters-put : (r : Record) (t : List ℕ)
 unfolding before
 characters-put r t = simp (map-append, all-append)
 
-entry-opened : (house : ℕ) (r : Record) → putRow (cells row) (valuesOf house r) [] ≡ opening house r (namedBits r)
-unfolding putRow putCell putAll valuesOf keyValues restValues
+entry-opened : (house : ℕ) (r : Record) → putRow (cells row) (values row house r) [] ≡ opening house r (namedBits r)
+unfolding putRow putCell putAll said heldRows
 entry-opened house r =
     let t = put 2 (sexCode (r .sex)) (namedBits r) in
     head-units house (formCode (r .form)) _ (entered-tells (r .form) .1)

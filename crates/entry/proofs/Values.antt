@@ -23,7 +23,7 @@ use Rattle.cells.proofs.Fitting.{isHeld, FitsCell, Fits, fits-append, Sized, fi
 use Rattle.cells.proofs.RowOctets.{length-octets-of}
 use Rattle.entry.specs.Codes.{formCode, sexCode}
 use Rattle.entry.specs.Row.{row, key, afterKey, cells}
-use Rattle.entry.specs.Entry.{keyValues, restValues, valuesOf, entryOf, size, isHouse}
+use Rattle.entry.specs.Entry.{said, values, entryOf, size, isHouse}
 use Rattle.entry.proofs.Coded.{codes-held}
 use Rattle.zone.proofs.FormTold.{entered-tells}
 use Rattle.entry.proofs.Sexes.{sex-tells}
@@ -58,15 +58,15 @@ module _ (r : Record) (s : Sound r) where
     codes-held (take (r .«name_len») (r .name)) (every-take isCharacter (r .«name_len») (r .name) (s .name-characters)),
   )
 
-  rest-fits : Fits (cells afterKey) (restValues r)
-  unfolding restValues heldRows plain ruleRows
-  rest-fits =
+  rest-fits : (h : ℕ) → Fits (cells afterKey) (values afterKey h r)
+  unfolding said heldRows plain ruleRows
+  rest-fits h =
       let sex-fits = one-held 2 (sexCode (r .sex)) (sex-tells (r .sex) (s .kept sex refl) .1) in
       (plain-coded code refl, (plain-coded nationality refl, ((refl, sex-fits), (name-fits, tt))))
 
   module _ (h : ℕ) (house : isHouse h ≡ true) where
-    pub key-fits : Fits (cells key) (keyValues h r)
-    unfolding keyValues heldRows plain
+    pub key-fits : Fits (cells key) (values key h r)
+    unfolding said heldRows plain
     key-fits =
         let house-fits = one-held 15 h (omega (arith, house-range h house .1)) in
         let form-fits = one-held 3 (formCode (r .form)) (entered-tells (r .form) .1) in
@@ -87,27 +87,25 @@ module _ (r : Record) (s : Sound r) where
           ),
         )
 
-    pub values-fit : Fits (cells row) (valuesOf h r)
-    unfolding valuesOf keyValues restValues
-    values-fit = fits-append (cells key) (cells afterKey) (keyValues h r) (restValues r) key-fits rest-fits
+    pub values-fit : Fits (cells row) (values row h r)
+    values-fit = fits-append (cells key) (cells afterKey) (values key h r) (values afterKey h r) key-fits (rest-fits h)
 
   -- ---- lengths
 
-  pub key-sized : (h : ℕ) → Sized (cells key) (keyValues h r)
-  unfolding keyValues heldRows plain
+  pub key-sized : (h : ℕ) → Sized (cells key) (values key h r)
+  unfolding said heldRows plain
   key-sized h =
       let number = length-map (r .number) codeOf ∙ s .number-places in
       (refl, (refl, (plain-coded state refl .0, (number, (plain-coded birth refl .0, (plain-coded expiry refl .0, tt))))))
 
-  pub values-sized : (h : ℕ) → Sized (cells row) (valuesOf h r)
-  unfolding valuesOf keyValues restValues
+  pub values-sized : (h : ℕ) → Sized (cells row) (values row h r)
   values-sized h =
-      sized-append (cells key) (cells afterKey) (keyValues h r) (restValues r) (key-sized h)
-      (fits-sized (cells afterKey) (restValues r) rest-fits)
+      sized-append (cells key) (cells afterKey) (values key h r) (values afterKey h r) (key-sized h)
+      (fits-sized (cells afterKey) (values afterKey h r) (rest-fits h))
 
   -- 278 + 6n bits rounded up to bytes
   pub length-entry : (h : ℕ) → length (entryOf h r) ≡ size r
-  unfolding entryOf size valuesOf keyValues restValues
+  unfolding entryOf size said heldRows
   length-entry h =
-      length-octets-of (cells row) (valuesOf h r) (values-sized h)
+      length-octets-of (cells row) (values row h r) (values-sized h)
       ∙ ap (λ (n : ℕ). roundedUp (rowBits (cells row) (n ∷ []))) name-coded

@@ -1,40 +1,36 @@
 -- The entry: document 01, "The entry, most significant bit first", and what writing one answers and leaves.
 use Prim.Native.Nat.{ℕ}
 use mathlib.Core.Bool.{Bool, _&&_}
-use mathlib.Core.List.{List, [], _∷_, _++_, map}
+use mathlib.Core.List.{List, [], _∷_, map}
 use mathlib.Core.Path.{_≡_}
 use lib.Dec.{leb}
-use lib.ListN.{take}
 use Rattle.refusal.specs.declared.Written.{Written}
 use Rattle.refusal.specs.Outcome.{unless}
 use Rattle.refusal.specs.Length.{Length, lengthOf}
 use Rattle.refusal.specs.Output.{writeAnswer, writeOut}
 use Rattle.zone.specs.declared.record.Record.{Record}
 use Rattle.zone.specs.Codes.{codeOf}
+use Rattle.zone.specs.Part.{number, sex}
+use Rattle.zone.specs.Rows.{_is_, inRows}
+use Rattle.zone.specs.Record.{held}
 use Rattle.sound.specs.Sound.{isSound}
 use Rattle.cells.specs.Cells.{octetsOf, rowBits, roundedUp}
 use Rattle.entry.specs.Codes.{formCode, sexCode}
-use Rattle.entry.specs.Row.{row, cells}
+use Rattle.entry.specs.Row.{Part, house, form, field, Place, _of_, row, cells}
 
--- the key: house, form, state, number, filled up with `<`, birth, expiry
-unfoldable pub keyValues : ℕ → Record → List (List ℕ)
-keyValues house r =
-    (house ∷ []) ∷ (formCode (r .form) ∷ []) ∷ map codeOf (r .state) ∷ map codeOf (r .number) ∷ map codeOf (r .birth)
-    ∷ map codeOf (r .expiry) ∷ []
+-- what a cell says: one number, or the codes of a field's characters; the number is filled up with `<`
+unfoldable pub said : (house : ℕ) → Record → Part → List ℕ
+said h r house = h ∷ []
+said h r form = formCode (r .form) ∷ []
+said h r (field x) = inRows (map codeOf (held r x)) (number is map codeOf (r .number) ∷ sex is (sexCode (r .sex) ∷ []) ∷ []) x
 
--- then code, nationality, sex, name
-unfoldable pub restValues : Record → List (List ℕ)
-restValues r =
-    map codeOf (r .code) ∷ map codeOf (r .nationality) ∷ (sexCode (r .sex) ∷ []) ∷ map codeOf (take (r .«name_len») (r .name))
-    ∷ []
-
--- what each part of the row says of a house and a record
-unfoldable pub valuesOf : ℕ → Record → List (List ℕ)
-valuesOf house r = keyValues house r ++ restValues r
+abbrev pub values : List Place → (house : ℕ) → Record → List (List ℕ)
+values [] h r = []
+values (x of c ∷ ps) h r = said h r x ∷ values ps h r
 
 -- and zero bits to the next byte
 unfoldable pub entryOf : ℕ → Record → List ℕ
-entryOf house r = octetsOf (cells row) (valuesOf house r)
+entryOf h r = octetsOf (cells row) (values row h r)
 
 -- how many characters the parts have that tell how many
 abbrev pub lengths : Record → List ℕ
@@ -46,17 +42,17 @@ size r = roundedUp (rowBits (cells row) (lengths r))
 
 -- 1-32,767
 unfoldable pub isHouse : ℕ → Bool
-isHouse house = leb 1 house && leb house 32767
+isHouse h = leb 1 h && leb h 32767
 
 -- 17 for a house or a record that is not sound, then 16 for an output that is too short; else the entry is written
 unfoldable pub entryAnswer : ℕ → Record → List ℕ → Length
-entryAnswer house r out = writeAnswer (unless (isHouse house && isSound r) 17 0) (size r) out
+entryAnswer h r out = writeAnswer (unless (isHouse h && isSound r) 17 0) (size r) out
 
 -- a refusal changes no octet, a success those of the entry and no others
 unfoldable pub entryOut : ℕ → Record → List ℕ → List ℕ
-entryOut house r out = writeOut (unless (isHouse house && isSound r) 17 0) (size r) (entryOf house r) out
+entryOut h r out = writeOut (unless (isHouse h && isSound r) 17 0) (size r) (entryOf h r) out
 
 -- the whole promise: the answer, and what the output holds afterwards
-pub record Writes (house : ℕ) (r : Record) (out after : List ℕ) (w : Written) : Type 0 where
-  pub answer : lengthOf w ≡ entryAnswer house r out
-  pub output : after ≡ entryOut house r out
+pub record Writes (h : ℕ) (r : Record) (out after : List ℕ) (w : Written) : Type 0 where
+  pub answer : lengthOf w ≡ entryAnswer h r out
+  pub output : after ≡ entryOut h r out

@@ -24,7 +24,7 @@ use Rattle.cells.proofs.RowOctets.{octets-begin, octets-tell}
 use Rattle.zone.specs.Form.{formBy}
 use Rattle.entry.specs.Codes.{formCode}
 use Rattle.entry.specs.Row.{key, afterKey, cells}
-use Rattle.entry.specs.Entry.{keyValues, restValues, valuesOf, entryOf, isHouse}
+use Rattle.entry.specs.Entry.{said, values, entryOf, isHouse}
 use Rattle.entry.proofs.Coded.{codes-tell}
 use Rattle.zone.proofs.FormTold.{entered-tells}
 use Rattle.entry.proofs.Values.{key-fits, key-sized}
@@ -34,9 +34,9 @@ use Rattle.text_theorems.proofs.RecordOfText.{kept-and-sound}
 -- ---- the thirty bytes are those of the row's beginning
 
 module _ (h : ℕ) (r : Record) (o : Sound r) where
-  key-octets : keyOf h r ≡ octetsOf (cells key) (keyValues h r)
-  unfolding keyOf entryOf valuesOf keyValues
-  key-octets = octets-begin (cells key) (cells afterKey) (keyValues h r) (restValues r) 30 (key-sized r o h) refl
+  key-octets : keyOf h r ≡ octetsOf (cells key) (values key h r)
+  unfolding keyOf entryOf said
+  key-octets = octets-begin (cells key) (cells afterKey) (values key h r) (values afterKey h r) 30 (key-sized r o h) refl
 
   number-whole : r .number ≡ padded numberRoom (wholeNumber r)
   unfolding trimmed wholeNumber
@@ -60,13 +60,13 @@ module _ (h k : ℕ) (r q : Record) (house : isHouse h ≡ true) (sound : isSoun
   o′ : Sound q
   o′ = taken-apart q sound′
 
-  same-values : keyOf h r ≡ keyOf k q → keyValues h r ≡ keyValues k q
+  same-values : keyOf h r ≡ keyOf k q → values key h r ≡ values key k q
   same-values e =
-      octets-tell (cells key) (keyValues h r) (keyValues k q) (key-fits r o h house) (key-fits q o′ k house′)
+      octets-tell (cells key) (values key h r) (values key k q) (key-fits r o h house) (key-fits q o′ k house′)
       (sym (key-octets h r o) ∙ e ∙ key-octets k q o′)
 
   agreeing : keyOf h r ≡ keyOf k q → SameKey h r k q
-  unfolding wholeNumber keyValues heldRows plain
+  unfolding wholeNumber said heldRows plain
   agreeing e =
       let pure = o .characters in
       let pure′ = o′ .characters in
@@ -84,13 +84,13 @@ module _ (h k : ℕ) (r q : Record) (house : isHouse h ≡ true) (sound : isSoun
       }
 
   agreed : SameKey h r k q → keyOf h r ≡ keyOf k q
-  unfolding keyValues
+  unfolding said heldRows
   agreed e =
       let number : r .number ≡ q .number =
       number-whole h r o ∙ ap (padded numberRoom) (e .same-number) ∙ sym (number-whole k q o′) in
-      let values : keyValues h r ≡ keyValues k q = rw
+      let same : values key h r ≡ values key k q = rw
       (e .same-house, e .same-form, e .same-state, number, e .same-birth, e .same-expiry) in
-      key-octets h r o ∙ ap (octetsOf (cells key)) values ∙ sym (key-octets k q o′)
+      key-octets h r o ∙ ap (octetsOf (cells key)) same ∙ sym (key-octets k q o′)
 
   pub key-exactly : (keyOf h r ≡ keyOf k q) ↔ SameKey h r k q
   key-exactly = (agreeing, agreed)

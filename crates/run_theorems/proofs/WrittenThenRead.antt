@@ -16,9 +16,9 @@ use Rattle.cells.specs.Cells.{roundedUp}
 use Rattle.cells.proofs.Fitting.{Fits}
 use Rattle.cells.proofs.RowOctets.{octets-say, octets-end, octets-whole, length-octets-of}
 use Rattle.zone.specs.Form.{formBy}
-use Rattle.entry.specs.Row as part
+use Rattle.entry.specs.Row as cell
 use Rattle.entry.specs.Row.{row, cells}
-use Rattle.entry.specs.Entry.{keyValues, restValues, valuesOf, entryOf, size, isHouse}
+use Rattle.entry.specs.Entry.{said, values, entryOf, size, isHouse}
 use Rattle.zone.proofs.FormTold.{entered-tells}
 use Rattle.entry.proofs.Values.{values-fit, values-sized, length-entry}
 use Rattle.runs.specs.Run.{next, numberOf, valuesIn, houseIn, formIn, recordOf, recordIn, sizeIn, isWhole, isEntry, entryBy}
@@ -37,7 +37,7 @@ module _ (h : ℕ) (r : Record) (house : isHouse h ≡ true) (sound : isSound r 
   o : Sound r
   o = taken-apart r sound
 
-  fits : Fits (cells row) (valuesOf h r)
+  fits : Fits (cells row) (values row h r)
   fits = values-fit r o h house
 
   module _ (rest : List ℕ) where
@@ -45,31 +45,31 @@ module _ (h : ℕ) (r : Record) (house : isHouse h ≡ true) (sound : isSound r 
     s = entryOf h r ++ rest
 
     -- the bits say what the writer put there
-    values : valuesIn s ≡ valuesOf h r
+    values-said : valuesIn s ≡ values row h r
     unfolding entryOf
-    values = octets-say (cells row) (valuesOf h r) fits rest
+    values-said = octets-say (cells row) (values row h r) fits rest
 
     house-read : houseIn s ≡ h
-    unfolding houseIn valuesOf keyValues restValues
-    house-read = ap (λ (vs : List (List ℕ)). numberOf vs part.house) values
+    unfolding houseIn said
+    house-read = ap (λ (vs : List (List ℕ)). numberOf vs cell.house) values-said
 
     form-read : formIn s ≡ As (r .form)
-    unfolding formIn valuesOf keyValues restValues
-    form-read = ap (λ (vs : List (List ℕ)). formBy (numberOf vs part.form)) values ∙ entered-tells (r .form) .0
+    unfolding formIn said
+    form-read = ap (λ (vs : List (List ℕ)). formBy (numberOf vs cell.form)) values-said ∙ entered-tells (r .form) .0
 
     record-read : recordIn (r .form) s ≡ r
     unfolding recordIn
-    record-read = ap (recordOf (r .form)) values ∙ record-back h r o
+    record-read = ap (recordOf (r .form)) values-said ∙ record-back h r o
 
     whole : isWhole s ≡ true
     unfolding isWhole entryOf
-    whole = octets-whole (cells row) (valuesOf h r) fits rest
+    whole = octets-whole (cells row) (values row h r) fits rest
 
     size-read : sizeIn s ≡ length (entryOf h r)
     unfolding sizeIn entryOf
     size-read =
-        ap (λ (n : ℕ). roundedUp n) (octets-end (cells row) (valuesOf h r) fits rest)
-        ∙ sym (length-octets-of (cells row) (valuesOf h r) (values-sized r o h))
+        ap (λ (n : ℕ). roundedUp n) (octets-end (cells row) (values row h r) fits rest)
+        ∙ sym (length-octets-of (cells row) (values row h r) (values-sized r o h))
 
     pub decoded : Decoded h r (entryOf h r ++ rest)
     unfolding isEntry

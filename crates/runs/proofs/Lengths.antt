@@ -5,20 +5,19 @@ use native.Mathlib.Omega.{arith}
 use lib.Dec.{eqb, ltb}
 use lib.ListN.{length, drop}
 use Rattle.lent.proofs.Bools.{either-way}
+use Rattle.zone.specs.Part as text
 use Rattle.zone.specs.declared.form.Form.{Form}
 use Rattle.zone.specs.declared.form.Recognised.{Recognised}
 use Rattle.zone.specs.declared.form.Recognised.the-variants.{As, Unknown}
 use Rattle.zone.specs.declared.record.Record.{Record}
 use Rattle.zone.specs.Rooms.{numberRoom}
 use Rattle.zone.specs.Record.{blank, holding}
-use Rattle.zone.proofs.Padded.{trimmed-le}
-use Rattle.cells.proofs.ReadingBack.{length-numbers}
+use Rattle.zone.proofs.Padded.{trimmed-le, trimmed-length}
 use Rattle.cells.proofs.Shifts.{bits-below}
-use Rattle.entry.specs.Row as part
 use Rattle.entry.specs.Row.{start}
 use Rattle.units.specs.Unpacked.{charactersAt}
 use Rattle.runs.specs.Inner.Units.{nameLength}
-use Rattle.runs.specs.Run.{Standing, recordOf, recordIn, formIn, isEntry, noEntry, entryBy, readEntry}
+use Rattle.runs.specs.Run.{Standing, saidOf, recordOf, recordIn, formIn, isEntry, noEntry, entryBy, readEntry}
 use Rattle.units.proofs.Reading.{length-characters}
 
 pub record Short (r : Record) : Type 0 where
@@ -30,12 +29,13 @@ unfolding blank holding
 blank-short = record { number-short = omega arith; name-short = omega arith }
 
 entry-short : (f : Form) (s : List ℕ) → Short (recordIn f s)
-unfolding recordIn recordOf
-entry-short f s = record {
-  number-short = rw (length-characters s (start part.number) numberRoom) at
-      (trimmed-le (charactersAt s (start part.number) numberRoom));
-  name-short = rw (length-numbers s (start part.name + 6) (nameLength s) 6) (bits-below s (start part.name) 6);
-}
+unfolding recordIn recordOf holding saidOf
+entry-short f s =
+    let number = charactersAt s (start text.number) numberRoom in
+    record {
+      number-short = rw (trimmed-length number) (rw (length-characters s (start text.number) numberRoom) at (trimmed-le number));
+      name-short = rw (length-characters s (start text.name + 6) (nameLength s)) (bits-below s (start text.name) 6);
+    }
 
 -- of what stands at an offset
 abbrev ShortKept : Standing → Type 0

@@ -5,6 +5,7 @@ use mathlib.Core.Bool.{true}
 use mathlib.Core.List.{List}
 use native.Mathlib.Omega.{arith}
 use lib.ListN.{length, take, drop, replicate}
+use Rattle.zone.specs.Part as text
 use Rattle.zone.specs.Alphabet.{filler}
 use Rattle.zone.specs.Record.{padded, trimmedLength}
 use Rattle.zone.specs.Rooms.{codeRoom, stateRoom, dateRoom, numberRoom, nameRoom}
@@ -12,13 +13,14 @@ use Rattle.zone.specs.declared.form.Form.{Form}
 use Rattle.zone.specs.declared.record.Record.{Record}
 use Rattle.cells.specs.Bits.{bitsAt}
 use Rattle.cells.specs.Cells.{numbersAt}
-use Rattle.cells.proofs.ReadingBack.{length-numbers}
+use Rattle.zone.specs.Record.{holding}
+use Rattle.zone.proofs.Padded.{padded-trimmed, trimmed-length}
+use Rattle.units.proofs.Reading.{length-characters}
 use Rattle.cells.proofs.RowOctets.{whole-told}
 use Rattle.entry.specs.Codes.{sexBy}
-use Rattle.entry.specs.Row as part
 use Rattle.entry.specs.Row.{row, cells, start}
 use Rattle.entry.specs.Inner.Units.{unitOf, frontUnits}
-use Rattle.runs.specs.Run.{recordOf, recordIn, isWhole}
+use Rattle.runs.specs.Run.{saidOf, recordOf, recordIn, isWhole}
 use Rattle.units.specs.Unpacked.{charactersAt}
 use Rattle.runs.specs.Inner.Units.{nameLength, endBy, sizeBy, spareBy, allUnits, held, unitsOver, unitsIn}
 use Rattle.runs.proofs.UnitsRead.{field-read, padded-field, padded-name}
@@ -34,36 +36,39 @@ fieldAt u room at = padded room (take room (drop at u))
 abbrev pub recordAt : Form → List ℕ → (sex n : ℕ) → Record
 recordAt f u sex n = record {
   form = f;
-  code = fieldAt u codeRoom (unitOf part.code);
-  state = fieldAt u stateRoom (unitOf part.state);
-  number = fieldAt u numberRoom (unitOf part.number);
-  «number_len» = trimmedLength (take numberRoom (drop (unitOf part.number) u));
-  nationality = fieldAt u stateRoom (unitOf part.nationality);
-  birth = fieldAt u dateRoom (unitOf part.birth);
+  code = fieldAt u codeRoom (unitOf text.code);
+  state = fieldAt u stateRoom (unitOf text.state);
+  number = fieldAt u numberRoom (unitOf text.number);
+  «number_len» = trimmedLength (take numberRoom (drop (unitOf text.number) u));
+  nationality = fieldAt u stateRoom (unitOf text.nationality);
+  birth = fieldAt u dateRoom (unitOf text.birth);
   sex = sexBy sex;
-  expiry = fieldAt u dateRoom (unitOf part.expiry);
+  expiry = fieldAt u dateRoom (unitOf text.expiry);
   name = fieldAt u nameRoom (frontUnits + 1);
   «name_len» = n;
 }
 
 pub record-read : (f : Form) (s : List ℕ) (n : ℕ) → n < 64 → n ≡ nameLength s → isWhole s ≡ true
-    → recordAt f (unitsIn s n) (bitsAt s (start part.sex) 2) n ≡ recordIn f s
-unfolding recordIn recordOf numbersAt isWhole
+    → recordAt f (unitsIn s n) (bitsAt s (start text.sex) 2) n ≡ recordIn f s
+unfolding recordIn recordOf holding saidOf numbersAt isWhole
 record-read f s n less same e =
     let whole = whole-told (cells row) s e in
     let fits : sizeBy n ≤ length s = rw (← same) at (whole .long) in
     let spare : bitsAt s (endBy n) (spareBy n) ≡ 0 = rw (← same) at (whole .zeros) in
-    let code = padded-field s n fits less (unitOf part.code) codeRoom (omega arith) in
-    let state = padded-field s n fits less (unitOf part.state) stateRoom (omega arith) in
-    let number = padded-field s n fits less (unitOf part.number) numberRoom (omega arith) in
-    let length-of = ap trimmedLength (field-read s n fits less (unitOf part.number) numberRoom (omega arith)) in
-    let nationality = padded-field s n fits less (unitOf part.nationality) stateRoom (omega arith) in
-    let birth = padded-field s n fits less (unitOf part.birth) dateRoom (omega arith) in
-    let expiry = padded-field s n fits less (unitOf part.expiry) dateRoom (omega arith) in
+    let code = padded-field s n fits less (unitOf text.code) codeRoom (omega arith) in
+    let state = padded-field s n fits less (unitOf text.state) stateRoom (omega arith) in
+    let digits = charactersAt s (start text.number) numberRoom in
+    let number = padded-field s n fits less (unitOf text.number) numberRoom (omega arith)
+    ∙ sym (padded-trimmed numberRoom digits) in
+    let length-of = ap trimmedLength (field-read s n fits less (unitOf text.number) numberRoom (omega arith))
+    ∙ sym (trimmed-length digits) in
+    let nationality = padded-field s n fits less (unitOf text.nationality) stateRoom (omega arith) in
+    let birth = padded-field s n fits less (unitOf text.birth) dateRoom (omega arith) in
+    let expiry = padded-field s n fits less (unitOf text.expiry) dateRoom (omega arith) in
     let name = padded-name s n fits less spare
-    ∙ ap (λ (m : ℕ). padded nameRoom (charactersAt s (start part.name + 6) m)) same in
-    let long : n ≡ length (numbersAt s (start part.name + 6) (nameLength s) 6) =
-    same ∙ sym (length-numbers s (start part.name + 6) (nameLength s) 6) in
+    ∙ ap (λ (m : ℕ). padded nameRoom (charactersAt s (start text.name + 6) m)) same in
+    let long : n ≡ length (charactersAt s (start text.name + 6) (nameLength s)) =
+    same ∙ sym (length-characters s (start text.name + 6) (nameLength s)) in
     λ i. record {
       form = f;
       code = code i;
@@ -72,7 +77,7 @@ record-read f s n less same e =
       «number_len» = length-of i;
       nationality = nationality i;
       birth = birth i;
-      sex = sexBy (bitsAt s (start part.sex) 2);
+      sex = sexBy (bitsAt s (start text.sex) 2);
       expiry = expiry i;
       name = name i;
       «name_len» = long i;

@@ -13,6 +13,7 @@ use lib.ListN.{length-take, length-drop}
 use lib.Seq.{take-all, take-at, drop-at, length-take-le, getD-append-add, drop-append-add}
 use Rattle.lent.specs.Copied.{copied, copiedAt}
 use Rattle.lent.proofs.Lists.{drop-replicate, rest-all, copy-into, zeros}
+use Rattle.zone.specs.Part as text
 use Rattle.zone.specs.Alphabet.{filler}
 use Rattle.zone.specs.Codes.{characterOf}
 use Rattle.zone.specs.Record.{padded}
@@ -23,7 +24,6 @@ use Rattle.cells.specs.Bits.{bit, bitsAt}
 use Rattle.cells.specs.Cells.{numbersAt}
 use Rattle.cells.proofs.Alike.{bit-alike, numbers-alike, none-each, Unset, numbers-none, numbers-parted}
 use Rattle.cells.proofs.RowOctets.{whole-octets}
-use Rattle.entry.specs.Row as part
 use Rattle.entry.specs.Row.{start}
 use Rattle.entry.specs.Inner.Units.{frontFours, frontUnits, unitOf, restFours}
 use Rattle.units.specs.Unpacked.{charactersAt}
@@ -62,12 +62,12 @@ cut a b c r at m p q =
 -- the rest is unpacked to the part behind the front's units, which has room for it
 pub units-unpacked : (to octets first back : List ℕ) (n : ℕ) → n < 64 → length to ≡ allUnits → length octets ≡ allOctets
     → first ≡ unpackedOver 0 frontFours to octets
-    → back ≡ unpackedOver (start part.name) (restFours n) (take (length first - frontUnits) (drop frontUnits first)) octets
+    → back ≡ unpackedOver (start text.name) (restFours n) (take (length first - frontUnits) (drop frontUnits first)) octets
     → take frontUnits first ++ (back ++ drop (length first - frontUnits) (drop frontUnits first)) ≡ unitsOver to octets n
 unfolding unitsOver
 units-unpacked to octets first back n h u o e f =
     let p = charactersAt octets 0 frontUnits in
-    let q = charactersAt octets (start part.name) (4 * restFours n) in
+    let q = charactersAt octets (start text.name) (4 * restFours n) in
     let one : first ≡ copied to p = e ∙ unpack-room 0 frontFours to octets (omega arith) (omega arith) in
     let x = take (length to) p in
     let y = drop (length p) to in
@@ -77,7 +77,7 @@ units-unpacked to octets first back n h u o e f =
     let room : length part-of ≡ allUnits - frontUnits =
     ap length (rest-all first frontUnits) ∙ length-drop frontUnits first ∙ omega arith in
     let two : back ≡ copied part-of q = f
-    ∙ unpack-room (start part.name) (restFours n) part-of octets (omega arith) (omega arith) in
+    ∙ unpack-room (start text.name) (restFours n) part-of octets (omega arith) (omega arith) in
     copy-into first frontUnits q back two ∙ ap (λ (l : List ℕ). copiedAt l frontUnits q) one
 
 module _ (s : List ℕ) (n : ℕ) (h : sizeBy n ≤ length s) (g : n < 64) where
@@ -131,7 +131,7 @@ module _ (s : List ℕ) (n : ℕ) (h : sizeBy n ≤ length s) (g : n < 64) where
   first = charactersAt (held s n) 0 frontUnits
 
   abbrev second : List ℕ
-  second = charactersAt (held s n) (start part.name) (4 * restFours n)
+  second = charactersAt (held s n) (start text.name) (4 * restFours n)
 
   first-long : length first ≡ frontUnits
   first-long = length-characters (held s n) 0 frontUnits
@@ -146,7 +146,7 @@ module _ (s : List ℕ) (n : ℕ) (h : sizeBy n ≤ length s) (g : n < 64) where
       ∙ rw (take-at first z frontUnits first-long, drop-at first z frontUnits first-long)
       (ap (λ (l : List ℕ). first ++ l) (copied-padded (4 * mostFours) second))
 
-  pub field-read : (at m : ℕ) → at + m ≤ unitOf part.sex → take m (drop at (unitsIn s n)) ≡ charactersAt s (6 * at) m
+  pub field-read : (at m : ℕ) → at + m ≤ unitOf text.sex → take m (drop at (unitsIn s n)) ≡ charactersAt s (6 * at) m
   field-read at m k =
       let x = held s n in
       let d = frontUnits - at - m in
@@ -163,31 +163,31 @@ module _ (s : List ℕ) (n : ℕ) (h : sizeBy n ≤ length s) (g : n < 64) where
 
   -- the length of the name, its characters and fillers
   second-parts : bitsAt s (endBy n) (spareBy n) ≡ 0
-      → second ≡ charactersAt (held s n) (start part.name) 1
-      ++ (charactersAt s (start part.name + 6) n ++ replicate (4 * restFours n - 1 - n) filler)
+      → second ≡ charactersAt (held s n) (start text.name) 1
+      ++ (charactersAt s (start text.name + 6) n ++ replicate (4 * restFours n - 1 - n) filler)
   second-parts z =
       let x = held s n in
       let d = 4 * restFours n - 1 - n in
       let e : 4 * restFours n ≡ 1 + (n + d) = omega arith in
       let none : numbersAt x (endBy n) d 6 ≡ replicate d 0 = numbers-none x (endBy n) d 6 (held-unset z) in
-      let same : charactersAt x (start part.name + 6) n ≡ charactersAt s (start part.name + 6) n =
-      ap (map characterOf) (numbers-alike x s (sizeBy n) held-alike (start part.name + 6) n 6 (omega arith)) in
-      let rest : charactersAt x (start part.name + 6) (n + d) ≡ charactersAt s (start part.name + 6) n ++ replicate d filler =
-      characters-parted x (start part.name + 6) n d ∙ rw (same, none, fillers-of d) in
-      ap (charactersAt x (start part.name)) e ∙ characters-parted x (start part.name) 1 (n + d)
-      ∙ ap (λ (l : List ℕ). charactersAt x (start part.name) 1 ++ l) rest
+      let same : charactersAt x (start text.name + 6) n ≡ charactersAt s (start text.name + 6) n =
+      ap (map characterOf) (numbers-alike x s (sizeBy n) held-alike (start text.name + 6) n 6 (omega arith)) in
+      let rest : charactersAt x (start text.name + 6) (n + d) ≡ charactersAt s (start text.name + 6) n ++ replicate d filler =
+      characters-parted x (start text.name + 6) n d ∙ rw (same, none, fillers-of d) in
+      ap (charactersAt x (start text.name)) e ∙ characters-parted x (start text.name) 1 (n + d)
+      ∙ ap (λ (l : List ℕ). charactersAt x (start text.name) 1 ++ l) rest
 
   name-read : bitsAt s (endBy n) (spareBy n) ≡ 0
-      → take nameRoom (drop (frontUnits + 1) (unitsIn s n)) ≡ padded nameRoom (charactersAt s (start part.name + 6) n)
+      → take nameRoom (drop (frontUnits + 1) (unitsIn s n)) ≡ padded nameRoom (charactersAt s (start text.name + 6) n)
   name-read z =
-      let one = charactersAt (held s n) (start part.name) 1 in
-      let name = charactersAt s (start part.name + 6) n in
+      let one = charactersAt (held s n) (start text.name) 1 in
+      let name = charactersAt s (start text.name + 6) n in
       let d = 4 * restFours n - 1 - n in
       let j = 4 * mostFours - 4 * restFours n in
       let r : List ℕ = replicate d filler in
       let u : List ℕ = replicate j filler in
       let w : List ℕ = replicate (d + j) filler in
-      let long : length second ≡ 4 * restFours n = length-characters (held s n) (start part.name) (4 * restFours n) in
+      let long : length second ≡ 4 * restFours n = length-characters (held s n) (start text.name) (4 * restFours n) in
       let all : padded (4 * mostFours) second ≡ second ++ u = rw long at (padded-spare (4 * mostFours) second (omega arith)) in
       let parts : padded (4 * mostFours) second ≡ one ++ (name ++ w) =
       all ∙ ap (λ (l : List ℕ). l ++ u) (second-parts z) ∙ simp append-assoc
@@ -195,20 +195,20 @@ module _ (s : List ℕ) (n : ℕ) (h : sizeBy n ≤ length s) (g : n < 64) where
       let behind : drop (frontUnits + 1) (unitsIn s n) ≡ name ++ w =
       ap (drop (frontUnits + 1)) units-parts
       ∙ (rw first-long at (drop-append-add first (padded (4 * mostFours) second) 1)) ∙ ap (drop 1) parts
-      ∙ drop-at one (name ++ w) 1 (length-characters (held s n) (start part.name) 1) in
+      ∙ drop-at one (name ++ w) 1 (length-characters (held s n) (start text.name) 1) in
       let enough : nameRoom ≤ length (name ++ w) = rw (length-append name w)
-      (omega (arith, length-characters s (start part.name + 6) n, length-replicate {A = ℕ} (d + j) filler)) in
+      (omega (arith, length-characters s (start text.name + 6) n, length-replicate {A = ℕ} (d + j) filler)) in
       ap (take nameRoom) behind ∙ sym (padded-full nameRoom (name ++ w) enough) ∙ fillers-behind nameRoom (d + j) name
 
   -- ---- each in its room
 
-  pub padded-field : (at m : ℕ) → at + m ≤ unitOf part.sex → padded m (take m (drop at (unitsIn s n))) ≡ charactersAt s (6 * at) m
-  padded-field at m k =
-      ap (padded m) (field-read at m k) ∙ padded-exact m (charactersAt s (6 * at) m) (length-characters s (6 * at) m)
+  pub padded-field : (at m : ℕ) → at + m ≤ unitOf text.sex
+      → padded m (take m (drop at (unitsIn s n))) ≡ padded m (charactersAt s (6 * at) m)
+  padded-field at m k = ap (padded m) (field-read at m k)
 
   pub padded-name : bitsAt s (endBy n) (spareBy n) ≡ 0
       → padded nameRoom (take nameRoom (drop (frontUnits + 1) (unitsIn s n)))
-      ≡ padded nameRoom (charactersAt s (start part.name + 6) n)
+      ≡ padded nameRoom (charactersAt s (start text.name + 6) n)
   padded-name z =
-      let x = charactersAt s (start part.name + 6) n in
+      let x = charactersAt s (start text.name + 6) n in
       ap (padded nameRoom) (name-read z) ∙ padded-exact nameRoom (padded nameRoom x) (length-padded nameRoom x)

@@ -2,101 +2,96 @@
 use Prim.Native.Nat.{ℕ, _+_}
 use mathlib.Core.Path.{_≡_, refl, ap, sym, _∙_}
 use mathlib.Core.Bool.{true}
-use mathlib.Core.List.{List, map}
+use mathlib.Core.List.{List, [], _∷_, map}
 use native.Mathlib.Omega.{arith}
 use lib.ListN.{length, take, length-map}
 use lib.Seq.{take-all}
 use Rattle.zone.specs.Alphabet.{isCharacter, every}
-use Rattle.zone.specs.Codes.{characterOf}
-use Rattle.zone.specs.Part as text
-use Rattle.zone.specs.Record.{trimmedLength, trimmed, padded, plain, heldRows}
-use Rattle.field.specs.Rules.{ruleRows}
-use Rattle.zone.specs.Rooms.{codeRoom, stateRoom, dateRoom, numberRoom, nameRoom}
+use Rattle.zone.specs.Codes.{codeOf, characterOf}
+use Rattle.zone.specs.Part.{Part, code, state, number, nationality, birth, sex, expiry, name}
+use Rattle.zone.specs.Record.{trimmed, padded, plain, room, isPlain, heldRows, held, holding}
+use Rattle.zone.specs.Rooms.{stateRoom, numberRoom, nameRoom}
 use Rattle.zone.specs.declared.form.Form.{Form}
 use Rattle.zone.specs.declared.form.Recognised.the-variants.{As}
 use Rattle.zone.specs.declared.record.Record.{Record}
-use Rattle.zone.proofs.Every.{every-take}
+use Rattle.zone.proofs.FormTold.{tells-entered}
+use Rattle.zone.proofs.Holding.{each-plain, held-plain, same-holding}
 use Rattle.zone.proofs.Padded.{padded-exact, padded-trimmed, take-padded}
-use Rattle.sound.proofs.SoundRecord.{Sound}
+use Rattle.field.specs.Rules.{ruleRows}
+use Rattle.sound.proofs.SoundRecord.{Sound, held-pure}
 use Rattle.cells.specs.Bits.{bitsAt}
 use Rattle.cells.specs.Cells.{numbersAt}
+use Rattle.cells.proofs.ReadingBack.{length-numbers}
 use Rattle.cells.proofs.Shifts.{bits-below}
 use Rattle.entry.specs.Codes.{formCode, sexCode, sexBy}
-use Rattle.entry.specs.Entry.{keyValues, restValues, valuesOf}
-use Rattle.entry.specs.Row as part
-use Rattle.entry.specs.Row.{start}
+use Rattle.entry.specs.Entry.{said, values}
+use Rattle.entry.specs.Row as cell
+use Rattle.entry.specs.Row.{row, startIn, start}
 use Rattle.entry.proofs.Coded.{codes-tell, characters-tell}
-use Rattle.zone.proofs.FormTold.{tells-entered}
 use Rattle.entry.proofs.Sexes.{sex-tells, tells-sex}
-use Rattle.entry.proofs.Values.{name-coded}
-use Rattle.runs.specs.Run.{recordOf, recordIn, houseIn, formIn, valuesIn}
+use Rattle.runs.specs.Run.{saidOf, recordOf, recordIn, houseIn, formIn, valuesIn}
 use Rattle.runs.specs.Inner.Units.{nameLength}
 
 -- the values of a sound record say that record
-pub record-back : (house : ℕ) (r : Record) → Sound r → recordOf (r .form) (valuesOf house r) ≡ r
-unfolding recordOf valuesOf keyValues restValues trimmed heldRows plain ruleRows
+pub record-back : (house : ℕ) (r : Record) → Sound r → recordOf (r .form) (values row house r) ≡ r
+unfolding recordOf saidOf said heldRows plain ruleRows trimmed
 record-back house r s =
-    let x = take (r .«name_len») (r .name) in
-    let pure = s .characters in
-    let code = codes-tell (r .code) (pure text.code refl) in
-    let state = codes-tell (r .state) (pure text.state refl) in
-    let number = codes-tell (r .number) (s .number-characters) in
-    let nationality = codes-tell (r .nationality) (pure text.nationality refl) in
-    let birth = codes-tell (r .birth) (pure text.birth refl) in
-    let expiry = codes-tell (r .expiry) (pure text.expiry refl) in
-    let sex = sex-tells (r .sex) (s .kept text.sex refl) .0 in
-    let ends = ap trimmedLength number ∙ s .number-ends in
-    let named : padded nameRoom x ≡ r .name = (rw (s .name-ends) at (padded-trimmed nameRoom (r .name)))
-    ∙ padded-exact nameRoom (r .name) (s .name-places) in
-    let pure = every-take isCharacter (r .«name_len») (r .name) (s .name-characters) in
-    let name = ap (padded nameRoom) (codes-tell x pure) ∙ named in
-    let long = name-coded r s in
-    λ i. record {
-      form = r .form;
-      code = code i;
-      state = state i;
-      number = number i;
-      «number_len» = ends i;
-      nationality = nationality i;
-      birth = birth i;
-      sex = sex i;
-      expiry = expiry i;
-      name = name i;
-      «name_len» = long i;
-    }
+    let tell : (x : Part) → map characterOf (map codeOf (held r x)) ≡ held r x = λ x. codes-tell (held r x) (held-pure r s x) in
+    let one = ap (λ (c : ℕ). c ∷ []) (sex-tells (r .sex) (s .kept sex refl) .0) in
+    let whole = ap trimmed (codes-tell (r .number) (s .number-characters)) ∙ ap (λ n. take n (r .number)) (s .number-ends) in
+    same-holding (r .form) (saidOf (values row house r)) (held r)
+    (each-plain (λ x n. saidOf (values row house r) x ≡ held r x) (tell code) (tell state) (tell nationality) (tell birth) one
+    (tell expiry))
+    whole (tell name)
+    ∙ s .again
 
 -- and the values that bits say are those of the record that they say, where it is sound
 module _ (f : Form) (s : List ℕ) (told : formIn s ≡ As f) (o : Sound (recordIn f s)) where
-  abbrev name : List ℕ
-  name = numbersAt s (start part.name + 6) (nameLength s) 6
-
-  name-there : take (length name) (padded nameRoom (map characterOf name)) ≡ map characterOf name
+  plain-back : (x : Part) → isPlain x ≡ true → saidOf (valuesIn s) x ≡ map characterOf (numbersAt s (start x) (room x) 6)
+      → map codeOf (held (recordIn f s) x) ≡ numbersAt s (start x) (room x) 6
   unfolding recordIn recordOf
-  name-there =
-      let c = map characterOf name in
-      let l : length c ≡ length name = length-map name characterOf in
-      rw l at (take-padded nameRoom c ∙ take-all nameRoom c (omega (arith, l, o .name-most)))
+  plain-back x p e =
+      let v = numbersAt s (start x) (room x) 6 in
+      let long = ap length e ∙ length-map v characterOf ∙ length-numbers s (start x) (room x) 6 in
+      let here = held-plain f (saidOf (valuesIn s)) x p long ∙ e in
+      ap (map codeOf) here ∙ characters-tell v (ap (every isCharacter) (sym here) ∙ o .characters x p)
 
-  name-pure : every isCharacter (map characterOf name) ≡ true
-  unfolding recordIn recordOf
-  name-pure = ap (every isCharacter) (sym name-there) ∙ every-take isCharacter (length name) _ (o .name-characters)
+  sex-back : sexCode (sexBy (bitsAt s (start sex) 2)) ≡ bitsAt s (start sex) 2
+  unfolding recordIn recordOf holding saidOf heldRows plain ruleRows numbersAt
+  sex-back = tells-sex (bitsAt s (start sex) 2) (bits-below s (start sex) 2) (o .kept sex refl)
 
-  pub values-back : valuesOf (houseIn s) (recordIn f s) ≡ valuesIn s
-  unfolding valuesOf keyValues restValues houseIn recordIn recordOf formIn numbersAt heldRows plain ruleRows
+  -- the number in its room
+  number-back : map codeOf (recordIn f s .number) ≡ numbersAt s (start number) numberRoom 6
+  unfolding recordIn recordOf holding saidOf
+  number-back =
+      let v = numbersAt s (start number) numberRoom 6 in
+      let c = map characterOf v in
+      let here = padded-trimmed numberRoom c
+      ∙ padded-exact numberRoom c (length-map v characterOf ∙ length-numbers s (start number) numberRoom 6) in
+      ap (map codeOf) here ∙ characters-tell v (ap (every isCharacter) (sym here) ∙ o .number-characters)
+
+  -- the name, as long as its length says
+  name-back : map codeOf (held (recordIn f s) name) ≡ numbersAt s (start name + 6) (nameLength s) 6
+  unfolding recordIn recordOf holding saidOf heldRows
+  name-back =
+      let v = numbersAt s (start name + 6) (nameLength s) 6 in
+      let c = map characterOf v in
+      let here = take-padded nameRoom c ∙ take-all nameRoom c (omega (arith, o .name-most)) in
+      ap (map codeOf) here ∙ characters-tell v (ap (every isCharacter) (sym here) ∙ held-pure (recordIn f s) o name)
+
+  pub values-back : values row (houseIn s) (recordIn f s) ≡ valuesIn s
+  unfolding said houseIn recordIn recordOf holding saidOf formIn numbersAt plain
   values-back =
-      let pure = o .characters in
-      let form : formCode f ≡ bitsAt s (start part.form) 3 = tells-entered (bitsAt s (start part.form) 3) f told in
-      let sex : sexCode (sexBy (bitsAt s (start part.sex) 2)) ≡ bitsAt s (start part.sex) 2 =
-      tells-sex (bitsAt s (start part.sex) 2) (bits-below s (start part.sex) 2) (o .kept text.sex refl) in
+      let form-at = startIn row cell.form in
+      let form : formCode f ≡ bitsAt s form-at 3 = tells-entered (bitsAt s form-at 3) f told in
       rw (
         form,
-        characters-tell (numbersAt s (start part.state) stateRoom 6) (pure text.state refl),
-        characters-tell (numbersAt s (start part.number) numberRoom 6) (o .number-characters),
-        characters-tell (numbersAt s (start part.birth) dateRoom 6) (pure text.birth refl),
-        characters-tell (numbersAt s (start part.expiry) dateRoom 6) (pure text.expiry refl),
-        characters-tell (numbersAt s (start part.code) codeRoom 6) (pure text.code refl),
-        characters-tell (numbersAt s (start part.nationality) stateRoom 6) (pure text.nationality refl),
-        sex,
-        name-there,
-        characters-tell name name-pure,
+        plain-back state refl refl,
+        number-back,
+        plain-back birth refl refl,
+        plain-back expiry refl refl,
+        plain-back code refl refl,
+        plain-back nationality refl refl,
+        sex-back,
+        name-back,
       )

@@ -1,24 +1,25 @@
 -- Reading a run: document 01, "A run is read entry by entry, each with the offset of the next", and 18 of "Refusal numbers".
 use Prim.Native.Nat.{ℕ, _+_}
 use mathlib.Core.Bool.{Bool, cond, _&&_}
-use mathlib.Core.List.{List, map}
+use mathlib.Core.List.{List, [], _∷_, map}
 use lib.Dec.{eqb, ltb}
 use lib.ListN.{length, drop, getD}
 use Rattle.refusal.specs.Numbers.{Why, by, whyOf}
+use Rattle.zone.specs.Part as text
+use Rattle.zone.specs.Part.{number, sex}
+use Rattle.zone.specs.Rows.{_is_, inRows}
 use Rattle.zone.specs.declared.form.Form.{Form}
 use Rattle.zone.specs.declared.form.Recognised.{Recognised}
 use Rattle.zone.specs.declared.form.Recognised.the-variants.{As, Unknown}
 use Rattle.zone.specs.declared.record.Record.{Record}
 use Rattle.zone.specs.Codes.{characterOf}
-use Rattle.zone.specs.Rooms.{nameRoom}
-use Rattle.zone.specs.Record.{blank, trimmedLength, padded}
+use Rattle.zone.specs.Record.{blank, trimmed, holding}
 use Rattle.sound.specs.Sound.{isSound}
 use Rattle.cells.specs.Cells.{roundedUp, valuesAt, rowEnd, isWholeRow}
 use Rattle.zone.specs.Form.{formBy}
 use Rattle.entry.specs.Codes.{sexBy}
 use Rattle.entry.specs.Entry.{isHouse}
-use Rattle.entry.specs.Row as part
-use Rattle.entry.specs.Row.{Part, row, cells, valueOf}
+use Rattle.entry.specs.Row.{Part, house, form, field, row, cells, valueOf}
 use Rattle.runs.specs.declared.run.Step.{Step}
 use Rattle.runs.specs.declared.run.Step.the-variants.{Next, End, Refused}
 use Rattle.runs.specs.declared.run.Standing as code
@@ -51,31 +52,25 @@ numberOf vs x = getD (valueOf vs x) 0 0
 abbrev pub charactersOf : List (List ℕ) → Part → List ℕ
 charactersOf vs x = map characterOf (valueOf vs x)
 
--- the record that the values of a row say: the number without the fillers that fill it up
+-- what they say of a field: the number without the fillers that fill it up
+unfoldable pub saidOf : List (List ℕ) → text.Part → List ℕ
+saidOf vs x =
+    inRows (charactersOf vs (field x))
+    (number is trimmed (charactersOf vs (field number)) ∷ sex is (sexBy (numberOf vs (field sex)) ∷ []) ∷ []) x
+
+-- the record that the values of a row say
 unfoldable pub recordOf : Form → List (List ℕ) → Record
-recordOf f vs = record {
-  form = f;
-  code = charactersOf vs part.code;
-  state = charactersOf vs part.state;
-  number = charactersOf vs part.number;
-  «number_len» = trimmedLength (charactersOf vs part.number);
-  nationality = charactersOf vs part.nationality;
-  birth = charactersOf vs part.birth;
-  sex = sexBy (numberOf vs part.sex);
-  expiry = charactersOf vs part.expiry;
-  name = padded nameRoom (charactersOf vs part.name);
-  «name_len» = length (valueOf vs part.name);
-}
+recordOf f vs = holding f (saidOf vs)
 
 -- what the bits of a range say
 abbrev pub valuesIn : List ℕ → List (List ℕ)
 valuesIn s = valuesAt (cells row) s 0
 
 unfoldable pub houseIn : List ℕ → ℕ
-houseIn s = numberOf (valuesIn s) part.house
+houseIn s = numberOf (valuesIn s) house
 
 unfoldable pub formIn : List ℕ → Recognised
-formIn s = formBy (numberOf (valuesIn s) part.form)
+formIn s = formBy (numberOf (valuesIn s) form)
 
 unfoldable pub recordIn : Form → List ℕ → Record
 recordIn f s = recordOf f (valuesIn s)

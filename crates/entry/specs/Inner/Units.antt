@@ -2,18 +2,18 @@
 use Prim.Native.Nat.{ℕ, _+_, _-_, _*_, _/_, _%_}
 use mathlib.Core.List.{List, [], _∷_, _++_, map}
 use lib.ListN.{replicate}
+use Rattle.zone.specs.Part as text
 use Rattle.zone.specs.Alphabet.{filler}
 use Rattle.zone.specs.Codes.{codeOf}
 use Rattle.zone.specs.Rooms.{nameRoom}
 use Rattle.zone.specs.declared.record.Record.{Record}
 use Rattle.cells.specs.Cells.{rowBits, roundedUp}
 use Rattle.entry.specs.Codes.{formCode, sexCode}
-use Rattle.entry.specs.Row as part
-use Rattle.entry.specs.Row.{Part, row, cells, start}
+use Rattle.entry.specs.Row.{row, cells, start}
 
 -- the front: the parts before the name, whole octets
 abbrev pub frontOctets : ℕ
-frontOctets = start part.name / 8
+frontOctets = start text.name / 8
 
 -- its units by fours
 abbrev pub frontFours : ℕ
@@ -23,12 +23,12 @@ abbrev pub frontUnits : ℕ
 frontUnits = 4 * frontFours
 
 -- the unit at which a part of the front begins
-abbrev pub unitOf : Part → ℕ
+abbrev pub unitOf : text.Part → ℕ
 unitOf x = start x / 6
 
 -- the units behind those that the sex begins with
 abbrev pub gap : ℕ
-gap = frontUnits - unitOf part.sex - 1
+gap = frontUnits - unitOf text.sex - 1
 
 -- as many units as the front has are enough for the rest
 abbrev pub allUnits : ℕ
@@ -65,5 +65,5 @@ unitsOf house r = front house r ++ rest r
 -- the same places with the characters alone
 unfoldable pub placed : Record → List ℕ
 placed r =
-    replicate (unitOf part.state) filler ++ (before r ++ (replicate (gap + 2) filler
+    replicate (unitOf text.state) filler ++ (before r ++ (replicate (gap + 2) filler
     ++ (r .name ++ replicate (frontUnits - nameRoom - 1) filler)))

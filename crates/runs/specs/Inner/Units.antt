@@ -3,20 +3,20 @@ use Prim.Native.Nat.{ℕ, _+_, _*_}
 use mathlib.Core.List.{List}
 use lib.ListN.{take, replicate}
 use Rattle.lent.specs.Copied.{copied, copiedAt}
+use Rattle.zone.specs.Part as text
 use Rattle.zone.specs.Alphabet.{filler}
 use Rattle.cells.specs.Bits.{bitsAt}
 use Rattle.cells.specs.Cells.{roundedUp, spareBits}
 use Rattle.units.specs.Unpacked.{charactersAt}
-use Rattle.entry.specs.Row as part
 use Rattle.entry.specs.Row.{start}
 use Rattle.entry.specs.Inner.Units.{frontOctets, frontUnits, restFours}
 
 -- the length of the name, where it ends, and the octets and the spare bits of the entry
 abbrev pub nameLength : List ℕ → ℕ
-nameLength s = bitsAt s (start part.name) 6
+nameLength s = bitsAt s (start text.name) 6
 
 abbrev pub endBy : ℕ → ℕ
-endBy n = start part.name + 6 + 6 * n
+endBy n = start text.name + 6 + 6 * n
 
 abbrev pub sizeBy : ℕ → ℕ
 sizeBy n = roundedUp (endBy n)
@@ -42,7 +42,7 @@ held s n = copied (replicate allOctets 0) (take (sizeBy n) s)
 unfoldable pub unitsOver : List ℕ → List ℕ → ℕ → List ℕ
 unitsOver to octets n =
     copiedAt (copied to (charactersAt octets 0 frontUnits)) frontUnits
-    (charactersAt octets (start part.name) (4 * restFours n))
+    (charactersAt octets (start text.name) (4 * restFours n))
 
 -- those of an entry, and fillers behind them
 unfoldable pub unitsIn : List ℕ → ℕ → List ℕ

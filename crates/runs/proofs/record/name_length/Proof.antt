@@ -1,9 +1,9 @@
 -- Six bits.
 use borrow.Author.Needs.{needs}
 use denote.Ref.{now}
+use Rattle.zone.specs.Part as text
 use Rattle.cells.proofs.Shifts.{bits-below}
 use Rattle.units.specs.Unpacked.{bitsWithin}
-use Rattle.entry.specs.Row as part
 use Rattle.entry.specs.Row.{start}
 use Rattle.runs.proofs.record.name_length.Statement.{statement}
 use Rattle.runs.proofs.record.name_length.Tie as tie
@@ -15,4 +15,4 @@ name-length-spec =
     (tie.spec
     (λ c κs. search needs)
     (λ c. search needs)
-    (λ c. (c .bits .ensures, rw (c .bits .ensures) (bits-below (now (c .before .before .args .s)) (start part.name) 6))))
+    (λ c. (c .bits .ensures, rw (c .bits .ensures) (bits-below (now (c .before .before .args .s)) (start text.name) 6))))
