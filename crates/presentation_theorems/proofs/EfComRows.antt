@@ -11,7 +11,7 @@ use Rattle.tlv.specs.Cut.{cut, hasOctets, endCheck}
 use Rattle.tlv.specs.Tags.{isGroup}
 use Rattle.tlv.specs.Tags as Tag
 use Rattle.efcom.specs.EfCom.{knownFrom, onceFrom, tagsCheck, fromTagList, isUnicode, fromUnicode, isVersion, fromVersion}
-use Rattle.text_theorems.proofs.FirstFailing.{firstOf}
+use Rattle.text_theorems.proofs.FirstOf.{firstOf}
 use Rattle.row_theorems.specs.Standing.{stretchAt, coded}
 use Rattle.presentation_theorems.specs.EfComChecks.{versionChecks, unicodePlace, unicodeChecks, listPlace, knownChecks}
 use Rattle.presentation_theorems.specs.EfComChecks.{onceChecks, tagListChecks, efComChecks, tagList}

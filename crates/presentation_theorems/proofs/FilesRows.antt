@@ -17,7 +17,7 @@ use Rattle.tlv.specs.Tags.{isGroup, groupOf}
 use Rattle.object.specs.Object.{GroupHash, digestFor}
 use Rattle.outer.specs.Outer.{fileAt, filesFrom, files}
 use Rattle.chip.specs.Files.{isExpected, isDigested, fileCheck, filesCheck}
-use Rattle.text_theorems.proofs.FirstFailing.{firstOf}
+use Rattle.text_theorems.proofs.FirstOf.{firstOf}
 use Rattle.row_theorems.specs.Standing.{each}
 use Rattle.presentation_theorems.specs.PresentationChecks.{lentFile, filePlaces, groupChecks, fileChecks, filesChecks}
 use Rattle.presentation_theorems.specs.ObjectChecks.{groupHash}

@@ -24,7 +24,7 @@ use Rattle.outer.specs.Outer.{sizeCheck, files, outer, walked}
 use Rattle.chip.specs.Files.{filesCheck}
 use Rattle.chip.specs.Presentation.{groupOne, decided, readStages, readPresentation}
 use Rattle.text_theorems.specs.Ordered.{FirstFailing}
-use Rattle.text_theorems.proofs.FirstFailing.{firstOf, first-failing, failing-first}
+use Rattle.text_theorems.proofs.FirstOf.{firstOf, first-failing, failing-first}
 use Rattle.row_theorems.specs.Standing.{coded, each}
 use Rattle.presentation_theorems.specs.EfComChecks.{tagList, efComChecks}
 use Rattle.presentation_theorems.specs.ObjectChecks.{sequenceBytes, placesIn, entriesPlace, entriesIn, objectChecks}

@@ -18,7 +18,8 @@ use Rattle.tlv.specs.Tags as Tag
 use Rattle.group_text.specs.Text.{movedTo, moved, textAt}
 use Rattle.chip.specs.Presentation.{firstFile, groupOne}
 use Rattle.text_theorems.specs.Ordered.{checksOf}
-use Rattle.text_theorems.proofs.FirstFailing.{firstOf, read-first}
+use Rattle.text_theorems.proofs.FirstFailing.{read-first}
+use Rattle.text_theorems.proofs.FirstOf.{firstOf}
 use Rattle.row_theorems.specs.Standing.{stretchAt, coded}
 use Rattle.presentation_theorems.specs.PresentationChecks.{lentFile, textChecks, groupOnePlace, groupOneChecks}
 use Rattle.presentation_theorems.proofs.Elements.{same-test}

@@ -16,7 +16,7 @@ use Rattle.tlv.specs.Cut.{cut, hasOctets, endCheck}
 use Rattle.tlv.specs.Tags as Tag
 use Rattle.object.specs.Object.{GroupHash, isGroupNumber, digestAt, numberAt, entryAt, entriesFrom, entries, numbersOnce}
 use Rattle.object.specs.Object.{entriesCheck, fromEntryList, isSha256, fromAlgorithm, isZero, fromVersion}
-use Rattle.text_theorems.proofs.FirstFailing.{firstOf}
+use Rattle.text_theorems.proofs.FirstOf.{firstOf}
 use Rattle.row_theorems.specs.Standing.{stretchAt, coded, each}
 use Rattle.presentation_theorems.specs.ObjectChecks.{zeroChecks, algorithmPlace, algorithmChecks, entriesPlace}
 use Rattle.presentation_theorems.specs.ObjectChecks.{sequenceBytes, numberPlace, numberStretch, digestStretch, groupHash}

@@ -8,7 +8,7 @@ use borrow.Author.Tests.{leb-false}
 use lib.Dec.{leb}
 use Rattle.refusal.specs.Outcome.{Outcome, passed}
 use Rattle.tlv.specs.Read.{Read, value, andThen}
-use Rattle.text_theorems.proofs.FirstFailing.{firstOf}
+use Rattle.text_theorems.proofs.FirstOf.{firstOf}
 use Rattle.row_theorems.specs.Standing.{placesFrom, places, each}
 use Rattle.row_theorems.proofs.Rows.{under, under-same, rows-then, step-known}
 

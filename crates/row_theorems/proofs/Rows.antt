@@ -16,7 +16,7 @@ use Rattle.tlv.specs.Read.{Read, value, refusal, andThen, checked, outcomeIn}
 use Rattle.tlv.specs.Element.{element, sized, endsWithin, sizeAt, tagAt, tagWidth}
 use Rattle.tlv.proofs.Joined.{checked-outcome}
 use Rattle.tlv.proofs.Past.{value-within}
-use Rattle.text_theorems.proofs.FirstFailing.{firstOf}
+use Rattle.text_theorems.proofs.FirstOf.{firstOf}
 use Rattle.row_theorems.specs.Standing.{isLength, stretchBy, stretchAt, isCoded, coded}
 
 -- a test that goes on where it holds, and one that goes on where it does not

@@ -31,7 +31,8 @@ use Rattle.seal.specs.Seal.{Said, featureOctets, textIn, placed, withText, with
 use Rattle.seal.specs.Seal.{answerBy, readSeal}
 use Rattle.seal.proofs.FeaturesPassed.{not-end}
 use Rattle.text_theorems.specs.Ordered.{checksOf, FirstFailing}
-use Rattle.text_theorems.proofs.FirstFailing.{firstOf, read-first, first-failing, failing-first}
+use Rattle.text_theorems.proofs.FirstFailing.{read-first}
+use Rattle.text_theorems.proofs.FirstOf.{firstOf, first-failing, failing-first}
 use Rattle.row_theorems.specs.Standing.{stretchAt, isCoded, coded}
 use Rattle.row_theorems.proofs.Rows.{under, under-outcome, under-first, under-same, keep, rows-then, first-then, step-known}
 use Rattle.row_theorems.proofs.Rows.{step-then, element-row, coded-within}

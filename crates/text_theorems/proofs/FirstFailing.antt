@@ -3,7 +3,7 @@
 use Prim.Native.Nat.{ℕ, _+_, _<_}
 use mathlib.Core.Path.{_≡_, refl, ap, sym, _∙_}
 use mathlib.Core.Logic.{_↔_}
-use mathlib.Core.List.{List, [], _∷_, _++_, map}
+use mathlib.Core.List.{List, map}
 use mathlib.Core.Bool.{true}
 use native.Mathlib.Omega.{arith}
 use borrow.Author.Needs.{needs}
@@ -12,7 +12,7 @@ use Rattle.refusal.specs.Outcome.{Outcome, passed, refused, orElse}
 use Rattle.zone.specs.declared.form.Source.{Source}
 use Rattle.zone.specs.declared.form.Recognised.{Recognised}
 use Rattle.zone.specs.declared.form.Recognised.the-variants.{As, Unknown}
-use Rattle.zone.specs.Part.{Part, optional}
+use Rattle.zone.specs.Part.{optional}
 use Rattle.zone.specs.Record.{blank}
 use Rattle.zone.specs.declared.form.Form.{Form}
 use Rattle.zone.specs.Form.{row, forms, formOf, partOf, parts, start, startIn, width}
@@ -20,31 +20,13 @@ use Rattle.zone.proofs.AllForms.{all-forms}
 use Rattle.text_digits.specs.declared.number.Span.the-variants.{Long}
 use Rattle.text_digits.specs.Number.{spanOf}
 use Rattle.text_digits.proofs.Numbers.{span-within}
-use Rattle.text_digits.specs.Digits.{inOrder, digitCheck}
-use Rattle.text.specs.Order.{verdictBy, fieldCheck}
+use Rattle.text.specs.Order.{characters, verdictBy}
 use Rattle.text.specs.Read.{readText, readBy, answered, recordBy}
 use Rattle.zone.specs.declared.record.Record.{Record}
 use Rattle.text.proofs.EachCheck.{answered-outcome}
-use Rattle.text_theorems.specs.Ordered.{checksBy, checksOf, FirstFailing, here, later, isRising}
-
-never : (n : Why) (p : ℕ) → passed ≡ refused n p → ⊥
-never n p e = let z : _≡_ {A = ℕ} 0 1 = cc in omega arith
-
--- the first of a list that is a refusal
-unfoldable pub firstOf : List Outcome → Outcome
-firstOf [] = passed
-firstOf (o ∷ os) = orElse o (firstOf os)
-
-pub first-append : (a b : List Outcome) → firstOf (a ++ b) ≡ orElse (firstOf a) (firstOf b)
-unfolding firstOf
-first-append [] b = refl
-first-append (passed ∷ a) b = first-append a b
-first-append (refused n p ∷ a) b = refl
-
-in-order : (check : Part → Outcome) (xs : List Part) → inOrder check xs ≡ firstOf (map check xs)
-unfolding firstOf inOrder
-in-order check [] = refl
-in-order check (x ∷ xs) = ap (orElse (check x)) (in-order check xs)
+use Rattle.text_theorems.specs.Ordered.{checksBy, checksOf, FirstFailing, isRising}
+use Rattle.text_theorems.proofs.FirstOf.{never, firstOf, first-failing, failing-first}
+use Rattle.text_theorems.proofs.TextRows.{rows-first}
 
 answered-blank : (o : Outcome) (r : Record) (n : Why) (p : ℕ) → answered o r .outcome ≡ refused n p → answered o r .kept ≡ blank
 unfolding answered
@@ -52,36 +34,14 @@ answered-blank passed r n p e = absurd (never n p e)
 answered-blank (refused m q) r n p e = refl
 
 read-first-by : (told : Recognised) (t : List ℕ) → readBy told t .outcome ≡ firstOf (checksBy told t)
-unfolding readBy checksBy verdictBy firstOf
+unfolding readBy checksBy verdictBy firstOf characters
 read-first-by Unknown t = answered-outcome (refused (by 1) 0) _
 read-first-by (As f) t =
-    answered-outcome (verdictBy f t (spanOf f t)) (recordBy f t (spanOf f t))
-    ∙ rw (
-      in-order (fieldCheck f t (spanOf f t)) (parts f),
-      in-order (digitCheck f t (spanOf f t)) (parts f),
-      first-append (map (fieldCheck f t (spanOf f t)) (parts f)) (map (digitCheck f t (spanOf f t)) (parts f)),
-    )
+    answered-outcome (verdictBy f t (spanOf f t)) (recordBy f t (spanOf f t)) ∙ ap (orElse (characters t)) (rows-first f t)
 
 pub read-first : (source : Source) (t : List ℕ) → readText source t .outcome ≡ firstOf (checksOf source t)
 unfolding readText checksOf
 read-first source t = read-first-by (formOf source t) t
-
-pub first-failing : (os : List Outcome) (n : Why) (p : ℕ) → firstOf os ≡ refused n p → FirstFailing os n p
-unfolding firstOf
-first-failing [] n p e = absurd (never n p e)
-first-failing (passed ∷ os) n p e = later (first-failing os n p e)
-first-failing (refused m q ∷ os) n p e = rw (sym same-number, sym same-place) here
-  where
-    same-number : m ≡ n
-    same-number = cc
-
-    same-place : q ≡ p
-    same-place = cc
-
-pub failing-first : (os : List Outcome) (n : Why) (p : ℕ) → FirstFailing os n p → firstOf os ≡ refused n p
-unfolding firstOf
-failing-first (refused m q ∷ os) n p here = refl
-failing-first (passed ∷ os) n p (later h) = failing-first os n p h
 
 -- every refusal gives the blank record
 pub refused-blank : (source : Source) (t : List ℕ) (n : Why) (p : ℕ) → readText source t .outcome ≡ refused n p

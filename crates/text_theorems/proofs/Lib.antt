@@ -4,6 +4,10 @@ pub mod PartByPart
 pub mod NumberSpan
 -- the parts that every form has
 pub mod Common
+-- the first refusal of a list of checks
+pub mod FirstOf
+-- the rows of a text's checks decide as the reader's checks do
+pub mod TextRows
 -- DEMAND 2: the answer is the first failing check (`refused-exactly`); a refusal gives the blank record
 pub mod FirstFailing
 -- DEMAND 2: the digit that a refusal 9 carries (`expected-exactly`, `digit-told`, `nine-tells`)
