@@ -24,6 +24,8 @@ pub mod SignatureRead
 pub mod Stages
 -- accepted exactly when it is the encodings of what keeps every rule (`sealed-exactly`), and what is answered (`sealed-answer`)
 pub mod Acceptance
+-- every accepted text of 72 characters is carried by an accepted seal (`every-text-sealed`)
+pub mod TextsSealed
 -- the record of an accepted seal is that of an accepted text, and sound (`seal-held`, `seal-sound`); its key (`seal-key`)
 pub mod SealRecord
 -- no second answer (`only-seal`), and what every refusal gives (`seal-blank`)
@@ -38,6 +40,8 @@ pub mod FirstFailing
 pub mod AtTheBorder
 -- the examples of the papers hold (`printed-hold`)
 pub mod Printed
+-- source 002's section 8 is read (`printed-read`)
+pub mod PrintedSeal
 -- what every refusal before the text has
 pub mod Refusals
 -- the digit that a refusal 9 carries is the text's (`seal-expected`, `seal-nine`); DEMAND 1: its number and its place

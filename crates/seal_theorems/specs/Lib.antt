@@ -1,8 +1,12 @@
 -- what a sound seal is, said with encoders
 pub mod Sealed
+-- the least seal around a text
+pub mod Around
 -- the checks one after the other
 pub mod SealChecks
 -- the examples of the papers
 pub mod Examples
+-- the seal that source 002 prints, and what is read of it
+pub mod PrintedSeal
 -- the digit that a refusal 9 carries is the text's
 pub mod Expected
