@@ -1,6 +1,6 @@
 -- ACCEPTANCE: a seal is accepted exactly when it is the joined encodings of a header, features and a signature that keep every
--- rule (`sealed-exactly`), and what is then answered (`sealed-answer`). Where every rule is kept but those of the text, the text
--- decides (`shaped-answer`).
+-- rule (`sealed-exactly`), and the whole answer is then that of these contents (`sealed-contents`, `sealed-answer`). Where every
+-- rule is kept but those of the text, the text decides (`shaped-answer`).
 use Prim.Native.Nat.{ℕ, suc, _+_, _≤_}
 use mathlib.Core.Path.{_≡_, refl, ap, sym, _∙_, subst}
 use mathlib.Core.Logic.{_↔_}
@@ -153,11 +153,21 @@ sealed-answer p k =
     ap answerBy (shaped-answer p (k .shaped) ∙ passed-text (headerIn (p .head)) (featurePlace p) a (signatureIn p)
     (accepted-exactly Seal (filled (p .text)) .1 (k .text-kept)))
 
+-- accepted octets are those of contents that keep every rule, and the whole answer is theirs
+pub sealed-contents : (s : List ℕ) → areOctets s → readSeal s .outcome ≡ passed
+    → (p : Contents) × (s ≡ octetsOf p) × Sealed p × (readSeal s ≡ answerIn p)
+unfolding readSeal
+sealed-contents s small e =
+    let c = passed-value (saidIn s) e in
+    let w = stages-sealed s small (c .0) (taken-apart s (c .0) (c .1)) in
+    let there = sym (w .2) in
+    (w .0, there, w .1, ap readSeal there ∙ sealed-answer (w .0) (w .1))
+
 -- octets are accepted exactly when they are those of contents that keep every rule
 pub sealed-exactly : (s : List ℕ) → areOctets s
-    → (readSeal s .outcome ≡ passed) ↔ ((p : Contents) × Sealed p × (octetsOf p ≡ s))
-unfolding readSeal answerIn
+    → (readSeal s .outcome ≡ passed) ↔ ((p : Contents) × (s ≡ octetsOf p) × Sealed p)
+unfolding answerIn
 sealed-exactly s small = (
-  λ e. let c = passed-value (saidIn s) e in stages-sealed s small (c .0) (taken-apart s (c .0) (c .1)),
-  λ w. ap (λ (l : List ℕ). readSeal l .outcome) (sym (w .2)) ∙ ap (λ (a : SealAnswer). a .outcome) (sealed-answer (w .0) (w .1)),
+  λ e. let w = sealed-contents s small e in (w .0, w .1, w .2),
+  λ w. ap (λ (l : List ℕ). readSeal l .outcome) (w .1) ∙ ap (λ (a : SealAnswer). a .outcome) (sealed-answer (w .0) (w .2)),
 )

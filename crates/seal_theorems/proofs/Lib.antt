@@ -22,11 +22,12 @@ pub mod TextFeature
 pub mod SignatureRead
 -- what each stage gave where a seal was accepted
 pub mod Stages
--- accepted exactly when it is the encodings of what keeps every rule (`sealed-exactly`), and what is answered (`sealed-answer`)
+-- accepted exactly when it is the encodings of what keeps every rule (`sealed-exactly`), and the whole answer is then theirs
+-- (`sealed-contents`, `sealed-answer`)
 pub mod Acceptance
 -- every accepted text of 72 characters is carried by an accepted seal (`every-text-sealed`)
 pub mod TextsSealed
--- the record of an accepted seal is that of an accepted text, and sound (`seal-held`, `seal-sound`); its key (`seal-key`)
+-- the record of an accepted seal is sound (`seal-sound`); its key (`seal-key`)
 pub mod SealRecord
 -- no second answer (`only-seal`), and what every refusal gives (`seal-blank`)
 pub mod OneAnswer

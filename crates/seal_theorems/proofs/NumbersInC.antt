@@ -60,7 +60,7 @@ module _ (house : ℕ) (s out : List ℕ) where
   same-value = value-in-c answer (readSeal s .header) (readSeal s .signature)
 
   pub read-seal-exactly : areOctets s
-      → (inSeal .number ≡ 0) ↔ Allowed ((p : Contents) × Sealed p × (octetsOf p ≡ s)) house (readSeal s .kept) out
+      → (inSeal .number ≡ 0) ↔ Allowed ((p : Contents) × (s ≡ octetsOf p) × Sealed p) house (readSeal s .kept) out
   read-seal-exactly small =
       rw same-number
       (zero-allowed house (readSeal s .kept) out ofSeal (refl, refl, refl) (readSeal s .outcome) (seal-numbered s)

@@ -1,5 +1,5 @@
--- THE RECORD of an accepted seal is that of an accepted text (`seal-held`), so it is sound (`seal-sound`), and the key of entries
--- says of it what it says of texts (`seal-key`, `seal-text-key`).
+-- THE RECORD of an accepted seal is sound (`seal-sound`), whatever numbers it was read from, since it is an accepted text's; and
+-- the key of entries says of it what it says of texts (`seal-key`, `seal-text-key`).
 use Prim.Native.Nat.{ℕ}
 use mathlib.Core.Path.{_≡_, ap, _∙_}
 use mathlib.Core.Logic.{_↔_}
@@ -17,7 +17,7 @@ use Rattle.run_theorems.specs.Keys.{keyOf, SameKey}
 use Rattle.run_theorems.proofs.Keys.{key-exactly}
 use Rattle.seal_theorems.proofs.Stages.{taken-apart, passed-value}
 
-pub seal-held : (s : List ℕ) → readSeal s .outcome ≡ passed
+seal-held : (s : List ℕ) → readSeal s .outcome ≡ passed
     → (t : List ℕ) × (readText Seal t .outcome ≡ passed) × (readSeal s .kept ≡ readText Seal t .kept)
 unfolding readSeal
 seal-held s e =
