@@ -1,16 +1,15 @@
 -- Reading a presentation is finding its text (`textStretch`) and then reading it (`through-text`); and where the text stands
 -- (`text-stands`).
 use Prim.Native.Nat.{ℕ, _≤_}
-use mathlib.Core.Path.{_≡_, refl, ap}
+use mathlib.Core.Path.{_≡_, ap}
 use mathlib.Core.List.{List, []}
 use native.Mathlib.Omega.{arith}
 use lib.ListN.{length, take, length-take}
-use Rattle.refusal.specs.Outcome.{Outcome, passed, refused}
 use Rattle.zone.specs.declared.form.Source.the-variants.{GroupOne}
 use Rattle.zone.specs.declared.record.Record.{Record}
 use Rattle.text.specs.Read.{readText}
 use Rattle.tlv.specs.declared.Stretch.{Stretch}
-use Rattle.tlv.specs.Read.{Read, value, refusal, andThen, checked}
+use Rattle.tlv.specs.Read.{Read, value, andThen, checked}
 use Rattle.tlv.specs.Element.{element}
 use Rattle.tlv.specs.Cut.{cut, endCheck}
 use Rattle.tlv.specs.Tags as Tag
@@ -22,25 +21,13 @@ use Rattle.outer.specs.Outer.{files, walked}
 use Rattle.chip.specs.Files.{filesCheck}
 use Rattle.group_text.specs.Text.{moved, textAt}
 use Rattle.chip.specs.Presentation.{firstFile, groupOne, decided, readStages}
+use Rattle.row_theorems.proofs.Behind.{then-behind, checked-behind}
 use Rattle.presentation_theorems.specs.Expected.{textStretch}
 use Rattle.presentation_theorems.proofs.Elements.{cut-before}
 
 cut-same : (w : List ℕ) (k : ℕ) (v : Stretch) → v .to ≤ k → v .from ≤ v .to → cut (take k w) v ≡ cut w v
 unfolding cut
 cut-same w k v a b = cut-before w k (v .from) (v .to) a b
-
--- what goes on from a reading may as well go on behind it
-then-behind : {A B C : Type 0} (m : Read A) (f : A → Read B) (g : B → Read C) (h : A → Read C)
-    → ((a : A) → m ≡ value a → h a ≡ andThen (f a) g) → andThen m h ≡ andThen (andThen m f) g
-unfolding andThen
-then-behind (value a) f g h e = e a refl
-then-behind (refusal n p) f g h e = refl
-
-checked-behind : {A B : Type 0} (o : Outcome) (m : Read A) (g : A → Read B) (k : Read B) → k ≡ andThen m g
-    → checked o k ≡ andThen (checked o m) g
-unfolding checked andThen
-checked-behind passed m g k e = e
-checked-behind (refused n p) m g k e = refl
 
 module _ (w : List ℕ) where
   unfoldable pub onwards : Stretch → Read Record

@@ -2,3 +2,5 @@
 pub mod Rows
 -- a walk from place to place is the rows of each
 pub mod Places
+-- what goes on from a reading may as well go on behind it
+pub mod Behind
