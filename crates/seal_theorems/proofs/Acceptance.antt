@@ -17,7 +17,7 @@ use Rattle.refusal.proofs.Outcomes.{kept-unless}
 use Rattle.zone.specs.declared.form.Source.the-variants.{Seal}
 use Rattle.zone.specs.Octets.{areOctets}
 use Rattle.text.specs.Read.{readText}
-use Rattle.tlv.specs.Read.{checked}
+use Rattle.tlv.specs.Read.{value, checked}
 use Rattle.tlv.specs.Element.{tlv}
 use Rattle.tlv.specs.Cut.{cut}
 use Rattle.tlv.proofs.Joined.{value-then, value-checked}
@@ -30,19 +30,21 @@ use Rattle.seal.specs.declared.features.Features.{Features}
 use Rattle.seal.specs.Features.{textTag, signatureTag, features}
 use Rattle.seal.specs.Signature.{signatureAt}
 use Rattle.seal.specs.Seal as seal
-use Rattle.seal.specs.Seal.{textIn, withText, withImage, withFeatures, withHeader, saidIn, SealAnswer, answerBy, readSeal}
+use Rattle.seal.specs.Seal.{textIn, withText, saidIn, SealAnswer, answerBy, readSeal}
 use Rattle.text_theorems.proofs.Acceptance.{accepted-exactly}
 use Rattle.seal_theorems.specs.Sealed.{Contents, headOctets, joined, octetsOf, Shaped}
 use Rattle.seal_theorems.specs.Sealed.{Sealed, featurePlace, headerIn, signatureIn, answerIn}
+use Rattle.seal_theorems.specs.Expected.{Zones, zonesIn}
 use Rattle.seal_theorems.proofs.Places.{then-there}
 use Rattle.seal_theorems.proofs.HeadThere.{header-read}
 use Rattle.seal_theorems.proofs.HeadRead.{read-head}
-use Rattle.seal_theorems.proofs.FeaturesFound.{Found, without, with, features-found}
+use Rattle.seal_theorems.proofs.FeaturesFound as walked
+use Rattle.seal_theorems.proofs.FeaturesFound.{without, with, features-found}
 use Rattle.seal_theorems.proofs.FeaturesWalked.{features-walked}
 use Rattle.seal_theorems.proofs.TextFeature.{image-inside, inside-image}
 use Rattle.seal_theorems.proofs.SignatureRead.{signature-read, read-signature}
-use Rattle.seal_theorems.proofs.Stages.{from-signature, from-image, passed-text, some-header, Stages, taken-apart}
-use Rattle.seal_theorems.proofs.Stages.{passed-value}
+use Rattle.seal_theorems.proofs.Stages.{some-header, Before, from-signature, from-image, from-features, from-header}
+use Rattle.seal_theorems.proofs.Stages.{before-text, onwards, through-text, passed-text, taken-apart, passed-value}
 
 -- ---- from an accepted seal to its contents
 
@@ -54,96 +56,112 @@ all-there : (s : List ℕ) (p : Contents) (at end : ℕ) (c : List ℕ) → s �
 unfolding octetsOf
 all-there s p at end c e f i g = sym (e ∙ rw (f, i, g))
 
--- the contents of a seal whose stages all passed
-stages-sealed : (s : List ℕ) → areOctets s → (c : seal.Said) → Stages s c → (p : Contents) × Sealed p × (octetsOf p ≡ s)
+-- the contents of a seal whose zones were found, and where its text stands in them
+pub zones-contents : (s : List ℕ) → areOctets s → (z : Zones) → zonesIn s ≡ value z
+    → (p : Contents) × (s ≡ octetsOf p) × Shaped p × (p .text ≡ textIn s (z .message))
 unfolding features
-stages-sealed s small c k =
-    go (features-found (suc (length s)) s (headerEnd s) 0 (k .found) small (some-header s) (k .walk-stage))
+zones-contents s small z e =
+    go (features-found (suc (length s)) s (headerEnd s) 0 f small (some-header s) (k .walk-stage))
   where
-    f : Features
-    f = k .found
+    k : Before s z
+    k = before-text s z e
 
-    go : Found s (headerEnd s) 0 f → (p : Contents) × Sealed p × (octetsOf p ≡ s)
+    f : Features
+    f = z .message
+
+    go : walked.Found s (headerEnd s) 0 f → (p : Contents) × (s ≡ octetsOf p) × Shaped p × (p .text ≡ textIn s f)
     go (without fs o e z) = absurd (eqb-false (f .text) 0 (not-true (eqb (f .text) 0) (k .some-stage)) z)
-    go (with bs cs d z o u n e place) =
+    go (with bs cs d y o u n e place) =
         let h = header-read s small (k .head-stage) in
         let at = headerEnd s in
         let rest = tlv textTag d ++ (joined cs ++ drop (f .end) s) in
         let there : drop (f .text) s ≡ rest = ap (λ (m : ℕ). drop m s) place
         ∙ then-there s at (length (joined bs)) (joined bs) rest refl e .1 in
         let text = image-inside s f d (joined cs ++ drop (f .end) s) n there small (k .field-stage) in
-        let g = cut s (c .signature) in
+        let g = cut s (z .signature) in
         let p : Contents = record { head = h .0; before = bs; text = textIn s f; behind = cs; signature = g } in
-        let last = signature-read s (f .end) small (c .signature) (k .signature-stage) in
+        let last = signature-read s (f .end) small (z .signature) (k .signature-stage) in
         let whole : octetsOf p ≡ s = all-there s p at (f .end) d (h .2) e (text .2) last in (
           p,
+          sym whole,
           record {
-            shaped = record {
-              size = subst (λ (l : List ℕ). length l ≤ 65535) (sym whole) (k .size-stage);
-              head-kept = h .1;
-              before-others = o;
-              behind-others = u;
-              text-length = text .0;
-              text-c40 = text .1;
-            };
-            text-kept = accepted-exactly Seal (filled (textIn s f)) .0 (k .text-stage);
+            size = subst (λ (l : List ℕ). length l ≤ 65535) (sym whole) (k .size-stage);
+            head-kept = h .1;
+            before-others = o;
+            behind-others = u;
+            text-length = text .0;
+            text-c40 = text .1;
           },
-          whole,
+          refl,
         )
 
 -- ---- and back
 
-module _ (p : Contents) (k : Shaped p) where
-  -- what is read of contents that keep every rule but those of the text, and where the signature stands
-  shaped-read : (saidIn (octetsOf p)
-      ≡ withText (headerIn (p .head)) (featurePlace p) (readText Seal (filled (p .text))) (signatureIn p))
-      × (cut (octetsOf p) (signatureIn p) ≡ p .signature)
-  unfolding saidIn withHeader withFeatures withImage octetsOf featurePlace signatureIn
-  shaped-read =
-      let s = octetsOf p in
-      let most = k .size in
-      let c = imageOf (p .text) in
-      let g = p .signature in
-      let n : length c ≡ 48 = image-length (p .text) ∙ rw (k .text-length) in
-      let last = joined (p .behind) ++ tlv signatureTag g in
-      let rest = joined (p .before) ++ (tlv textTag c ++ last) in
-      let h = read-head s rest (p .head) (k .head-kept) refl in
-      let end = headerEnd s in
-      let there : drop end s ≡ rest = drop-at (headOctets (p .head)) rest end (sym (h .head-end)) in
-      let within : end ≤ length s = omega (arith, h .head-end, length-append (headOctets (p .head)) rest) in
-      let a = features-walked s most (p .before) (p .behind) end c g (k .before-others) (k .behind-others) n within there in
-      let f = a .0 in
-      let i = inside-image s f c last n (a .3) (p .text) (k .text-length) (k .text-c40) refl in
-      let v = read-signature s (f .end) g most (a .4) in
-      let stretch = signatureIn p in
-      let r = withText (headerIn (p .head)) (featurePlace p) (readText Seal (filled (p .text))) stretch in
-      let place : f .text ≡ featurePlace p = a .2 ∙ ap (λ (m : ℕ). m + length (joined (p .before))) (h .head-end) in
-      let some : eqb (f .text) 0 ≡ false = ne-eqb (f .text) 0 (λ q. omega (arith, a .2, some-header s)) in
-      let text : from-signature s (headerOf s) f stretch ≡ r =
-      λ m. withText (h .head-read m) (place m) (readText Seal (filled (i .1 m))) stretch in (
-        value-checked (unless (leb (length s) 65535) 1 0) (checked (headerCheck s) (withHeader s (headerOf s) end)) r
+-- what is found in the octets of contents that keep every rule but those of the text
+pub record Found (p : Contents) (z : Zones) : Type 0 where
+  pub zones-found : zonesIn (octetsOf p) ≡ value z
+  pub header-found : headerOf (octetsOf p) ≡ headerIn (p .head)
+  pub place-found : z .message .text ≡ featurePlace p
+  pub text-found : textIn (octetsOf p) (z .message) ≡ p .text
+  pub signature-found : z .signature ≡ signatureIn p
+  pub signature-there : cut (octetsOf p) (signatureIn p) ≡ p .signature
+
+pub contents-zones : (p : Contents) → Shaped p → (z : Zones) × Found p z
+unfolding zonesIn octetsOf featurePlace signatureIn
+contents-zones p k =
+    let s = octetsOf p in
+    let most = k .size in
+    let c = imageOf (p .text) in
+    let g = p .signature in
+    let n : length c ≡ 48 = image-length (p .text) ∙ rw (k .text-length) in
+    let last = joined (p .behind) ++ tlv signatureTag g in
+    let rest = joined (p .before) ++ (tlv textTag c ++ last) in
+    let h = read-head s rest (p .head) (k .head-kept) refl in
+    let end = headerEnd s in
+    let there : drop end s ≡ rest = drop-at (headOctets (p .head)) rest end (sym (h .head-end)) in
+    let within : end ≤ length s = omega (arith, h .head-end, length-append (headOctets (p .head)) rest) in
+    let a = features-walked s most (p .before) (p .behind) end c g (k .before-others) (k .behind-others) n within there in
+    let f = a .0 in
+    let i = inside-image s f c last n (a .3) (p .text) (k .text-length) (k .text-c40) refl in
+    let v = read-signature s (f .end) g most (a .4) in
+    let z : Zones = record { message = f; signature = signatureIn p } in
+    let r = value z in
+    let some : eqb (f .text) 0 ≡ false = ne-eqb (f .text) 0 (λ q. omega (arith, a .2, some-header s)) in (
+      z,
+      record {
+        zones-found = value-checked (unless (leb (length s) 65535) 1 0) (checked (headerCheck s) (from-header s)) r
             (kept-unless (leb (length s) 65535) 1 0 (le-leb (length s) 65535 most))
-            (value-checked (headerCheck s) (withHeader s (headerOf s) end) r (h .head-passed)
-            (value-then (features s end) (λ (q : Features). withFeatures s (headerOf s) q) f r (a .1)
-            (value-checked (unless (not (eqb (f .text) 0)) 25 (f .end)) (from-image s (headerOf s) f) r
+            (value-checked (headerCheck s) (from-header s) r (h .head-passed)
+            (value-then (features s end) (from-features s) f r (a .1)
+            (value-checked (unless (not (eqb (f .text) 0)) 25 (f .end)) (from-image s f) r
             (kept-unless (not (eqb (f .text) 0)) 25 (f .end) (not-so (eqb (f .text) 0) some))
-            (value-checked (unless (isField (seal.featureOctets s f) 2 72) 26 (f .text))
-            (withImage s (headerOf s) f (textIn s f)) r
+            (value-checked (unless (isField (seal.featureOctets s f) 2 72) 26 (f .text)) (from-signature s f) r
             (kept-unless (isField (seal.featureOctets s f) 2 72) 26 (f .text) (i .0))
-            (value-then (signatureAt s (f .end)) (from-signature s (headerOf s) f) stretch r (v .0) text))))),
-        v .1,
-      )
+            (value-then (signatureAt s (f .end)) _ (signatureIn p) r (v .0) refl)))));
+        header-found = h .head-read;
+        place-found = a .2 ∙ ap (λ (m : ℕ). m + length (joined (p .before))) (h .head-end);
+        text-found = i .1;
+        signature-found = refl;
+        signature-there = v .1;
+      },
+    )
 
 -- ---- what is answered
 
 -- the octets that the answer names are the signature
 pub sealed-signature : (p : Contents) → Shaped p → cut (octetsOf p) (signatureIn p) ≡ p .signature
-sealed-signature p k = shaped-read p k .1
+sealed-signature p k = contents-zones p k .1 .signature-there
 
 -- where every rule is kept but those of the text, the text decides, at the feature's first octet
 pub shaped-answer : (p : Contents) → Shaped p
     → saidIn (octetsOf p) ≡ withText (headerIn (p .head)) (featurePlace p) (readText Seal (filled (p .text))) (signatureIn p)
-shaped-answer p k = shaped-read p k .0
+unfolding onwards
+shaped-answer p k =
+    let found = contents-zones p k in
+    let w = found .1 in
+    through-text (octetsOf p)
+    ∙ (value-then (zonesIn (octetsOf p)) (onwards (octetsOf p)) (found .0) _ (w .zones-found)
+    (λ m. withText (w .header-found m) (w .place-found m) (readText Seal (filled (w .text-found m))) (w .signature-found m)))
 
 -- the answer to the octets of contents that keep every rule: header fields, the record of the text, and the signature
 pub sealed-answer : (p : Contents) → Sealed p → readSeal (octetsOf p) ≡ answerIn p
@@ -159,9 +177,15 @@ pub sealed-contents : (s : List ℕ) → areOctets s → readSeal s .outcome ≡
 unfolding readSeal
 sealed-contents s small e =
     let c = passed-value (saidIn s) e in
-    let w = stages-sealed s small (c .0) (taken-apart s (c .0) (c .1)) in
-    let there = sym (w .2) in
-    (w .0, there, w .1, ap readSeal there ∙ sealed-answer (w .0) (w .1))
+    let k = taken-apart s (c .0) (c .1) in
+    let w = zones-contents s small (k .zones) (k .zones-stage) in
+    let text : readText Seal (filled (w .0 .text)) .outcome ≡ passed =
+    ap (λ (t : List ℕ). readText Seal (filled t) .outcome) (w .3) ∙ k .text-stage in
+    let sealed : Sealed (w .0) = record {
+      shaped = w .2;
+      text-kept = accepted-exactly Seal (filled (w .0 .text)) .0 text;
+    } in
+    (w .0, w .1, sealed, ap readSeal (w .1) ∙ sealed-answer (w .0) sealed)
 
 -- octets are accepted exactly when they are those of contents that keep every rule
 pub sealed-exactly : (s : List ℕ) → areOctets s

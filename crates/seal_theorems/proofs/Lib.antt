@@ -20,7 +20,7 @@ pub mod FeaturesWalked
 pub mod TextFeature
 -- the signature zone is read exactly where its encoding stands last
 pub mod SignatureRead
--- what each stage gave where a seal was accepted
+-- a seal's zones are found, and then its text is read (`through-text`); what each stage gave
 pub mod Stages
 -- accepted exactly when it is the encodings of what keeps every rule (`sealed-exactly`), and the whole answer is then theirs
 -- (`sealed-contents`, `sealed-answer`)
@@ -45,8 +45,8 @@ pub mod Printed
 pub mod PrintedSeal
 -- what every refusal before the text has
 pub mod Refusals
--- the digit that a refusal 9 carries is the text's (`seal-expected`, `seal-nine`); DEMAND 1: its number and its place
--- (`seal-numbered`, `seal-within`)
+-- refused by 9 with a digit exactly where the text is (`seal-expected`, `seal-expected-of`, `seal-nine`); DEMAND 1: every
+-- refusal's number and place (`seal-numbered`, `seal-within`)
 pub mod Expected
 -- the numbers that C receives of a seal (`read-seal-exactly` and the others), and two calls' entries apart (`seals-apart`)
 pub mod NumbersInC

@@ -23,7 +23,7 @@ unfolding readSeal
 seal-held s e =
     let c = passed-value (saidIn s) e in
     let k = taken-apart s (c .0) (c .1) in
-    (filled (textIn s (k .found)), k .text-stage, c .2 ∙ k .kept-stage)
+    (filled (textIn s (k .zones .message)), k .text-stage, c .2 ∙ k .kept-stage)
 
 pub seal-sound : (s : List ℕ) → readSeal s .outcome ≡ passed → isSound (readSeal s .kept) ≡ true
 seal-sound s e = let t = seal-held s e in ap isSound (t .2) ∙ kept-and-sound Seal (t .0) (t .1) .3

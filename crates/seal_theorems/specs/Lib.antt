@@ -8,5 +8,5 @@ pub mod SealChecks
 pub mod Examples
 -- the seal that source 002 prints, and what is read of it
 pub mod PrintedSeal
--- the digit that a refusal 9 carries is the text's
+-- where a seal's zones stand, and that the digit of a refusal 9 is the text's
 pub mod Expected
