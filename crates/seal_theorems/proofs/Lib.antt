@@ -29,7 +29,7 @@ pub mod Acceptance
 pub mod TextsSealed
 -- the record of an accepted seal is sound (`seal-sound`); its key (`seal-key`)
 pub mod SealRecord
--- no second answer (`only-seal`), and what every refusal gives (`seal-blank`)
+-- no second answer (`only-seal`, `only-header`), and what every refusal gives (`seal-blank`)
 pub mod OneAnswer
 -- a seal's text has a text's characters, so that it is never refused by 2 (`filled-numbered`)
 pub mod TextCharacters

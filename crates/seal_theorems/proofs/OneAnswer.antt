@@ -1,5 +1,5 @@
--- NO SECOND ANSWER meets the promise of reading a seal (`only-seal`), and every refusal gives the blank header, the blank record
--- and no signature (`seal-blank`).
+-- NO SECOND ANSWER meets the promise of reading a seal (`only-seal`) or its header (`only-header`), and every refusal gives the
+-- blank header, the blank record and no signature (`seal-blank`).
 use Prim.Native.Nat.{ℕ}
 use mathlib.Core.Path.{_≡_, ap, sym, _∙_}
 use mathlib.Core.List.{List}
@@ -9,7 +9,8 @@ use Rattle.refusal.proofs.Outcomes.{refused-not-passed}
 use Rattle.refusal.proofs.Numbers.{outcome-tells}
 use Rattle.zone.specs.Record.{blank}
 use Rattle.tlv.specs.Read.{Read, value, refusal}
-use Rattle.seal_header.specs.Header.{blankHeader}
+use Rattle.seal_header.specs.declared.header.Headed.{Headed}
+use Rattle.seal_header.specs.Header.{blankHeader, Heads}
 use Rattle.seal.specs.declared.read.Seal.{Seal}
 use Rattle.seal.specs.Seal.{Said, saidIn, SealAnswer, answerBy, readSeal, answerOf}
 
@@ -25,6 +26,14 @@ seal-tells r q e =
 
 pub only-seal : (s : List ℕ) (r q : Seal) → answerOf r ≡ readSeal s → answerOf q ≡ readSeal s → r ≡ q
 only-seal s r q e f = seal-tells r q (e ∙ sym f)
+
+-- nor does a second answer meet the header's
+pub only-header : (s : List ℕ) (r q : Headed) → Heads s r → Heads s q → r ≡ q
+only-header s r q e f =
+    let a : r .verdict ≡ q .verdict = outcome-tells (r .verdict) (q .verdict) (e .decided ∙ sym (f .decided)) in
+    let b : r .header ≡ q .header = e .said ∙ sym (f .said) in
+    let c : r .end ≡ q .end = e .ends ∙ sym (f .ends) in
+    λ i. record { verdict = a i; header = b i; end = c i }
 
 pub seal-blank : (s : List ℕ) (n : Why) (p : ℕ) → readSeal s .outcome ≡ refused n p
     → readSeal s
