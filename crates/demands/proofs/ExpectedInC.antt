@@ -1,21 +1,23 @@
--- THE EXPECTED DIGIT at the C border (document 02, 2026-07): with 9 stands the digit that reading worked out, and 255 else.
-use Prim.Native.Nat.{ℕ}
+-- THE EXPECTED DIGIT at the C border (document 02, 2026-07): with 9 stands the digit that reading worked out, 0 to 9, and
+-- 255 else.
+use Prim.Native.Nat.{ℕ, _≤_}
 use mathlib.Core.Path.{_≡_, refl}
 use mathlib.Core.List.{List}
 use native.Mathlib.Omega.{arith}
-use Rattle.zone.specs.declared.form.Source.the-variants.{Alone}
+use Rattle.zone.specs.declared.form.Source.the-variants.{Alone, GroupOne}
 use Rattle.refusal.specs.Numbers.{Why, by, expecting}
-use Rattle.refusal.specs.Outcome.{Outcome}
+use Rattle.refusal.specs.Outcome.{Outcome, refused}
 use Rattle.refusal.specs.Length as told
 use Rattle.text.specs.Read.{readText}
+use Rattle.tlv.specs.Cut.{cut}
 use Rattle.chip.specs.Presentation.{readPresentation}
 use Rattle.digest.specs.Answer.{digestAnswer}
 use Rattle.runs.specs.Run as run
 use Rattle.border.specs.Answer.{inC}
 use Rattle.border.specs.Calls.{writtenAnswer, nextInC}
 use Rattle.lamphudet.specs.Calls.{readAnswer}
-use Rattle.text_theorems.proofs.Expected.{nine-tells}
-use Rattle.presentation_theorems.proofs.Expected.{presentation-nine}
+use Rattle.text_theorems.proofs.Expected.{nine-tells, digit-told}
+use Rattle.presentation_theorems.proofs.Expected.{expected-carried, presentation-nine}
 use Rattle.run_theorems.proofs.OneAnswer.{refused-here}
 use Rattle.run_theorems.specs.Expected.{DigitTold}
 use Rattle.run_theorems.specs.Expected.{numberTold, expectedTold, valueTold}
@@ -37,14 +39,20 @@ module _ (house : ℕ) (t out : List ℕ) where
       (inText house t out .value)
   unfolding readAnswer
   text-digit-told = in-c-told (readText Alone t .outcome) _
-      (entered-told house (readText Alone t .kept) out (readText Alone t .outcome) (nine-tells Alone t))
+      (entered-told house (readText Alone t .kept) out (readText Alone t .outcome) (nine-tells Alone t)
+      (λ d p e. digit-told Alone t d p e .2 .one-digit))
 
 module _ (house : ℕ) (w out : List ℕ) where
   pub presentation-digit-told : DigitTold (readPresentation w .outcome) (inPresentation house w out .number)
       (inPresentation house w out .expected) (inPresentation house w out .value)
   unfolding readAnswer
   presentation-digit-told = in-c-told (readPresentation w .outcome) _
-      (entered-told house (readPresentation w .kept) out (readPresentation w .outcome) (presentation-nine w))
+      (entered-told house (readPresentation w .kept) out (readPresentation w .outcome) (presentation-nine w) one-digit)
+    where
+      one-digit : (d p : ℕ) → readPresentation w .outcome ≡ refused (expecting d) p → d ≤ 9
+      one-digit d p e =
+          let t = expected-carried w d p .0 e in
+          digit-told GroupOne (cut w (t .held)) d (t .own) (t .text-refused) .2 .one-digit
 
 -- ---- every other call
 

@@ -30,6 +30,7 @@ use Rattle.seal.specs.Signature.{signatureAt}
 use Rattle.seal.specs.Seal.{featureOctets, textIn, placed, withText, saidIn, readSeal}
 use Rattle.lamphudet_seals.specs.declared.received.SealInC.{SealInC}
 use Rattle.lamphudet_seals.specs.Answer.{fieldsInC, sealInC, readSealInC}
+use Rattle.text_theorems.proofs.Expected.{digit-told}
 use Rattle.run_theorems.specs.Expected.{DigitTold}
 use Rattle.run_theorems.specs.Expected.{numberTold, expectedTold, valueTold}
 use Rattle.run_theorems.proofs.Expected.{entered-told}
@@ -181,4 +182,9 @@ module _ (house : ℕ) (s out : List ℕ) where
   pub seal-digit-told : DigitTold (readSeal s .outcome) (answer .number) (answer .expected) (answer .value)
   unfolding readSealInC
   seal-digit-told = in-c-told (readSeal s .outcome) _ (readSeal s .header) (readSeal s .signature)
-      (entered-told house (readSeal s .kept) out (readSeal s .outcome) (seal-nine s))
+      (entered-told house (readSeal s .kept) out (readSeal s .outcome) (seal-nine s) one-digit)
+    where
+      one-digit : (d q : ℕ) → readSeal s .outcome ≡ refused (expecting d) q → d ≤ 9
+      one-digit d q e =
+          let t = seal-expected s d q .0 e in
+          digit-told Seal (filled (textIn s (t .zones .message))) d (t .own) (t .text-refused) .2 .one-digit
