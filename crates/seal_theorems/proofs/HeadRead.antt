@@ -75,7 +75,7 @@ module _ (s r : List ℕ) (h : Head) (k : HeadKept h) (e : s ≡ headOctets h ++
       let x2 = first-there s 1 (h .version) c (x1 .1) in
       let two : length (imageOf (h .country)) ≡ 2 = image-length (h .country) ∙ rw (k .country-length) in
       let x3 = then-there s 2 2 (imageOf (h .country)) f two (x2 .1) in
-      let q = read-reference s i h k (x2 .0) (x3 .1) in
+      let q = read-reference s i h (k .reference-kept) (x2 .0) (x3 .1) (k .version-kept) in
       let x4 = then-there s 4 w (imageOf (referenceOf h)) i (sym (q .width-read)) (x3 .1) in
       let x5 = day-stands s (4 + w) (h .issued) j (k .issued-kept) (x4 .1) in
       let seven : 4 + w + 3 ≡ 7 + w = omega arith in
@@ -90,8 +90,8 @@ module _ (s r : List ℕ) (h : Head) (k : HeadKept h) (e : s ≡ headOctets h ++
       let stated : country s ≡ filled (h .country) = ap (λ (l : List ℕ). padded 3 (filled l)) field
       ∙ padded-exact 3 (filled (h .country)) three in
       let signer : padded 4 (take 4 (reference s)) ≡ h .signer = ap (λ (l : List ℕ). padded 4 (take 4 l)) (q .reference-read)
-      ∙ ap (padded 4) (take-at (h .signer) (countOf h ++ h .certificate) 4 (k .signer-length))
-      ∙ padded-exact 4 (h .signer) (k .signer-length) in
+      ∙ ap (padded 4) (take-at (h .signer) (countOf h ++ h .certificate) 4 (k .reference-kept .signer-length))
+      ∙ padded-exact 4 (h .signer) (k .reference-kept .signer-length) in
       let certificate : drop (before s) (reference s) ≡ h .certificate = ap (drop (before s)) (q .reference-read)
       ∙ q .certificate-read in
       record {

@@ -25,8 +25,7 @@ use Rattle.seal_header.specs.Header.{country, headerCheck, headerEnd}
 use Rattle.seal_theorems.specs.Sealed.{Head, dayOctets, referenceOf, headOctets, HeadKept}
 use Rattle.seal_theorems.proofs.Places.{there-then, octet-there}
 use Rattle.seal_theorems.proofs.Days.{read-day}
-use Rattle.seal_theorems.proofs.References.{signerAt, certificateAt, Referred, reference-stands, signer-four}
-use Rattle.seal_theorems.proofs.References.{signer-letters-read, signer-others-read, referred}
+use Rattle.seal_theorems.proofs.References.{signerAt, certificateAt, Referred, reference-stands, referred}
 use Rattle.seal_theorems.proofs.HeadChecks.{Passed, checks-passed}
 
 -- the header's octets, and then others
@@ -86,12 +85,7 @@ module _ (s : List ℕ) (small : areOctets s) where
           country-length = country-stands .field-length;
           country-c40 = country-stands .field-c40;
           country-kept = ap stateRule (sym (padded-exact 3 (filled t) three)) ∙ p .stated;
-          signer-length = signer-four s small (p .referenced);
-          signer-letters = signer-letters-read s small (p .referenced);
-          signer-others = signer-others-read s small (p .referenced);
-          certificate-hex = reference-referred .hex-so;
-          certificate-five = reference-referred .five-so;
-          certificate-most = reference-referred .most-so;
+          reference-kept = reference-referred .referred-kept;
           issued-kept = p .issued-on;
           signed-kept = p .signed-on;
         }

@@ -22,7 +22,7 @@ use Rattle.c40.proofs.Exactly.{no-field}
 use Rattle.c40.proofs.Fields.{FieldStands, field-read, read-field}
 use Rattle.seal_fields.specs.Hex.{isHex, hexOf}
 use Rattle.seal_header.specs.Reference.{version, moreBy, referenceLength, width, reference, isLetterOrDigit, isReference, before}
-use Rattle.seal_theorems.specs.Sealed.{Head, hexDigit, hexadecimal, countOf, referenceOf, HeadKept}
+use Rattle.seal_theorems.specs.Sealed.{Head, hexDigit, hexadecimal, countOf, referenceOf, ReferenceKept}
 use Rattle.seal_theorems.proofs.Places.{then-there, of-four}
 use Rattle.seal_theorems.proofs.Hexadecimal.{two-said, said-two, hex-c40}
 
@@ -67,9 +67,7 @@ certificateAt s = drop (before s) (reference s)
 -- what a head has that is read so
 pub record Referred (h : Head) (s : List ℕ) : Type 0 where
   pub said-so : referenceOf h ≡ reference s
-  pub hex-so : every isHex (h .certificate) ≡ true
-  pub five-so : h .version ≡ 0x02 → length (h .certificate) ≡ 5
-  pub most-so : h .version ≡ 0x03 → length (h .certificate) ≤ 255
+  pub referred-kept : ReferenceKept h
 
 -- there are six characters at least
 pub least : (s : List ℕ) → 6 ≤ referenceLength s
@@ -97,7 +95,7 @@ module _ (s : List ℕ) (small : areOctets s) (kept : isReference (reference s) 
   long : 6 ≤ length (reference s)
   long = omega (arith, least s, reference-stands .field-length)
 
-  pub signer-four : length (signerAt s) ≡ 4
+  signer-four : length (signerAt s) ≡ 4
   unfolding signerAt
   signer-four = length-take-le 4 (reference s) (omega (arith, long))
 
@@ -111,13 +109,20 @@ module _ (s : List ℕ) (small : areOctets s) (kept : isReference (reference s) 
       let p = and-both (every isLetter (take 2 a)) (every isLetterOrDigit (drop 2 a) && every isHex (drop 4 (reference s))) e in
       (p .0, and-both (every isLetterOrDigit (drop 2 a)) (every isHex (drop 4 (reference s))) (p .1))
 
-  pub signer-letters-read : every isLetter (take 2 (signerAt s)) ≡ true
-  signer-letters-read = parts .0
-
-  pub signer-others-read : every isLetterOrDigit (drop 2 (signerAt s)) ≡ true
-  signer-others-read = parts .1 .0
-
   module _ (h : Head) (v : h .version ≡ version s) (a : h .signer ≡ signerAt s) (c : h .certificate ≡ certificateAt s) where
+    -- the signer's rules are kept, whatever the version
+    kept-by : every isHex (h .certificate) ≡ true → (h .version ≡ 0x02 → length (h .certificate) ≡ 5)
+        → (h .version ≡ 0x03 → length (h .certificate) ≤ 255)
+        → ReferenceKept h
+    kept-by hex five most = record {
+      signer-length = rw a signer-four;
+      signer-letters = rw a (parts .0);
+      signer-others = rw a (parts .1 .0);
+      certificate-hex = hex;
+      certificate-five = five;
+      certificate-most = most;
+    }
+
     referred-two : version s ≡ 0x02 → Referred h s
     unfolding referenceOf countOf signerAt certificateAt before referenceLength
     referred-two e =
@@ -125,9 +130,8 @@ module _ (s : List ℕ) (small : areOctets s) (kept : isReference (reference s) 
         let nine : length (reference s) ≡ 9 = reference-stands .field-length ∙ rw e in
         record {
           said-so = rw (v, e, a, cert) (take-append-drop 4 (reference s));
-          hex-so = rw cert (parts .1 .1);
-          five-so = λ _. rw (cert, length-drop) (omega arith);
-          most-so = λ f. absurd (omega (arith, sym f ∙ v ∙ e));
+          referred-kept = kept-by (rw cert (parts .1 .1)) (λ _. rw (cert, length-drop) (omega arith))
+              (λ f. absurd (omega (arith, sym f ∙ v ∙ e)));
         }
 
     referred-three : version s ≡ 0x03 → Referred h s
@@ -158,9 +162,8 @@ module _ (s : List ℕ) (small : areOctets s) (kept : isReference (reference s) 
         let left : length (drop 6 r) ≡ hexOf x * 16 + hexOf y = length-drop 6 r ∙ omega arith in
         record {
           said-so = rw (v, e, a, cert, left, two .1) (ap (λ (l : List ℕ). take 4 r ++ l) (sym behind) ∙ take-append-drop 4 r);
-          hex-so = rw cert (q .1);
-          five-so = λ f. absurd (omega (arith, sym f ∙ v ∙ e));
-          most-so = λ _. rw (cert, left) (two .0);
+          referred-kept = kept-by (rw cert (q .1)) (λ f. absurd (omega (arith, sym f ∙ v ∙ e)))
+              (λ _. rw (cert, left) (two .0));
         }
 
     pub referred : (version s ≡ 0x02) ⊎ (version s ≡ 0x03) → Referred h s
@@ -182,7 +185,7 @@ record Counted (h : Head) (s : List ℕ) : Type 0 where
   count-before : before s ≡ 4 + length (countOf h)
   count-length : referenceLength s ≡ length (referenceOf h)
 
-module _ (s r : List ℕ) (h : Head) (k : HeadKept h) (v : version s ≡ h .version)
+module _ (s r : List ℕ) (h : Head) (k : ReferenceKept h) (v : version s ≡ h .version)
     (e : drop 4 s ≡ imageOf (referenceOf h) ++ r) where
   lengths : length (referenceOf h) ≡ 4 + (length (countOf h) + length (h .certificate))
   unfolding referenceOf
@@ -226,10 +229,10 @@ module _ (s r : List ℕ) (h : Head) (k : HeadKept h) (v : version s ≡ h .vers
         count-length = rw (v, f, said) (omega (arith, rw f at lengths));
       }
 
-  pub read-reference : ReferenceRead h s
+  pub read-reference : (h .version ≡ 0x02) ⊎ (h .version ≡ 0x03) → ReferenceRead h s
   unfolding referenceOf reference width octetsFor
-  read-reference =
-      let n = counted (k .version-kept) in
+  read-reference kept =
+      let n = counted kept in
       let x = h .signer ++ (countOf h ++ h .certificate) in
       let hexes = every-append isHex (countOf h) (h .certificate) (n .count-hex) (k .certificate-hex) in
       let pure : every isC40 x ≡ true = every-append isC40 (h .signer) (countOf h ++ h .certificate) signer-c40

@@ -88,12 +88,14 @@ printed-kept = record {
   country-length = refl;
   country-c40 = refl;
   country-kept = refl;
-  signer-length = refl;
-  signer-letters = refl;
-  signer-others = refl;
-  certificate-hex = refl;
-  certificate-five = λ e. refl;
-  certificate-most = λ e. omega arith;
+  reference-kept = record {
+    signer-length = refl;
+    signer-letters = refl;
+    signer-others = refl;
+    certificate-hex = refl;
+    certificate-five = λ e. refl;
+    certificate-most = λ e. omega arith;
+  };
   issued-kept = refl;
   signed-kept = refl;
 }

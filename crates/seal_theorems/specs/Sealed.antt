@@ -113,13 +113,8 @@ isOther tag = ltb tag 256 && (not (eqb tag textTag) && not (eqb tag signatureTag
 unfoldable pub areOthers : List Feature → Bool
 areOthers fs = every isOther (map (λ (f : Feature). f .tag) fs)
 
-pub record HeadKept (h : Head) : Type 0 where
-  -- "Version octets 02 and 03 are kept"
-  pub version-kept : (h .version ≡ 0x02) ⊎ (h .version ≡ 0x03)
-  -- three characters that keep document 01's rule for a state, spaces standing for fillers
-  pub country-length : length (h .country) ≡ 3
-  pub country-c40 : every isC40 (h .country) ≡ true
-  pub country-kept : stateRule (filled (h .country)) ≡ true
+-- the signer and the certificate reference, as the version has them
+pub record ReferenceKept (h : Head) : Type 0 where
   -- two letters, and two letters or digits
   pub signer-length : length (h .signer) ≡ 4
   pub signer-letters : every isLetter (take 2 (h .signer)) ≡ true
@@ -128,6 +123,15 @@ pub record HeadKept (h : Head) : Type 0 where
   pub certificate-hex : every isHex (h .certificate) ≡ true
   pub certificate-five : h .version ≡ 0x02 → length (h .certificate) ≡ 5
   pub certificate-most : h .version ≡ 0x03 → length (h .certificate) ≤ 255
+
+pub record HeadKept (h : Head) : Type 0 where
+  -- "Version octets 02 and 03 are kept"
+  pub version-kept : (h .version ≡ 0x02) ⊎ (h .version ≡ 0x03)
+  -- three characters that keep document 01's rule for a state, spaces standing for fillers
+  pub country-length : length (h .country) ≡ 3
+  pub country-c40 : every isC40 (h .country) ≡ true
+  pub country-kept : stateRule (filled (h .country)) ≡ true
+  pub reference-kept : ReferenceKept h
   -- "a calendar day of the years 1 to 9999"
   pub issued-kept : isDay (h .issued) ≡ true
   pub signed-kept : isDay (h .signed) ≡ true
