@@ -57,7 +57,8 @@ day-there s at small e = there-then s at 3 (dayOctets (dayOf (numberIn (take 3 (
     (sym (read-day (take 3 (drop at s)) (every-take isOctet 3 (drop at s) (every-drop isOctet at s small)) e))
 
 module _ (s : List ℕ) (small : areOctets s) where
-  headAt : Head
+  -- the head that is read
+  unfoldable pub headAt : Head
   headAt = record {
     version = version s;
     country = fieldAt s 2 3;

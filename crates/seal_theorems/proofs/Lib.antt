@@ -37,6 +37,8 @@ pub mod TextCharacters
 pub mod LeadingV
 -- the answer is the first failing check (`seal-refused-exactly`)
 pub mod FirstFailing
+-- the rows that decode, each by what stands there (`country-row`, `reference-row`, `day-row`, `image-row`, `text-row`)
+pub mod RowsStand
 -- what a C host may rely on: every call is told in one of two ways (`seal-told`)
 pub mod AtTheBorder
 -- the examples of the papers hold (`printed-hold`)

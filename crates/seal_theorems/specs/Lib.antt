@@ -4,6 +4,8 @@ pub mod Sealed
 pub mod Around
 -- the checks one after the other
 pub mod SealChecks
+-- what stands where a row that decodes passes
+pub mod RowsStand
 -- the examples of the papers
 pub mod Examples
 -- the seal that source 002 prints, and what is read of it

@@ -1,6 +1,7 @@
 -- The checks of a seal one after the other, a row for each sentence that can refuse: document 02, request 2026-08, "Refusals, in
 -- this order", whose words are those in quotes. Which of them a refusal names is `FirstFailing` (text_theorems). Every row is
--- said of the octets; where one fails, those behind it decide nothing.
+-- said of the octets; where one fails, those behind it decide nothing. The rows of country, reference, dates and feature 02's C40
+-- decode what stands there: `RowsStand` says of each, with encoders, what that is.
 use Prim.Native.Nat.{ℕ, zero, suc, _+_}
 use mathlib.Core.Bool.{Bool, true, false, cond, not, _||_}
 use mathlib.Core.List.{List, [], _∷_, _++_, map}
