@@ -2,12 +2,10 @@
 pub mod Starred
 -- no second answer meets a promise (`only-..`)
 pub mod NoSecondAnswer
--- DEMAND 3: the key, for all that is read (`accepted-key`)
-pub mod KeyOfAnswers
+-- the record of an accepted presentation is sound (`presentation-sound`)
+pub mod PresentationRecord
 -- the expected digit at the C border (`text-digit-told`, `presentation-digit-told`)
 pub mod ExpectedInC
--- SEPARATION at the C border (`calls-apart`, `lines-never-meet`)
-pub mod Separation
 -- no second answer: elements, outer parts, EF.COM, the object (`only-element` and the others)
 pub mod OneElement
 -- the demands are not empty: a text, a sound record and a presentation that are accepted (`T3-accepted` and the others)

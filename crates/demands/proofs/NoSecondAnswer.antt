@@ -11,6 +11,7 @@ use Rattle.zone.specs.declared.form.Source.the-variants.{Alone}
 use Rattle.zone.specs.declared.record.Record.{Record}
 use Rattle.text.specs.declared.read.Reading.{Reading}
 use Rattle.text.specs.Read.{Answer, answerOf, readText}
+use Rattle.chip.specs.Presentation.{readPresentation}
 use Rattle.writing.specs.Answer as text
 use Rattle.entry.specs.Entry.{Writes}
 use Rattle.runs.specs.Run as run
@@ -31,6 +32,9 @@ only-digest input out a b r s p q = (length-tells r s (p .answer ∙ sym (q .ans
 
 pub only-reading : (t : List ℕ) (r s : Reading) → answerOf r ≡ readText Alone t → answerOf s ≡ readText Alone t → r ≡ s
 only-reading t r s p q = answer-tells r s (p ∙ sym q)
+
+pub only-presentation : (w : List ℕ) (r s : Reading) → answerOf r ≡ readPresentation w → answerOf s ≡ readPresentation w → r ≡ s
+only-presentation w r s p q = answer-tells r s (p ∙ sym q)
 
 -- ---- what writes a text or an entry
 

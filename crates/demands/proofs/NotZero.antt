@@ -24,7 +24,8 @@ use Rattle.presentation_theorems.proofs.Expected.{presentation-numbered}
 use Rattle.run_theorems.proofs.NumbersEntered.{zero-no-refusal}
 use Rattle.demands.proofs.NumbersInC.{number-in-c}
 use Rattle.demands.proofs.Writers.{written-each, digest-each}
-use Rattle.demands.proofs.ReadInC.{text-sound, presentation-sound}
+use Rattle.demands.proofs.PresentationRecord.{presentation-sound}
+use Rattle.demands.proofs.ReadInC.{text-sound}
 
 -- where this is a refusal, C receives another number than 0
 abbrev pub NotZero : Length → Type 0

@@ -26,16 +26,12 @@ use Rattle.presentation_theorems.proofs.Acceptance.{presented-exactly}
 use Rattle.presentation_theorems.proofs.Expected.{presentation-numbered}
 use Rattle.run_theorems.specs.Entered.{Allowed, Leaves}
 use Rattle.run_theorems.proofs.NumbersEntered.{zero-allowed, seventeen-exactly, zero-leaves}
-use Rattle.demands.specs.Answered.{of-presentation}
 use Rattle.demands.specs.InC.{inText, inPresentation}
-use Rattle.demands.proofs.KeyOfAnswers.{accepted-sound}
 use Rattle.demands.proofs.NumbersInC.{number-in-c, value-in-c}
+use Rattle.demands.proofs.PresentationRecord.{presentation-sound}
 
 pub text-sound : (t : List ℕ) → readText Alone t .outcome ≡ passed → isSound (readText Alone t .kept) ≡ true
 text-sound t e = kept-and-sound Alone t e .3
-
-pub presentation-sound : (w : List ℕ) → readPresentation w .outcome ≡ passed → isSound (readPresentation w .kept) ≡ true
-presentation-sound w e = accepted-sound (readPresentation w) (of-presentation w refl e)
 
 module _ (house : ℕ) (t out : List ℕ) where
   pub read-text-exactly : (inText house t out .number ≡ 0)

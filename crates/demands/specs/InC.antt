@@ -1,9 +1,8 @@
 -- What C receives of the two calls that read: document 01, "What the server lends and gets".
 use Prim.Native.Nat.{ℕ}
-use mathlib.Core.Path.{_≡_}
 use mathlib.Core.List.{List}
 use Rattle.zone.specs.declared.form.Source.the-variants.{Alone}
-use Rattle.text.specs.Read.{Answer, readText}
+use Rattle.text.specs.Read.{readText}
 use Rattle.chip.specs.Presentation.{readPresentation}
 use Rattle.border.specs.declared.received.AnswerInC.{AnswerInC}
 use Rattle.border.specs.Answer.{inC}
@@ -16,8 +15,3 @@ inText house t out = inC (readAnswer house (readText Alone t) out)
 -- `lamphudet_read_presentation`
 abbrev pub inPresentation : (house : ℕ) (w out : List ℕ) → AnswerInC
 inPresentation house w out = inC (readAnswer house (readPresentation w) out)
-
--- what either of them reads
-pub data Read (a : Answer) : Type 0 where
-  of-text : (t : List ℕ) → readText Alone t ≡ a → Read a
-  of-presentation : (w : List ℕ) → readPresentation w ≡ a → Read a

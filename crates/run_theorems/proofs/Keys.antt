@@ -5,9 +5,7 @@ use mathlib.Core.Path.{_≡_, refl, ap, sym, _∙_}
 use mathlib.Core.Logic.{_↔_}
 use mathlib.Core.Bool.{true}
 use mathlib.Core.List.{List, map}
-use Rattle.refusal.specs.Outcome.{passed}
 use Rattle.zone.specs.declared.form.Form.{Form}
-use Rattle.zone.specs.declared.form.Source.the-variants.{Alone}
 use Rattle.zone.specs.declared.record.Record.{Record}
 use Rattle.zone.specs.Alphabet.{isCharacter, every}
 use Rattle.zone.specs.Codes.{codeOf, characterOf}
@@ -18,7 +16,6 @@ use Rattle.zone.proofs.FormTold.{as-same}
 use Rattle.zone.proofs.Padded.{padded-exact, padded-trimmed}
 use Rattle.sound.specs.Sound.{isSound}
 use Rattle.sound.proofs.SoundRecord.{Sound, taken-apart}
-use Rattle.text.specs.Read.{readText}
 use Rattle.cells.specs.Cells.{octetsOf}
 use Rattle.cells.proofs.RowOctets.{octets-begin, octets-tell}
 use Rattle.zone.specs.Form.{formBy}
@@ -29,7 +26,6 @@ use Rattle.entry.proofs.Coded.{codes-tell}
 use Rattle.zone.proofs.FormTold.{entered-tells}
 use Rattle.entry.proofs.Values.{key-fits, key-sized}
 use Rattle.run_theorems.specs.Keys.{keyOf, wholeNumber, SameKey}
-use Rattle.text_theorems.proofs.RecordOfText.{kept-and-sound}
 
 -- ---- the thirty bytes are those of the row's beginning
 
@@ -94,12 +90,3 @@ module _ (h k : ℕ) (r q : Record) (house : isHouse h ≡ true) (sound : isSoun
 
   pub key-exactly : (keyOf h r ≡ keyOf k q) ↔ SameKey h r k q
   key-exactly = (agreeing, agreed)
-
--- for two accepted texts, each kept under a house
-pub texts-key : (h k : ℕ) (t u : List ℕ) → isHouse h ≡ true → isHouse k ≡ true → readText Alone t .outcome ≡ passed
-    → readText Alone u .outcome ≡ passed
-    → (keyOf h (readText Alone t .kept) ≡ keyOf k (readText Alone u .kept))
-    ↔ SameKey h (readText Alone t .kept) k (readText Alone u .kept)
-texts-key h k t u house house′ e f =
-    key-exactly h k (readText Alone t .kept) (readText Alone u .kept) house (kept-and-sound Alone t e .3) house′
-    (kept-and-sound Alone u f .3)

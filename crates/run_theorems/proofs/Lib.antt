@@ -14,7 +14,7 @@ pub mod AnyRun
 pub mod EntryLengths
 -- the expected digit where what was read is entered (`entered-told`)
 pub mod Expected
--- SEPARATION: keys of accepted calls, and a house's own lines (`entries-apart`, `houses-apart`, `own-lines`)
+-- SEPARATION: keys of accepted calls, and a house's own lines (`entries-apart`, `own-lines`)
 pub mod Separation
 -- the number that is told where what was read is entered (`zero-allowed`, `seventeen-exactly`, `sixteen-exactly`)
 pub mod NumbersEntered

@@ -1,8 +1,7 @@
 -- SEPARATION: what two accepted calls leave in their ranges shares its first thirty octets exactly when house, form, state, whole
--- number, birth and expiry agree (`entries-apart`); so entries of two houses never share a key (`houses-apart`); and of a run
--- that is read, the lines whose first fifteen bits are a house are exactly that house's, and together the lines are the run's, or
--- those before the place where it is refused (`own-lines`). A call may have read anything, a text, a presentation or a seal:
--- `enteredOut` is what it leaves.
+-- number, birth and expiry agree (`entries-apart`); and of a run that is read, the lines whose first fifteen bits are a house are
+-- exactly that house's, and together the lines are the run's, or those before the place where it is refused (`own-lines`). A call
+-- may have read anything, a text, a presentation or a seal: `enteredOut` is what it leaves.
 use Prim.Native.Nat.{ℕ}
 use mathlib.Core.Path.{_≡_, refl, ap, sym, _∙_}
 use mathlib.Core.Bool.{true}
@@ -44,9 +43,6 @@ module _ (h k : ℕ) (o p : Outcome) (r q : Record) (out to : List ℕ) (x : Ent
         λ e. both .0 (sym (entered-begins o h r out x) ∙ (e ∙ entered-begins p k q to y)),
         λ same. entered-begins o h r out x ∙ (both .1 same ∙ sym (entered-begins p k q to y)),
       )
-
-  pub houses-apart : (h ≡ k → ⊥) → take 30 (enteredOut o h r out) ≡ take 30 (enteredOut p k q to) → ⊥
-  houses-apart other e = other (entries-apart .0 e .same-house)
 
 -- an entry begins with its house
 house-first : (l : Line) → isKept l ≡ true → houseIn (entryOf (l .house) (l .kept)) ≡ l .house

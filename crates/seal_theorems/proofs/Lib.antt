@@ -27,7 +27,7 @@ pub mod Stages
 pub mod Acceptance
 -- every accepted text of 72 characters is carried by an accepted seal (`every-text-sealed`)
 pub mod TextsSealed
--- the record of an accepted seal is sound (`seal-sound`); its key (`seal-key`)
+-- the record of an accepted seal is sound (`seal-sound`)
 pub mod SealRecord
 -- no second answer (`only-seal`, `only-header`), and what every refusal gives (`seal-blank`)
 pub mod OneAnswer
@@ -50,5 +50,5 @@ pub mod Refusals
 -- refused by 9 with a digit exactly where the text is (`seal-expected`, `seal-expected-of`, `seal-nine`); DEMAND 1: every
 -- refusal's number and place (`seal-numbered`, `seal-within`)
 pub mod Expected
--- the numbers that C receives of a seal (`read-seal-exactly` and the others), and two calls' entries apart (`seals-apart`)
+-- the numbers that C receives of a seal (`read-seal-exactly` and the others)
 pub mod NumbersInC

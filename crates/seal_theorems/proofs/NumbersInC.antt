@@ -6,7 +6,7 @@ use mathlib.Core.Path.{_≡_, refl, sym, _∙_}
 use mathlib.Core.Logic.{_↔_}
 use mathlib.Core.Bool.{false}
 use mathlib.Core.List.{List}
-use lib.ListN.{length, take}
+use lib.ListN.{length}
 use Rattle.refusal.specs.Numbers.{Why}
 use Rattle.refusal.specs.Outcome.{passed}
 use Rattle.refusal.specs.Calls.{ofSeal, entered}
@@ -27,8 +27,6 @@ use Rattle.run_theorems.specs.Entered.{Allowed, Leaves}
 use Rattle.run_theorems.specs.Expected.{numberTold, valueTold}
 use Rattle.run_theorems.proofs.NumbersEntered.{zero-allowed, seventeen-exactly, zero-enters, zero-leaves}
 use Rattle.run_theorems.proofs.NumbersEntered.{zero-no-refusal}
-use Rattle.run_theorems.proofs.Separation.{entries-apart, houses-apart}
-use Rattle.run_theorems.specs.Keys.{SameKey}
 use Rattle.seal_theorems.specs.Sealed.{Contents, Sealed, octetsOf}
 use Rattle.seal_theorems.proofs.Acceptance.{sealed-exactly}
 use Rattle.seal_theorems.proofs.Expected.{seal-numbered, seal-within}
@@ -94,20 +92,7 @@ module _ (house : ℕ) (s out : List ℕ) where
       (entered-answers (length s) house (readSeal s .kept) out ofSeal (readSeal s .outcome)
       (λ why p e. (told-of ofSeal why (seal-numbered s why p e), seal-within s why p e))))
 
-  seal-enters : inSeal .number ≡ 0 → Enters (readSeal s .outcome) house (readSeal s .kept) out
+  -- with 0 what was read is entered
+  pub seal-enters : inSeal .number ≡ 0 → Enters (readSeal s .outcome) house (readSeal s .kept) out
   seal-enters zero = zero-enters house (readSeal s .kept) out ofSeal (refl, refl, refl) (readSeal s .outcome)
       (seal-numbered s) (seal-sound s) (sym same-number ∙ zero)
-
--- SEPARATION: what two calls that answer 0 leave in their ranges shares its first thirty octets exactly when all of these agree
-module _ (h k : ℕ) (s u out to : List ℕ) (zero : readSealInC h s out .number ≡ 0) (also : readSealInC k u to .number ≡ 0) where
-  pub seals-apart : (take 30 (readSealOut h s out) ≡ take 30 (readSealOut k u to))
-      ↔ SameKey h (readSeal s .kept) k (readSeal u .kept)
-  unfolding readSealOut
-  seals-apart = entries-apart h k (readSeal s .outcome) (readSeal u .outcome) (readSeal s .kept) (readSeal u .kept) out to
-      (seal-enters h s out zero) (seal-enters k u to also)
-
-  -- so those of two houses never do
-  pub seal-houses-apart : (h ≡ k → ⊥) → take 30 (readSealOut h s out) ≡ take 30 (readSealOut k u to) → ⊥
-  unfolding readSealOut
-  seal-houses-apart = houses-apart h k (readSeal s .outcome) (readSeal u .outcome) (readSeal s .kept) (readSeal u .kept) out to
-      (seal-enters h s out zero) (seal-enters k u to also)

@@ -1,19 +1,15 @@
--- DEMAND 3 for presentations and texts alike: an accepted answer has the record of an accepted text, which is sound; so keys of
--- two accepted answers agree exactly when house, form, state, whole number, birth and expiry agree. And no second answer meets
--- the promise of reading a presentation.
+-- THE RECORD of an accepted presentation is that of an accepted text (`presentation-held`), and so sound (`presentation-sound`),
+-- whatever numbers it was read from.
 use Prim.Native.Nat.{ℕ}
-use mathlib.Core.Path.{_≡_, ap, sym, _∙_, subst}
-use mathlib.Core.Logic.{_↔_}
+use mathlib.Core.Path.{_≡_, ap, sym, _∙_}
 use mathlib.Core.Bool.{true}
 use mathlib.Core.List.{List, []}
 use lib.ListN.{take}
 use Rattle.refusal.specs.Outcome.{passed}
-use Rattle.zone.specs.declared.form.Source.the-variants.{Alone, GroupOne}
+use Rattle.zone.specs.declared.form.Source.the-variants.{GroupOne}
 use Rattle.zone.specs.declared.record.Record.{Record}
-use Rattle.text.specs.declared.read.Reading.{Reading}
-use Rattle.text.specs.Read.{Answer, answerOf, readText}
+use Rattle.text.specs.Read.{readText}
 use Rattle.sound.specs.Sound.{isSound}
-use Rattle.entry.specs.Entry.{isHouse}
 use Rattle.tlv.specs.declared.Stretch.{Stretch}
 use Rattle.tlv.specs.Read.{value, checked}
 use Rattle.tlv.specs.Element.{element}
@@ -25,11 +21,7 @@ use Rattle.object.specs.Object.{readObject}
 use Rattle.chip.specs.Files.{filesCheck}
 use Rattle.group_text.specs.Text.{moved, textAt}
 use Rattle.chip.specs.Presentation.{firstFile, groupOne, decided, readStages, readPresentation}
-use Rattle.run_theorems.specs.Keys.{keyOf, SameKey}
-use Rattle.demands.specs.Answered.{Accepted, of-text, of-presentation}
 use Rattle.text_theorems.proofs.RecordOfText.{kept-and-sound}
-use Rattle.run_theorems.proofs.Keys.{key-exactly}
-use Rattle.demands.proofs.NoSecondAnswer.{answer-tells}
 use Rattle.tlv.proofs.Joined.{first-value, checked-value}
 use Rattle.presentation_theorems.proofs.GroupOne.{passed-moved}
 use Rattle.presentation_theorems.proofs.Acceptance.{from-files, from-object, from-common, passed-value}
@@ -75,21 +67,5 @@ presentation-held w e =
     (t .0, t .1, a .2 ∙ sym (t .2))
 
 -- so it is sound
-pub accepted-sound : (a : Answer) → Accepted a → isSound (a .kept) ≡ true
-accepted-sound a (of-text t e p) =
-    let read : readText Alone t .outcome ≡ passed = ap (λ (x : Answer). x .outcome) e ∙ p in
-    subst (λ (x : Answer). isSound (x .kept) ≡ true) e (kept-and-sound Alone t read .3)
-accepted-sound a (of-presentation w e p) =
-    let read : readPresentation w .outcome ≡ passed = ap (λ (x : Answer). x .outcome) e ∙ p in
-    let h = presentation-held w read in
-    let same : readText GroupOne (h .0) .kept ≡ a .kept = sym (h .2) ∙ ap (λ (x : Answer). x .kept) e in
-    subst (λ (r : Record). isSound r ≡ true) same (kept-and-sound GroupOne (h .0) (h .1) .3)
-
--- two accepted answers, each kept under a house
-pub accepted-key : (h k : ℕ) (a b : Answer) → isHouse h ≡ true → isHouse k ≡ true → Accepted a → Accepted b
-    → (keyOf h (a .kept) ≡ keyOf k (b .kept)) ↔ SameKey h (a .kept) k (b .kept)
-accepted-key h k a b house house′ x y = key-exactly h k (a .kept) (b .kept) house (accepted-sound a x) house′ (accepted-sound b y)
-
--- no second answer meets the promise of reading a presentation
-pub only-presentation : (w : List ℕ) (r s : Reading) → answerOf r ≡ readPresentation w → answerOf s ≡ readPresentation w → r ≡ s
-only-presentation w r s p q = answer-tells r s (p ∙ sym q)
+pub presentation-sound : (w : List ℕ) → readPresentation w .outcome ≡ passed → isSound (readPresentation w .kept) ≡ true
+presentation-sound w e = let h = presentation-held w e in ap isSound (h .2) ∙ kept-and-sound GroupOne (h .0) (h .1) .3
