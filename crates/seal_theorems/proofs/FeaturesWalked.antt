@@ -34,7 +34,7 @@ record Came (s : List ℕ) (more at text : ℕ) (to found : ℕ) (r : List ℕ) 
   to-within : to ≤ length s
 
 -- no feature is empty
-some-octets : (x : Feature) → 1 ≤ length (featureOf x)
+pub some-octets : (x : Feature) → 1 ≤ length (featureOf x)
 unfolding featureOf
 some-octets x = omega (arith, length-tlv (x .tag) (x .content), some-head (x .tag) (length (x .content)))
 

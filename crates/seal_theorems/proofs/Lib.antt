@@ -25,6 +25,10 @@ pub mod Stages
 -- accepted exactly when it is the encodings of what keeps every rule (`sealed-exactly`), and the whole answer is then theirs
 -- (`sealed-contents`, `sealed-answer`)
 pub mod Acceptance
+-- fillers for spaces, and back (`filled-spaced`, `filled-tells`)
+pub mod Spaced
+-- the octets of a seal tell its contents (`seal-octets-tell`)
+pub mod ContentsByOctets
 -- every accepted text of 72 characters is carried by an accepted seal (`every-text-sealed`)
 pub mod TextsSealed
 -- the record of an accepted seal is sound (`seal-sound`)

@@ -3,28 +3,24 @@
 use Prim.Native.Nat.{ℕ, _+_, _≤_}
 use mathlib.Core.Path.{_≡_, refl, ap, sym, _∙_, subst}
 use mathlib.Core.Logic.{inl}
-use mathlib.Core.Bool.{Bool, true, false, cond, _||_, false≢true}
-use mathlib.Core.List.{List, [], _∷_, _++_}
+use mathlib.Core.Bool.{true}
+use mathlib.Core.List.{List, _++_}
 use native.Mathlib.Omega.{arith}
-use borrow.Author.Tests.{eqb-true}
-use lib.Dec.{eqb}
 use lib.ListN.{length, length-append, length-map}
 use Rattle.lent.specs.Octets.{octets}
-use Rattle.lent.proofs.Bools.{and-both, both-and}
 use Rattle.refusal.specs.Outcome.{passed}
 use Rattle.zone.specs.declared.form.Form.{Form}
 use Rattle.zone.specs.declared.form.Source.the-variants.{Seal}
 use Rattle.zone.specs.Form.{mayStand}
-use Rattle.zone.specs.Alphabet.{isDigit, isLetter, isFiller, isCharacter, every, filler}
+use Rattle.zone.specs.Alphabet.{isDigit, isLetter, isCharacter, every}
 use Rattle.zone.proofs.Every.{every-each}
 use Rattle.field.specs.Date.{isShort}
 use Rattle.field.specs.Letters.{lettersThenFillers, stateRule}
 use Rattle.text.specs.Read.{readText}
 use Rattle.tlv.specs.Element.{tlv}
 use Rattle.tlv.proofs.Encoded.{length-tlv, most-head}
-use Rattle.c40.specs.Values.{space, isC40}
+use Rattle.c40.specs.Values.{isC40}
 use Rattle.c40.specs.Image.{pair, imageOf}
-use Rattle.c40.proofs.Coding.{digit-c40, letter-c40}
 use Rattle.c40.proofs.Images.{image-length}
 use Rattle.seal_fields.specs.Day.{isLeap, daysIn, isDay}
 use Rattle.seal_fields.specs.Hex.{isHexLetter, isHex}
@@ -37,46 +33,8 @@ use Rattle.text_theorems.proofs.Acceptance.{accepted-exactly}
 use Rattle.seal_theorems.specs.Sealed.{threeOctets, dayOctets, countOf, referenceOf, headOctets, joined, octetsOf}
 use Rattle.seal_theorems.specs.Sealed.{areOthers, HeadKept, Sealed, headerIn, signatureIn, answerIn}
 use Rattle.seal_theorems.specs.Around.{printedHead, spaced, around}
+use Rattle.seal_theorems.proofs.Spaced.{spaced-c40, filled-spaced}
 use Rattle.seal_theorems.proofs.Acceptance.{sealed-answer}
-
--- ---- a text in the characters of C40
-
--- a character of the zone, a filler as a space, is one of C40, and is read back
-character-spaced : (c : ℕ) → isCharacter c ≡ true
-    → (isC40 (cond (isFiller c) space c) ≡ true)
-    × (cond (eqb (cond (isFiller c) space c) space) filler (cond (isFiller c) space c) ≡ c)
-unfolding isCharacter isC40 isFiller isDigit isLetter
-character-spaced c e = go (isFiller c) refl
-  where
-    one-of : (d l f : Bool) → isDigit c ≡ d → isLetter c ≡ l → f ≡ false → d || (l || f) ≡ true → isC40 c ≡ true
-    one-of true l f p q r h = digit-c40 c p
-    one-of false true f p q r h = letter-c40 c q
-    one-of false false f p q r h = absurd (false≢true (sym r ∙ h))
-
-    no-space : (b : Bool) → eqb c space ≡ b → cond b filler c ≡ c
-    no-space true p = absurd (false≢true (sym (ap isCharacter (eqb-true c space p)) ∙ e))
-    no-space false p = refl
-
-    go : (b : Bool) → isFiller c ≡ b
-        → (isC40 (cond b space c) ≡ true) × (cond (eqb (cond b space c) space) filler (cond b space c) ≡ c)
-    go true p = (refl, sym (eqb-true c filler p))
-    go false p = (one-of (isDigit c) (isLetter c) (isFiller c) refl refl p e, no-space (eqb c space) refl)
-
-pub spaced-c40 : (t : List ℕ) → every isCharacter t ≡ true → every isC40 (spaced t) ≡ true
-unfolding every spaced
-spaced-c40 [] e = refl
-spaced-c40 (c ∷ t) e =
-    let both = and-both (isCharacter c) (every isCharacter t) e in
-    both-and (character-spaced c (both .0) .0) (spaced-c40 t (both .1))
-
-pub filled-spaced : (t : List ℕ) → every isCharacter t ≡ true → filled (spaced t) ≡ t
-unfolding every spaced filled
-filled-spaced [] e = refl
-filled-spaced (c ∷ t) e =
-    let both = and-both (isCharacter c) (every isCharacter t) e in
-    let one = character-spaced c (both .0) .1 in
-    let more = filled-spaced t (both .1) in
-    λ i. one i ∷ more i
 
 -- ---- the header
 
