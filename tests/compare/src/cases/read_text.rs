@@ -254,8 +254,8 @@ impl Trials<ReadText> {
     /// character before it the right digit, a wrong one, or a letter.
     fn long_numbers(&mut self) {
         for form in Form::ALL {
-            let Some(optional) = form.layout().further.clone() else { continue };
-            for before in 0..=optional.len() {
+            let places = form.layout().further.as_ref().map_or(0, |optional| optional.len() + 1);
+            for before in 0..places {
                 for _ in 0..40 {
                     let text = self.long_number(form, before);
                     self.case(&text);
