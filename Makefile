@@ -13,6 +13,9 @@ CFLAGS ?= -O2
 DESK ?= target/desk
 SCANNER ?= target/scanner
 VERSION := $(shell sed -n 's/^.define LAMPHUDET_VERSION "\(.*\)"$$/\1/p' include/lamphudet.h)
+# What a shared library's name has of it: the first two numbers while the first is 0, then the first alone.
+NUMBERS := $(subst ., ,$(VERSION))
+SO_VERSION := $(firstword $(NUMBERS))$(if $(filter 0,$(firstword $(NUMBERS))),.$(word 2,$(NUMBERS)))
 
 .DELETE_ON_ERROR:
 .PHONY: all help desk scanner demo test units compare samples bench install uninstall format clean
@@ -87,14 +90,14 @@ with = $(call quoted,$(C99) $(LDFLAGS) $(ARCHIVES))
 always:
 .SECONDARY:
 
-# Beside each archive a shared library, which is the archive's code and hands out the calls alone. Its name has a number of
-# the version, which stands in the header.
+# Beside each archive a shared library, which is the archive's code and hands out the calls alone. Its name has the first
+# numbers of the version, which stands in the header.
 SHARED := target/sharedlib/liblamphudet.so target/sharedlib/liblamphudet_seals.so
 target/sharedlib/liblamphudet.so: $(ARCHIVE)
 target/sharedlib/liblamphudet_seals.so: $(SEALS_ARCHIVE)
 $(SHARED): target/sharedlib/lib%.so: packaging/%.map include/lamphudet.h target/sharedlib/lib%.so.with
 	$(cc-found)
-	@$(CC) -shared -o $@ -Wl,-soname,lib$*.so.$(firstword $(subst ., ,$(VERSION))) -Wl,--version-script,packaging/$*.map \
+	@$(CC) -shared -o $@ -Wl,-soname,lib$*.so.$(SO_VERSION) -Wl,--version-script,packaging/$*.map \
 	    -Wl,-z,defs -Wl,--whole-archive $(filter %.a,$^) -Wl,--no-whole-archive $(LDFLAGS)
 	@echo 'built $@'
 
@@ -129,7 +132,7 @@ demo: $(DESK) $(SCANNER)
 ##   make install    libraries, headers, pkg-config files, manual pages, desk and scanner below PREFIX
 ##   make uninstall  takes them away again
 # Handed to that script alone: a make that another recipe runs, such as a test's, is to make its own of them.
-handed = $(foreach name,PREFIX LIBDIR INCLUDEDIR BINDIR MANDIR DESTDIR VERSION ARCHIVE SEALS_ARCHIVE DESK SCANNER, \
+handed = $(foreach name,PREFIX LIBDIR INCLUDEDIR BINDIR MANDIR DESTDIR VERSION SO_VERSION ARCHIVE SEALS_ARCHIVE DESK SCANNER, \
     $(name)=$(call quoted,$($(name))))
 install: libraries $(DESK) $(SCANNER)
 	@$(handed) tools/install files

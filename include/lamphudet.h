@@ -35,7 +35,21 @@
 extern "C" {
 #endif
 
-#define LAMPHUDET_VERSION "0.1.0"
+/*
+ * The version of this header, in words and as a number for #if: 10000 times the first of its three
+ * numbers, 100 times the second, and the third; 0.2.0 is 200. A later version has a greater number.
+ * lamphudet_version() is that of the library that was linked.
+ *
+ * What a version promises:
+ *   - The number of a refusal never changes its meaning. There may be new ones.
+ *   - An answer that changes is in CHANGELOG.md, with the request that asked for it.
+ *   - Structs, the entry's layout and how a call is declared change only with a new SONAME, the name
+ *     by which a program asks for the shared library: liblamphudet.so.0.2. While the first number is
+ *     0 it has the first two, from 1 on the first alone. As long as it is the same a host need not be
+ *     compiled again, and entries that were kept are entries.
+ */
+#define LAMPHUDET_VERSION "0.2.0"
+#define LAMPHUDET_VERSION_NUMBER 200
 
 /* The compiler warns where a call's answer is thrown away, if it knows how. */
 #if defined(__GNUC__)
@@ -477,6 +491,13 @@ lamphudet_answer lamphudet_next_entry(const uint8_t *run, size_t run_len, uint64
  */
 LAMPHUDET_MUST_USE
 lamphudet_answer lamphudet_digest(const uint8_t *input, size_t input_len, uint8_t *digest, size_t digest_len);
+
+/*
+ * The version of the library that was linked, as LAMPHUDET_VERSION_NUMBER is that of this header: of a
+ * shared library it may be a later one. Refuses nothing.
+ */
+LAMPHUDET_MUST_USE
+uint32_t lamphudet_version(void);
 
 #ifdef __cplusplus
 }

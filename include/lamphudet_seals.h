@@ -1,8 +1,13 @@
 /*
- * Lamphudet: the call for a C host that reads seals, as a handheld scanner does.
+ * Lamphudet: the calls for a C host that reads seals, as a handheld scanner does.
  *
  * A seal is the octets of the symbol that is printed on an emergency travel document. What
- * lamphudet.h says of every call holds for this one: what may be lent, and what is written.
+ * lamphudet.h says of every call holds for these: what may be lent, and what is written.
+ *
+ * Both libraries have one version, LAMPHUDET_VERSION, and what lamphudet.h says that it promises
+ * holds here too: the number of a refusal never changes its meaning; an answer that changes is in
+ * CHANGELOG.md, with the request that asked for it; structs and the entry's layout change only with a
+ * new SONAME, liblamphudet_seals.so.0.2.
  *
  * What is left to the host: the signature, which signs all octets before its FF, and whom to trust by
  * signer and reference; the dates, none of which is compared with another or with today.
@@ -104,6 +109,13 @@ LAMPHUDET_ASSERT_SIZE(lamphudet_seal, 312);
 LAMPHUDET_MUST_USE
 lamphudet_seal lamphudet_read_seal(uint32_t house, const uint8_t *seal, size_t seal_len,
                                    uint8_t *entry, size_t entry_len);
+
+/*
+ * The version of the library for seals that was linked, as LAMPHUDET_VERSION_NUMBER is that of these
+ * headers. Its name is not lamphudet_version: both libraries may be linked into one program.
+ */
+LAMPHUDET_MUST_USE
+uint32_t lamphudet_seals_version(void);
 
 #ifdef __cplusplus
 }

@@ -10,12 +10,16 @@ trap 'rm -rf "$folder"' EXIT
 # The version, which stands in the header.
 # shellcheck disable=SC2034
 version=$(sed -n 's/^#define LAMPHUDET_VERSION "\(.*\)"$/\1/p' include/lamphudet.h)
+# What a shared library's name has of it: the first two numbers while the first is 0, then the first alone.
+so_version() {
+    sed -E 's/^(0\.[0-9]+|[1-9][0-9]*)\..*/\1/' <<< "$1"
+}
 
 # The calls of a header's library as it declares them, each in one line; those that the header defines itself end in {. What
 # lamphudet_field is made of is left out.
 declared() {
     tr '\n' ' ' < "include/$1.h" | sed 's/  */ /g' \
-        | grep -oE '(lamphudet_[a-z]+ |const char \*)lamphudet_[a-z_]+\([a-z][^()]*\)( \{|;)' \
+        | grep -oE '(lamphudet_[a-z]+ |uint32_t |const char \*)lamphudet_[a-z_]+\([a-z][^()]*\)( \{|;)' \
         | grep -v 'lamphudet_part_at\|lamphudet_long_number' | LC_ALL=C sort
 }
 

@@ -6,6 +6,7 @@ ghost use Rattle.text.specs.Read.{readText};
 ghost use Rattle.chip.specs.Presentation.{readPresentation, groupStretch};
 ghost use Rattle.digest.specs.Answer.{digestAnswer, digestOut};
 ghost use Rattle.runs.specs.Run.{readEntry};
+ghost use Rattle.version.specs.Version.{versionNumber};
 ghost use Rattle.border.specs.Answer.{inC};
 ghost use Rattle.border.specs.Calls.{writtenAnswer, writtenOut, nextInC, stretchInC};
 ghost use Rattle.lamphudet.specs.Calls.{readAnswer, readOut};
@@ -88,4 +89,12 @@ pub extern "C" fn lamphudet_group_file(presentation: &[u8], group: u32) -> Stret
     ensures { λ r. ⌜ r ≡ stretchInC (groupStretch (now (presentation .entry)) group) ⌝ }
 {
     stretch_in_c(chip::group_file::group_stretch(presentation, group))
+}
+
+// The version of this library.
+#[no_mangle]
+pub extern "C" fn lamphudet_version() -> u32
+    ensures { λ r. ⌜ r ≡ versionNumber ⌝ }
+{
+    version::number()
 }

@@ -1,5 +1,6 @@
-// The call that a C host makes to read seals. It decides nothing: it hands the lent ranges on and tells the answer in numbers.
+// The calls that a C host makes to read seals. They decide nothing: they hand the lent ranges on and tell the answer in numbers.
 ghost use mathlib.Core.Path.{_≡_};
+ghost use Rattle.version.specs.Version.{versionNumber};
 ghost use Rattle.lamphudet_seals.specs.Answer.{readSealInC, readSealOut};
 use crate::border::seal_in_c;
 use crate::received::SealInC;
@@ -20,4 +21,12 @@ pub extern "C" fn lamphudet_read_seal(house: u32, seal: &[u8], entry: &mut [u8])
     let signature = read.signature;
     let written = entry::enter::enter(verdict, record, house, entry);
     seal_in_c(written, header, signature)
+}
+
+// The version of this library, by a name of its own: both libraries may be linked into one program.
+#[no_mangle]
+pub extern "C" fn lamphudet_seals_version() -> u32
+    ensures { λ r. ⌜ r ≡ versionNumber ⌝ }
+{
+    version::number()
 }

@@ -47,3 +47,13 @@ pub fn read_seal(house: u32, lent: &mut Lent, entry: &mut Lent) -> SealAnswer {
     // As for the digest.
     unsafe { header::lamphudet_read_seal(house, lent.pointer(), lent.length(), entry.pointer(), entry.length()) }
 }
+
+pub fn version() -> u32 {
+    // It is lent nothing.
+    unsafe { header::lamphudet_version() }
+}
+
+pub fn seals_version() -> u32 {
+    // It is lent nothing.
+    unsafe { header::lamphudet_seals_version() }
+}

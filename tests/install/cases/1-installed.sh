@@ -10,11 +10,11 @@ include/lamphudet.h
 include/lamphudet_seals.h
 lib/liblamphudet.a
 lib/liblamphudet.so
-lib/liblamphudet.so.${version%%.*}
+lib/liblamphudet.so.$(so_version "$version")
 lib/liblamphudet.so.$version
 lib/liblamphudet_seals.a
 lib/liblamphudet_seals.so
-lib/liblamphudet_seals.so.${version%%.*}
+lib/liblamphudet_seals.so.$(so_version "$version")
 lib/liblamphudet_seals.so.$version
 lib/pkgconfig/lamphudet.pc
 lib/pkgconfig/lamphudet_seals.pc
@@ -30,6 +30,8 @@ share/man/man3/lamphudet_read_presentation.3
 share/man/man3/lamphudet_read_seal.3
 share/man/man3/lamphudet_read_text.3
 share/man/man3/lamphudet_seals.3
+share/man/man3/lamphudet_seals_version.3
+share/man/man3/lamphudet_version.3
 share/man/man3/lamphudet_words.3
 share/man/man3/lamphudet_write_text.3
 END
@@ -112,7 +114,7 @@ soname() {
     objdump -p "$1" | awk '$1 == "SONAME" { print $2 }'
 }
 has_name() {
-    [[ $(soname "$folder/usr/lib/lib$1.so") = "lib$1.so.${version%%.*}" ]]
+    [[ $(soname "$folder/usr/lib/lib$1.so") = "lib$1.so.$(so_version "$version")" ]]
 }
 
 # The calls that a header declares are those that its libraries have.
@@ -124,4 +126,4 @@ for library in lamphudet lamphudet_seals; do
     try "$library has the calls of its header, and no others" has_calls $library "${calls[@]}"
     try "the shared library of $library has its name" has_name $library
 done
-try 'seals have one call' diff <(names_declared lamphudet_seals) <(echo lamphudet_read_seal)
+try 'seals have two calls' diff <(names_declared lamphudet_seals) <(printf '%s\n' lamphudet_{read_seal,seals_version})

@@ -38,11 +38,11 @@ makes_bare() {
 # The first lines of a build: which crate, and how many are left.
 tells() {
     made && diff "$folder/made" - << END
-liblamphudet.a: 19 crates are proved before it is compiled; target/lamphudet.log has all that is said
-$(cd "$copy" && tools/built-on lamphudet | awk -v n=19 '{ printf "  %s, %d of %d, %d left .. %s\n", $1, NR, n, n - NR,
+liblamphudet.a: 20 crates are proved before it is compiled; target/lamphudet.log has all that is said
+$(cd "$copy" && tools/built-on lamphudet | awk -v n=20 '{ printf "  %s, %d of %d, %d left .. %s\n", $1, NR, n, n - NR,
     NR < n ? "proved (3 s)" : "proved and compiled" }')
-liblamphudet_seals.a: 17 crates are proved before it is compiled; target/lamphudet_seals.log has all that is said
-$(cd "$copy" && tools/built-on lamphudet_seals | awk -v n=17 '{ printf "  %s, %d of %d, %d left .. %s\n", $1, NR, n, n - NR,
+liblamphudet_seals.a: 18 crates are proved before it is compiled; target/lamphudet_seals.log has all that is said
+$(cd "$copy" && tools/built-on lamphudet_seals | awk -v n=18 '{ printf "  %s, %d of %d, %d left .. %s\n", $1, NR, n, n - NR,
     NR < n ? "proved (3 s)" : "proved and compiled" }')
 built target/sharedlib/liblamphudet.so
 built target/sharedlib/liblamphudet_seals.so
@@ -51,7 +51,7 @@ the scanner is target/scanner; target/scanner --help says what it does
 END
 }
 logged() {
-    [[ $(grep -c '^fn .*: proved$' "$copy/target/lamphudet.log") -eq 18 ]]
+    [[ $(grep -c '^fn .*: proved$' "$copy/target/lamphudet.log") -eq 19 ]]
 }
 # The libraries that were built again are these.
 built_again() {
@@ -84,11 +84,14 @@ links_again() {
 try 'other flags of the linker' links_again "-Wl,-rpath,'\$\$ORIGIN/lib'"
 try 'and none again' links_again ''
 
-# The shared libraries' name has a number of the version, which stands in the header.
-sed -i 's/^#define LAMPHUDET_VERSION ".*"$/#define LAMPHUDET_VERSION "77.0.0"/' "$copy/include/lamphudet.h"
-try 'another version' made
-for library in lamphudet lamphudet_seals; do
-    try "lib$library.so has its number" grep -qx "lib$library.so.77" <(soname "$copy/target/sharedlib/lib$library.so")
+# The shared libraries' name has the first numbers of the version, which stands in the header.
+for given in 77.1.2:77 0.77.1:0.77; do
+    sed -i "s/^#define LAMPHUDET_VERSION \".*\"\$/#define LAMPHUDET_VERSION \"${given%:*}\"/" "$copy/include/lamphudet.h"
+    try "version ${given%:*}" made
+    for library in lamphudet lamphudet_seals; do
+        try "lib$library.so of ${given%:*} has its numbers" \
+            grep -qx "lib$library.so.${given#*:}" <(soname "$copy/target/sharedlib/lib$library.so")
+    done
 done
 cp include/lamphudet.h "$copy/include/lamphudet.h"
 

@@ -88,7 +88,7 @@ told_by() {
         lamphudet_write_text) list_of ofTextWriterInC ;;
         lamphudet_open_entry | lamphudet_next_entry) list_of ofRun ;;
         lamphudet_digest) list_of ofDigest ;;
-        lamphudet_group_file) ;;
+        lamphudet_group_file | lamphudet_version | lamphudet_seals_version) ;;
         *) echo "no list for $1" ;;
         esac
     } | sort -nu
@@ -120,12 +120,11 @@ in_comment() {
         index($0, call "(") == index($0, " lamphudet_") + 1 && !/static/ { for (i = 1; i <= n; i++) print line[i]; exit }
     ' include/*.h | sed -E 's/^ \*   ([0-9]+)( to ([0-9]+))?.*/\1 \3/' | ranges
 }
-# What a page's sentence on a call lists. A page of one call has it behind the call's name.
+# What a page's sentence on a call lists.
 in_sentence() {
     local sentence
     sentence=$(awk -v call="$1" '
         /^\.It Fn / || /^\.El/ { here = ($3 == call) }
-        /^\.Nm / { here = ($2 == call) }
         here && /^(Refusals are|The one refusal is) / { said = 1 }
         /^\./ { said = 0 }
         here && said { print }' man/*.3 | tr '\n' ' ')
@@ -134,7 +133,7 @@ in_sentence() {
         [[ $sentence != *'those of the text'* ]] || list_of ofText
     } | sort -nu
 }
-for call in $(declared lamphudet | grep -oE 'lamphudet_[a-z_]+\(.*;' | sed 's/(.*//') lamphudet_read_seal; do
+for call in $(for library in lamphudet lamphudet_seals; do declared $library; done | grep -oE 'lamphudet_[a-z_]+\(.*;' | sed 's/(.*//'); do
     try "the header has the numbers of $call" diff <(told_by "$call") <(in_comment "$call")
     try "its page has the numbers of $call" diff <(told_by "$call") <(in_sentence "$call")
 done

@@ -32,4 +32,6 @@ extern "C" {
         entry: *mut u8,
         entry_length: usize,
     ) -> SealAnswer;
+    pub fn lamphudet_version() -> u32;
+    pub fn lamphudet_seals_version() -> u32;
 }

@@ -22,4 +22,5 @@ pub mod seals;
 pub mod trees;
 pub mod trials;
 pub mod vector;
+pub mod version;
 pub mod write_text;

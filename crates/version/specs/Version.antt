@@ -1,0 +1,16 @@
+-- Which version of the libraries this is. No paper says it: docs/DECISIONS.md has what raises which number. Headers, Makefile and
+-- pkg-config files have the same three, and the one of them below, to which `tests/manual/run` holds them.
+use Prim.Native.Nat.{ℕ, _+_, _*_}
+
+abbrev pub major : ℕ
+major = 0
+
+abbrev pub minor : ℕ
+minor = 2
+
+abbrev pub patch : ℕ
+patch = 0
+
+-- the three as one number, of which a later version has a greater one: minor and patch stay below 100
+unfoldable pub versionNumber : ℕ
+versionNumber = 10000 * major + 100 * minor + patch
