@@ -1,13 +1,13 @@
 -- DEMAND 3, read and written again: where reading a run goes on, the octets that it passed over are the entry of the house and
 -- the record that it answered, which are kept ones; so a reader takes exactly what a writer gives.
-use Prim.Native.Nat.{ℕ, _+_, _-_, _≤_, _<_}
+use Prim.Native.Nat.{ℕ, _+_, _-_, _≤_}
 use mathlib.Core.Path.{_≡_, refl, ap, sym, _∙_}
 use mathlib.Core.Bool.{Bool, true, false, cond, _&&_}
 use mathlib.Core.List.{List, _++_}
 use native.Mathlib.Omega.{arith}
-use borrow.Author.Tests.{ltb-false, lt-ltb}
+use borrow.Author.Tests.{ltb-false}
 use lib.Dec.{eqb, ltb}
-use lib.ListN.{length, take, drop, getD, length-drop, take-append-drop}
+use lib.ListN.{length, take, drop, length-drop, take-append-drop}
 use lib.Seq.{take-at, drop-drop}
 use Rattle.refusal.specs.Numbers.{Why}
 use Rattle.lent.proofs.Bools.{and-both}
@@ -17,7 +17,7 @@ use Rattle.zone.specs.declared.form.Recognised.the-variants.{As, Unknown}
 use Rattle.zone.specs.declared.record.Record.{Record}
 use Rattle.zone.specs.Record.{blank}
 use Rattle.zone.specs.Octets.{isOctet, areOctets}
-use Rattle.zone.proofs.Every.{every-drop, every-each}
+use Rattle.zone.proofs.Every.{every-drop}
 use Rattle.sound.specs.Sound.{isSound}
 use Rattle.sound.proofs.SoundRecord.{taken-apart}
 use Rattle.cells.specs.Cells.{octetsOf}
@@ -106,11 +106,6 @@ module _ (w : List ℕ) (at n : ℕ) (small : areOctets w) (there : at ≤ lengt
       go : (x : Bool) → isEntry f (drop at w) ≡ x → answer x .onward ≡ next n → Passed w at n (answer x .house) (answer x .kept)
       go true q h = passed-entry f p q h
       go false q h = absurd (refused-not-next _ at n h)
-
--- every lent byte is below 256, place by place
-pub lent-octets : (w : List ℕ) → ((i : ℕ) → i < length w → getD w i 0 < 256) → areOctets w
-unfolding isOctet
-lent-octets w h = every-each isOctet w (λ i k. lt-ltb (getD w i 0) 256 (h i k))
 
 pub passed-over : (w : List ℕ) (at n : ℕ) → areOctets w → readEntry w at .onward ≡ next n
     → Passed w at n (readEntry w at .house) (readEntry w at .kept)
