@@ -1,6 +1,8 @@
 // The calls that a C host makes. A call here decides nothing: it hands the lent ranges on and tells the answer in numbers,
-// or a record in its fields.
+// or a record in its fields. Each also promises that what it was lent for reading is octets, so that what is shown of octets is
+// shown of every call.
 ghost use mathlib.Core.Path.{_≡_};
+ghost use Rattle.zone.specs.Octets.{areOctets};
 ghost use Rattle.zone.specs.declared.form.Source.the-variants.{Alone};
 ghost use Rattle.text.specs.Read.{readText};
 ghost use Rattle.chip.specs.Presentation.{readPresentation, groupStretch};
@@ -24,6 +26,7 @@ use zone::form::Source;
 pub extern "C" fn lamphudet_read_text(house: u32, text: &[u8], entry: &mut [u8]) -> AnswerInC
     ensures { λ r. ⌜ r ≡ inC (readAnswer house (readText Alone (now (text .entry))) (now (entry .entry))) ⌝ }
     ensures { λ _. ⌜ now (entry .exit) ≡ readOut house (readText Alone (now (text .entry))) (now (entry .entry)) ⌝ }
+    ensures { λ _. ⌜ areOctets (now (text .entry)) ⌝ }
 {
     let reading = text::read::read(Source::Alone, text);
     let verdict = reading.verdict;
@@ -40,6 +43,7 @@ pub extern "C" fn lamphudet_read_presentation(
 ) -> AnswerInC
     ensures { λ r. ⌜ r ≡ inC (readAnswer house (readPresentation (now (presentation .entry))) (now (entry .entry))) ⌝ }
     ensures { λ _. ⌜ now (entry .exit) ≡ readOut house (readPresentation (now (presentation .entry))) (now (entry .entry)) ⌝ }
+    ensures { λ _. ⌜ areOctets (now (presentation .entry)) ⌝ }
 {
     let reading = chip::presentation::read(presentation);
     let verdict = reading.verdict;
@@ -52,6 +56,7 @@ pub extern "C" fn lamphudet_read_presentation(
 pub extern "C" fn lamphudet_write_text(entry: &[u8], text: &mut [u8]) -> AnswerInC
     ensures { λ r. ⌜ r ≡ inC (writtenAnswer (now (entry .entry)) (now (text .entry))) ⌝ }
     ensures { λ _. ⌜ now (text .exit) ≡ writtenOut (now (entry .entry)) (now (text .entry)) ⌝ }
+    ensures { λ _. ⌜ areOctets (now (entry .entry)) ⌝ }
 {
     in_c(border::as_entry::write_one(entry, text))
 }
@@ -60,6 +65,7 @@ pub extern "C" fn lamphudet_write_text(entry: &[u8], text: &mut [u8]) -> AnswerI
 #[no_mangle]
 pub extern "C" fn lamphudet_open_entry(entry: &[u8]) -> RecordInC
     ensures { λ r. ⌜ r ≡ openedInC (now (entry .entry)) ⌝ }
+    ensures { λ _. ⌜ areOctets (now (entry .entry)) ⌝ }
 {
     border::as_entry::open_one(entry)
 }
@@ -68,6 +74,7 @@ pub extern "C" fn lamphudet_open_entry(entry: &[u8]) -> RecordInC
 #[no_mangle]
 pub extern "C" fn lamphudet_next_entry(run: &[u8], offset: u64) -> AnswerInC
     ensures { λ r. ⌜ r ≡ nextInC (readEntry (now (run .entry)) offset .onward) ⌝ }
+    ensures { λ _. ⌜ areOctets (now (run .entry)) ⌝ }
 {
     let standing = runs::run::next(run, offset as usize);
     let step = standing.step;
@@ -79,6 +86,7 @@ pub extern "C" fn lamphudet_next_entry(run: &[u8], offset: u64) -> AnswerInC
 pub extern "C" fn lamphudet_digest(input: &[u8], digest: &mut [u8]) -> AnswerInC
     ensures { λ r. ⌜ r ≡ inC (digestAnswer (now (input .entry)) (now (digest .entry))) ⌝ }
     ensures { λ _. ⌜ now (digest .exit) ≡ digestOut (now (input .entry)) (now (digest .entry)) ⌝ }
+    ensures { λ _. ⌜ areOctets (now (input .entry)) ⌝ }
 {
     in_c(digest::digest(input, digest))
 }
@@ -87,6 +95,7 @@ pub extern "C" fn lamphudet_digest(input: &[u8], digest: &mut [u8]) -> AnswerInC
 #[no_mangle]
 pub extern "C" fn lamphudet_group_file(presentation: &[u8], group: u32) -> StretchInC
     ensures { λ r. ⌜ r ≡ stretchInC (groupStretch (now (presentation .entry)) group) ⌝ }
+    ensures { λ _. ⌜ areOctets (now (presentation .entry)) ⌝ }
 {
     stretch_in_c(chip::group_file::group_stretch(presentation, group))
 }
