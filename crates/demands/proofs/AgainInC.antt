@@ -1,11 +1,9 @@
 -- What a C host may rely on of `lamphudet_write_text` and then `lamphudet_read_text`: under the entry's house, which
 -- `lamphudet_open_entry` tells, the text that was written gives the entry again.
-use Prim.Native.Nat.{ℕ, _+_, _≤_}
+use Prim.Native.Nat.{ℕ, _≤_}
 use mathlib.Core.Path.{_≡_, refl, sym, subst}
 use mathlib.Core.Bool.{true}
 use mathlib.Core.List.{List}
-use native.Mathlib.Nat.{zero-add}
-use borrow.Author.Tests.{eq-eqb}
 use lib.ListN.{length, take, drop}
 use lib.Seq.{take-append-seam}
 use Rattle.refusal.specs.Outcome.{passed}
@@ -20,13 +18,14 @@ use Rattle.entry.specs.Entry.{entryOf, isHouse}
 use Rattle.entry.proofs.Values.{length-entry}
 use Rattle.entry.proofs.Entered.{entered}
 use Rattle.border.specs.Answer.{inC}
-use Rattle.border.specs.Calls.{isOnly, writtenAnswer, writtenOut}
+use Rattle.border.specs.Calls.{writtenAnswer, writtenOut}
 use Rattle.lamphudet.specs.Calls.{readAnswer, readOut}
 use Rattle.border.specs.Opened.{openedInC, recordInC}
 use Rattle.text_theorems.proofs.RoundTrip.{text-read-back}
 use Rattle.run_theorems.specs.Entered.{Leaves}
 use Rattle.run_theorems.proofs.ListReadBack.{kept-both}
-use Rattle.demands.proofs.WriteInC.{alone, write-text-leaves, write-text-exactly}
+use Rattle.demands.proofs.WriteInC.{write-text-leaves, octets-written-exactly}
+use Rattle.demands.proofs.OpenInC.{entry-opened}
 
 module _ (out back : List ℕ) where
   -- the octets that writing an entry reports, read
@@ -51,17 +50,13 @@ module _ (out back : List ℕ) where
         let w = entered h r back passed (record { read = refl; housed = house; sound = sound; room = rw (← long) room }) in
         rw (read-as e, w .0) (refl, record { told = sym long; in-front = rw long (w .1) })
 
-    opened-house : openedInC (entryOf h r) .house ≡ h
-    unfolding openedInC recordInC isOnly
-    opened-house =
-        rw (alone h r house sound out, eq-eqb (0 + length (entryOf h r)) (length (entryOf h r)) (zero-add (length (entryOf h r))))
-
-  pub entry-again : (e : List ℕ) → areOctets e → inC (writtenAnswer e out) .number ≡ 0 → length e ≤ length back
+  pub octets-again : (e : List ℕ) → areOctets e → inC (writtenAnswer e out) .number ≡ 0 → length e ≤ length back
       → Again (openedInC e .house) e
-  entry-again e small zero room =
-      let x = write-text-exactly e out small .0 zero in
+  unfolding recordInC
+  octets-again e small zero room =
+      let x = octets-written-exactly e out small .0 zero in
       let both = kept-both (x .0) (x .1) in
       let h = x .0 .house in
       let r = x .0 .kept in
       subst (λ (s : List ℕ). inC (writtenAnswer s out) .number ≡ 0 → length s ≤ length back → Again (openedInC s .house) s)
-      (sym (x .2)) (λ z k. rw (opened-house h r (both .0) (both .1)) (again h r (both .0) (both .1) z k)) zero room
+      (sym (x .2)) (λ z k. rw (entry-opened (x .0) (x .1)) (again h r (both .0) (both .1) z k)) zero room

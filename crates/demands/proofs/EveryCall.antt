@@ -107,10 +107,10 @@ module _ (house : ℕ) (w out : List ℕ) where
       (entered-answers (length w) house (readPresentation w .kept) out ofPresentation (readPresentation w .outcome)
       (λ why p e. presentation-reads w .when-refused why p e .0))
 
-pub write-text-answers : (e out : List ℕ) → areOctets e
+pub octets-answers : (e out : List ℕ) → areOctets e
     → AnswersInC ofTextWriterInC (length e) out (inC (writtenAnswer e out) .number) (inC (writtenAnswer e out) .value)
     (writtenOut e out)
-write-text-answers e out small = in-c-answers ofTextWriterInC refl (length e) out _ _ (written-answers e out small)
+octets-answers e out small = in-c-answers ofTextWriterInC refl (length e) out _ _ (written-answers e out small)
 
 pub digest-answers-in-c : (input out : List ℕ)
     → AnswersInC ofDigest (length input) out (inC (digestAnswer input out) .number) (inC (digestAnswer input out) .value)

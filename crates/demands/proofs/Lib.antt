@@ -16,10 +16,15 @@ pub mod NumbersInC
 pub mod ReadInC
 -- AT THE C BORDER, the next entry: 0 and 0 where none is left (`none-left`)
 pub mod NextInC
--- AT THE C BORDER, a text written: when 0, what is left, never 17 (`write-text-exactly` and the others)
+-- AT THE C BORDER, a text written: what is left (`write-text-leaves`)
 pub mod WriteInC
--- AT THE C BORDER, a text written and then read: the entry again (`entry-again`)
+-- a text written and then read: the entry again (`octets-again`)
 pub mod AgainInC
+-- opening an entry (`entry-opened`)
+pub mod OpenInC
+-- AT THE C BORDER, what is shown of octets, of every call (`read-presentation-exactly`, `write-text-exactly`, `open-exactly` and the
+-- others)
+pub mod Promised
 -- what every answer of a call that writes has (`written-each`, `digest-each`)
 pub mod Writers
 -- AT THE C BORDER, number 0 is never a refusal (`read-text-not-zero` and the others)

@@ -36,6 +36,20 @@ module _ (w : List ℕ) (at : ℕ) where
           let offset : inNext .value ≡ n = ap (λ (o : Onward). nextInC o .value) e in
           absurd (omega (arith, further, offset, b))
 
+  -- 0 and another offset than 0 is where the reader goes on
+  pub next-told : (n : ℕ) → (n ≡ 0 → ⊥)
+      → ((inNext .number ≡ 0) × (inNext .value ≡ n)) ↔ (readEntry w at .onward ≡ next n)
+  unfolding nextInC
+  next-told n some = (λ h. go (readEntry w at .onward) refl (h .0) (h .1), λ e. rw e (refl, refl))
+    where
+      go : (o : Onward) → readEntry w at .onward ≡ o → inNext .number ≡ 0 → inNext .value ≡ n → readEntry w at .onward ≡ next n
+      go none e a b = absurd (some (rw b at (ap (λ (o : Onward). nextInC o .value) e)))
+      go (refused why p) e a b = absurd (next-not-zero why p e a)
+      go (next m) e a b =
+          let offset : inNext .value ≡ m = ap (λ (o : Onward). nextInC o .value) e in
+          let same : m ≡ n = omega (arith, offset, b) in
+          e ∙ ap next same
+
   pub next-further : inNext .number ≡ 0 → (inNext .value ≡ 0 → ⊥) → at < inNext .value
   unfolding nextInC
   next-further a some = go (readEntry w at .onward) refl

@@ -60,11 +60,11 @@ module _ (house : ℕ) (t out : List ℕ) where
       (text-sound t))
 
 module _ (house : ℕ) (w out : List ℕ) where
-  pub read-presentation-exactly : areOctets w
+  pub octets-read-exactly : areOctets w
       → (inPresentation house w out .number ≡ 0)
       ↔ Allowed ((p : Contents) × (w ≡ octetsOf p) × Presented p) house (readPresentation w .kept) out
   unfolding readAnswer
-  read-presentation-exactly small =
+  octets-read-exactly small =
       rw (number-in-c (readAnswer house (readPresentation w) out))
       (zero-allowed house (readPresentation w .kept) out ofPresentation (refl, refl, refl)
       (readPresentation w .outcome) (presentation-numbered w) (presentation-sound w) _ (presented-exactly w small))

@@ -30,6 +30,7 @@ use Rattle.run_theorems.specs.Expected.{numberTold}
 use Rattle.run_theorems.proofs.ListReadBack.{kept-both}
 use Rattle.run_theorems.proofs.OneAnswer.{goes-on-exactly}
 use Rattle.run_theorems.proofs.WrittenThenRead.{read-where-stands}
+use Rattle.demands.specs.OneEntry.{OneEntry}
 use Rattle.demands.proofs.NumbersInC.{number-in-c}
 
 -- ---- the entry of a house and a record
@@ -73,15 +74,11 @@ module _ (h : ℕ) (r : Record) (house : isHouse h ≡ true) (sound : isSound r 
 -- ---- any octets
 
 module _ (e out : List ℕ) (small : areOctets e) where
-  -- exactly one entry, of a house and a record that are kept
-  abbrev OneEntry : Type 0
-  OneEntry = (l : Line) × (isKept l ≡ true) × (e ≡ entryOf (l .house) (l .kept))
-
-  only-entry : isOnly (readEntry e 0 .onward) (length e) ≡ true → OneEntry
+  pub one-entry : isOnly (readEntry e 0 .onward) (length e) ≡ true → OneEntry e
   unfolding isOnly
-  only-entry only = go (readEntry e 0 .onward) refl only
+  one-entry only = go (readEntry e 0 .onward) refl only
     where
-      go : (o : Onward) → readEntry e 0 .onward ≡ o → isOnly o (length e) ≡ true → OneEntry
+      go : (o : Onward) → readEntry e 0 .onward ≡ o → isOnly o (length e) ≡ true → OneEntry e
       go none p q = absurd (false≢true q)
       go (refused why place) p q = absurd (false≢true q)
       go (next n) p q =
@@ -92,14 +89,14 @@ module _ (e out : List ℕ) (small : areOctets e) where
 
   pub only-sound : isOnly (readEntry e 0 .onward) (length e) ≡ true → isSound (readEntry e 0 .kept) ≡ true
   only-sound only =
-      let x = only-entry only in
+      let x = one-entry only in
       let both = kept-both (x .0) (x .1) in
       let same = alone (x .0 .house) (x .0 .kept) (both .0) (both .1) out in
       ap (λ (s : List ℕ). isSound (readEntry s 0 .kept)) (x .2) ∙ ap (λ r. isSound (r .kept)) same ∙ both .1
 
   -- the number is 0 or 16 of exactly one entry, and else 18
   abbrev Told : Type 0
-  Told = ((x : OneEntry) × (inC (writtenAnswer e out) .number ≡ roomTold (leb (total (x .0 .kept .form)) (length out))))
+  Told = ((x : OneEntry e) × (inC (writtenAnswer e out) .number ≡ roomTold (leb (total (x .0 .kept .form)) (length out))))
       ⊎ (inC (writtenAnswer e out) .number ≡ 18)
 
   told-of : Told
@@ -109,7 +106,7 @@ module _ (e out : List ℕ) (small : areOctets e) where
       go : (b : Bool) → isOnly (readEntry e 0 .onward) (length e) ≡ b → Told
       go false p = inr (rw p)
       go true p =
-          let x = only-entry p in
+          let x = one-entry p in
           let both = kept-both (x .0) (x .1) in
           inl (
             x,
@@ -117,9 +114,9 @@ module _ (e out : List ℕ) (small : areOctets e) where
                 ∙ entry-number (x .0 .house) (x .0 .kept) (both .0) (both .1) out,
           )
 
-  pub write-text-exactly : (inC (writtenAnswer e out) .number ≡ 0)
+  pub octets-written-exactly : (inC (writtenAnswer e out) .number ≡ 0)
       ↔ ((l : Line) × (isKept l ≡ true) × (e ≡ entryOf (l .house) (l .kept)) × (total (l .kept .form) ≤ length out))
-  write-text-exactly = (λ q. forth q told-of, back)
+  octets-written-exactly = (λ q. forth q told-of, back)
     where
       forth : inC (writtenAnswer e out) .number ≡ 0 → Told
           → (l : Line) × (isKept l ≡ true) × (e ≡ entryOf (l .house) (l .kept)) × (total (l .kept .form) ≤ length out)
@@ -136,8 +133,8 @@ module _ (e out : List ℕ) (small : areOctets e) where
           ∙ entry-number (l .house) (l .kept) (both .0) (both .1) out
           ∙ ap roomTold (le-leb (total (l .kept .form)) (length out) room)
 
-  pub write-text-no-17 : inC (writtenAnswer e out) .number ≡ 17 → ⊥
-  write-text-no-17 q = go told-of
+  pub octets-no-17 : inC (writtenAnswer e out) .number ≡ 17 → ⊥
+  octets-no-17 q = go told-of
     where
       never : (b : Bool) → roomTold b ≡ 17 → ⊥
       never true k = omega (arith, k)

@@ -2,3 +2,7 @@
 pub mod Examples
 -- what C receives of the calls that read
 pub mod InC
+-- exactly one entry, of a house and a sound record
+pub mod OneEntry
+-- what the C calls that are lent octets promise
+pub mod Promised

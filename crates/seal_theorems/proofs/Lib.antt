@@ -56,3 +56,5 @@ pub mod Refusals
 pub mod Expected
 -- the numbers that C receives of a seal (`read-seal-exactly` and the others)
 pub mod NumbersInC
+-- AT THE C BORDER, what is shown of octets, of every call (`seal-call-exactly`)
+pub mod Promised

@@ -12,3 +12,5 @@ pub mod Examples
 pub mod PrintedSeal
 -- where a seal's zones stand, and that the digit of a refusal 9 is the text's
 pub mod Expected
+-- what the C call promises
+pub mod Promised

@@ -1,0 +1,50 @@
+-- What the C calls that are lent octets promise, a record for each with the lines of its `ensures` (lamphudet, src/lib.rt): what C
+-- receives, what the range holds afterwards, and that what was lent is octets. So what is shown of octets is shown of every call.
+use Prim.Native.Nat.{ℕ}
+use mathlib.Core.Path.{_≡_}
+use mathlib.Core.List.{List}
+use Rattle.zone.specs.Octets.{areOctets}
+use Rattle.zone.specs.declared.form.Source.the-variants.{Alone}
+use Rattle.text.specs.Read.{readText}
+use Rattle.chip.specs.Presentation.{readPresentation, groupStretch}
+use Rattle.runs.specs.Run.{readEntry}
+use Rattle.lamphudet.specs.declared.received.AnswerInC.{AnswerInC}
+use Rattle.lamphudet.specs.declared.received.RecordInC.{RecordInC}
+use Rattle.lamphudet.specs.declared.received.StretchInC.{StretchInC}
+use Rattle.lamphudet.specs.Calls.{readOut, writtenAnswer, writtenOut, nextInC, stretchInC}
+use Rattle.lamphudet.specs.Answer.{inC}
+use Rattle.lamphudet.specs.Opened.{openedInC}
+use Rattle.demands.specs.InC.{inText, inPresentation}
+
+-- `lamphudet_read_text`
+pub record ReadsText (house : ℕ) (t out : List ℕ) (r : AnswerInC) (after : List ℕ) : Type 0 where
+  pub answers : r ≡ inText house t out
+  pub leaves : after ≡ readOut house (readText Alone t) out
+  pub octets : areOctets t
+
+-- `lamphudet_read_presentation`
+pub record ReadsPresentation (house : ℕ) (w out : List ℕ) (r : AnswerInC) (after : List ℕ) : Type 0 where
+  pub answers : r ≡ inPresentation house w out
+  pub leaves : after ≡ readOut house (readPresentation w) out
+  pub octets : areOctets w
+
+-- `lamphudet_write_text`
+pub record WritesText (e out : List ℕ) (r : AnswerInC) (after : List ℕ) : Type 0 where
+  pub answers : r ≡ inC (writtenAnswer e out)
+  pub leaves : after ≡ writtenOut e out
+  pub octets : areOctets e
+
+-- `lamphudet_open_entry`
+pub record OpensEntry (e : List ℕ) (r : RecordInC) : Type 0 where
+  pub answers : r ≡ openedInC e
+  pub octets : areOctets e
+
+-- `lamphudet_next_entry`
+pub record NextEntry (w : List ℕ) (at : ℕ) (r : AnswerInC) : Type 0 where
+  pub answers : r ≡ nextInC (readEntry w at .onward)
+  pub octets : areOctets w
+
+-- `lamphudet_group_file`
+pub record FindsFile (w : List ℕ) (group : ℕ) (r : StretchInC) : Type 0 where
+  pub answers : r ≡ stretchInC (groupStretch w group)
+  pub octets : areOctets w
