@@ -29,5 +29,9 @@ pub mod Promised
 pub mod Writers
 -- AT THE C BORDER, number 0 is never a refusal (`read-text-not-zero` and the others)
 pub mod NotZero
+-- DEMAND 1, the length and the next offset of every answer (`read-text-gives`, `next-gives` and the others)
+pub mod Given
+-- the numbers of enums that have none of their own, by who asks (`no-form-read` and the others)
+pub mod WhoAsks
 -- DEMAND 1, call by call (`text-reads`, `read-text-answers` and the others)
 pub mod EveryCall

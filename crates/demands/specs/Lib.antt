@@ -4,5 +4,7 @@ pub mod Examples
 pub mod InC
 -- exactly one entry, of a house and a sound record
 pub mod OneEntry
+-- the length and the next offset that an answer gives
+pub mod Given
 -- what the C calls that are lent octets promise
 pub mod Promised
