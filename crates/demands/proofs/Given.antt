@@ -7,11 +7,12 @@ use Rattle.refusal.specs.Length.{Length, written, refused}
 use Rattle.zone.specs.declared.form.Source.the-variants.{Alone}
 use Rattle.text.specs.Read.{readText}
 use Rattle.chip.specs.Presentation.{readPresentation}
-use Rattle.sha256.specs.Answer.{digestAnswer}
+use Rattle.digest.specs.Answer.{digestAnswer}
 use Rattle.runs.specs.Run as run
 use Rattle.runs.specs.Run.{readEntry}
-use Rattle.lamphudet.specs.Answer.{inC}
-use Rattle.lamphudet.specs.Calls.{readAnswer, writtenAnswer, nextInC}
+use Rattle.border.specs.Answer.{inC}
+use Rattle.border.specs.Calls.{writtenAnswer, nextInC}
+use Rattle.lamphudet.specs.Calls.{readAnswer}
 use Rattle.demands.specs.Given.{lengthGiven, nextGiven, Gives}
 use Rattle.demands.proofs.NotZero.{NotZero, read-text-not-zero, read-presentation-not-zero, write-text-not-zero}
 use Rattle.demands.proofs.NotZero.{digest-not-zero}

@@ -8,12 +8,13 @@ use Rattle.zone.specs.declared.form.Source.the-variants.{Alone}
 use Rattle.text.specs.Read.{readText}
 use Rattle.chip.specs.Presentation.{readPresentation, groupStretch}
 use Rattle.runs.specs.Run.{readEntry}
-use Rattle.lamphudet.specs.declared.received.AnswerInC.{AnswerInC}
-use Rattle.lamphudet.specs.declared.received.RecordInC.{RecordInC}
-use Rattle.lamphudet.specs.declared.received.StretchInC.{StretchInC}
-use Rattle.lamphudet.specs.Calls.{readOut, writtenAnswer, writtenOut, nextInC, stretchInC}
-use Rattle.lamphudet.specs.Answer.{inC}
-use Rattle.lamphudet.specs.Opened.{openedInC}
+use Rattle.border.specs.declared.received.AnswerInC.{AnswerInC}
+use Rattle.border.specs.declared.received.RecordInC.{RecordInC}
+use Rattle.border.specs.declared.received.StretchInC.{StretchInC}
+use Rattle.border.specs.Calls.{writtenAnswer, writtenOut, nextInC, stretchInC}
+use Rattle.lamphudet.specs.Calls.{readOut}
+use Rattle.border.specs.Answer.{inC}
+use Rattle.border.specs.Opened.{openedInC}
 use Rattle.demands.specs.InC.{inText, inPresentation}
 
 -- `lamphudet_read_text`

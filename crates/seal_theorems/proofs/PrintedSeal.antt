@@ -6,13 +6,11 @@ use native.Mathlib.Omega.{arith}
 use lib.ListN.{length}
 use Rattle.lent.specs.Octets.{octets}
 use Rattle.refusal.specs.Outcome.{passed}
-use Rattle.zone.specs.Rows.{inRows}
 use Rattle.zone.specs.declared.form.Source.the-variants.{Seal}
 use Rattle.zone.specs.Alphabet.{isDigit, isLetter, isFiller, isCharacter, isForeign, every, first, firstForeign}
-use Rattle.zone.specs.Part.{rank, same}
 use Rattle.zone.specs.Form.{row, forms, partOf, parts, start, startIn, width, widthIn, firstForm, mayStand, isOf}
 use Rattle.zone.specs.Form.{formOf, field, pieceOf, pieces, cut, joinedCuts, covered}
-use Rattle.zone.specs.Record.{trimmed, trimmedLength, padded}
+use Rattle.zone.specs.Record.{trimmed, trimmedLength, padded, holding}
 use Rattle.digit.specs.Check.{value, weight, sumFrom, checkOf, digitOf}
 use Rattle.field.specs.Date.{pairOf, yearOf, monthOf, dayOf, isLeap, isShort, daysIn, yearRule, monthRule, dayRule, birthRule}
 use Rattle.field.specs.Date.{isKnown, expiryRule}
@@ -21,7 +19,7 @@ use Rattle.field.specs.Letters.{lettersThenFillers, stateRule, sexRule, nameRul
 use Rattle.text_digits.specs.Number.{isLong, spanOf, spanRule, numberRule, numberBy, checkedBy}
 use Rattle.text_digits.specs.Digits.{digitAt, numberDigit, furtherDigit, isLeftOut, personalDigit, digitRows, inOrder}
 use Rattle.text.specs.Order.{characters, fieldRows, verdictBy}
-use Rattle.text.specs.Read.{Answer, recordBy, answered, readBy, readText}
+use Rattle.text.specs.Read.{Answer, recordBy, inText, answered, readBy, readText}
 use Rattle.tlv.specs.Element.{tagOctets, lengthOctets, tlv}
 use Rattle.c40.specs.Values.{valueOf}
 use Rattle.c40.specs.Image.{packed, pair, imageOf}
@@ -35,12 +33,12 @@ use Rattle.seal_theorems.proofs.TextsSealed.{every-text-sealed}
 
 -- its text is accepted, with this record
 pub printed-text : readText Seal (octets printedText) ≡ record { outcome = passed; kept = printedRecord }
-unfolding printedText printedRecord octets readText readBy answered mayStand isOf formOf verdictBy characters firstForeign
-    first isForeign isCharacter isDigit isLetter isFiller inOrder parts partOf row forms firstForm start startIn width widthIn
-    rank same field fieldRows inRows codeRule kindRule cardRule isCardLetter isSecond stateRule lettersThenFillers numberRule
-    spanRule sexRule nameRule isNameCharacter every birthRule expiryRule isKnown pairOf yearOf monthOf dayOf isLeap isShort
-    daysIn yearRule monthRule dayRule spanOf isLong digitRows numberDigit furtherDigit personalDigit isLeftOut digitAt digitOf
-    checkedBy checkOf sumFrom value weight covered pieceOf pieces cut joinedCuts recordBy numberBy trimmed trimmedLength
+unfolding printedText printedRecord octets readText readBy answered mayStand isOf formOf verdictBy characters firstForeign first
+    isForeign isCharacter isDigit isLetter isFiller inOrder parts partOf row forms firstForm start startIn width widthIn field
+    fieldRows codeRule kindRule cardRule isCardLetter isSecond stateRule lettersThenFillers numberRule spanRule sexRule nameRule
+    isNameCharacter every birthRule expiryRule isKnown pairOf yearOf monthOf dayOf isLeap isShort daysIn yearRule monthRule
+    dayRule spanOf isLong digitRows numberDigit furtherDigit personalDigit isLeftOut digitAt digitOf checkedBy checkOf sumFrom
+    value weight covered pieceOf pieces cut joinedCuts recordBy holding inText numberBy trimmed trimmedLength
     padded
 printed-text = refl
 

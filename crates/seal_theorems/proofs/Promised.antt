@@ -13,5 +13,5 @@ use Rattle.seal_theorems.proofs.NumbersInC.{read-seal-exactly}
 
 module _ (house : ℕ) (s out : List ℕ) (r : SealInC) (after : List ℕ) (call : ReadsSeal house s out r after) where
   pub seal-call-exactly : (r .number ≡ 0)
-      ↔ Allowed ((p : Contents) × Sealed p × (octetsOf p ≡ s)) house (readSeal s .kept) out
+      ↔ Allowed ((p : Contents) × (s ≡ octetsOf p) × Sealed p) house (readSeal s .kept) out
   seal-call-exactly = rw (call .answers) (read-seal-exactly house s out (call .octets))
