@@ -22,8 +22,8 @@ pub mod WriteInC
 pub mod AgainInC
 -- opening an entry (`entry-opened`)
 pub mod OpenInC
--- AT THE C BORDER, what is shown of octets, of every call (`read-presentation-exactly`, `write-text-exactly`, `open-exactly` and the
--- others)
+-- AT THE C BORDER, what is shown of octets, of every call (`read-presentation-exactly`, `write-text-exactly`, `open-exactly` and
+-- the others)
 pub mod Promised
 -- what every answer of a call that writes has (`written-each`, `digest-each`)
 pub mod Writers

@@ -1,5 +1,5 @@
--- What a C host may rely on, of what the calls promise (specs/Promised): that what was lent is octets is among it, so that nothing
--- is left for a host to show.
+-- What a C host may rely on, of what the calls promise (specs/Promised): that what was lent is octets is among it, so that
+-- nothing is left for a host to show.
 use Prim.Native.Nat.{ℕ, _+_, _≤_}
 use mathlib.Core.Path.{_≡_, ap, _∙_}
 use mathlib.Core.Logic.{_↔_}

@@ -1,5 +1,5 @@
--- The numbers of the enums that have none of their own, by who asks (docs/DEMANDS.md, "What is excepted"): where a text or an entry
--- tells no form, where a long number has no end, and where a length is not definite and shortest.
+-- The numbers of the enums that have none of their own, by who asks (docs/DEMANDS.md, "What is excepted"): where a text or an
+-- entry tells no form, where a long number has no end, and where a length is not definite and shortest.
 use Prim.Native.Nat.{ℕ}
 use mathlib.Core.Path.{_≡_, refl}
 use mathlib.Core.Bool.{Bool, true, false, not, _&&_}

@@ -1,5 +1,5 @@
--- The length and the next offset that an answer gives, of each of its cases: document 01, "Refusal numbers": "Every refusal gives the
--- blank record (TD1, fillers, lengths 0), house and next offset 0, and length 0". (Record and house stand in the answers.)
+-- The length and the next offset that an answer gives, of each of its cases: document 01, "Refusal numbers": "Every refusal gives
+-- the blank record (TD1, fillers, lengths 0), house and next offset 0, and length 0". (Record and house stand in the answers.)
 use Prim.Native.Nat.{ℕ}
 use mathlib.Core.Path.{_≡_}
 use Rattle.refusal.specs.Length as told

@@ -1,5 +1,5 @@
--- Exactly one entry, of a house and a sound record: document 01, "What the server lends and gets": "the text writer is given exactly
--- one entry".
+-- Exactly one entry, of a house and a sound record: document 01, "What the server lends and gets": "the text writer is given
+-- exactly one entry".
 use Prim.Native.Nat.{ℕ}
 use mathlib.Core.Path.{_≡_}
 use mathlib.Core.Bool.{true}

@@ -1,5 +1,5 @@
--- What `lamphudet_read_seal` promises, with the lines of its `ensures` (lamphudet_seals, src/lib.rt): what C receives, what the range
--- holds afterwards, and that what was lent is octets. So what is shown of octets is shown of every call.
+-- What `lamphudet_read_seal` promises, with the lines of its `ensures` (lamphudet_seals, src/lib.rt): what C receives, what the
+-- range holds afterwards, and that what was lent is octets. So what is shown of octets is shown of every call.
 use Prim.Native.Nat.{ℕ}
 use mathlib.Core.Path.{_≡_}
 use mathlib.Core.List.{List}

@@ -133,7 +133,10 @@ in_sentence() {
         [[ $sentence != *'those of the text'* ]] || list_of ofText
     } | sort -nu
 }
-for call in $(for library in lamphudet lamphudet_seals; do declared $library; done | grep -oE 'lamphudet_[a-z_]+\(.*;' | sed 's/(.*//'); do
+calls_declared() {
+    for library in lamphudet lamphudet_seals; do declared $library; done | grep -oE 'lamphudet_[a-z_]+\(.*;' | sed 's/(.*//'
+}
+for call in $(calls_declared); do
     try "the header has the numbers of $call" diff <(told_by "$call") <(in_comment "$call")
     try "its page has the numbers of $call" diff <(told_by "$call") <(in_sentence "$call")
 done

@@ -1,4 +1,4 @@
-# shellcheck shell=bash disable=SC2154
+# shellcheck shell=bash disable=SC2154,SC2016
 # The version in headers, Makefile, pkg-config files and pages is that of the definition.
 definition=crates/version/specs/Version.antt
 
