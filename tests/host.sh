@@ -1,7 +1,7 @@
 # shellcheck shell=bash
 # What the tests of the C hosts in examples share. Whoever takes it in has gone to the repository's top, and gives the host's
 # name and the build that is wanted: none, the host as it is built for use; or sanitized, with the compiler's watch over
-# addresses and undefined behaviour.
+# addresses and undefined behaviour, or over what SANITIZERS names.
 host=$1
 # shellcheck source=tests/tries.sh
 . tests/tries.sh "$host"
@@ -10,7 +10,7 @@ host=$1
 export ASAN_OPTIONS=exitcode=99 UBSAN_OPTIONS=exitcode=99
 case ${2-} in
 '') flags='-O2' ;;
-sanitized) flags='-O1 -g -fsanitize=address,undefined -fno-sanitize-recover=all' ;;
+sanitized) flags="-O1 -g -fsanitize=${SANITIZERS:-address,undefined} -fno-sanitize-recover=all" ;;
 *) echo "$host: no such build: $2" && exit 2 ;;
 esac
 if ! make --silent "$host" "${host^^}=$folder/$host" CFLAGS="$flags -Werror" > /dev/null; then

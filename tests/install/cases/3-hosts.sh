@@ -22,11 +22,11 @@ over_archives() {
     # shellcheck disable=SC2086
     "$@" -Wall -Wextra -Wpedantic -Werror -o "$folder/host" "tests/install/hosts/$source" -x none \
         -Wl,-Bstatic $flags -Wl,-Bdynamic || return 1
-    ! ldd "$folder/host" | grep lamphudet || return 1
+    ! objdump -p "$folder/host" | grep 'NEEDED.*lamphudet' || return 1
     "$folder/host"
 }
 
-sanitized='-g -fsanitize=address,undefined -fno-sanitize-recover=all'
+sanitized="-g -fsanitize=${SANITIZERS:-address,undefined} -fno-sanitize-recover=all"
 for pair in lamphudet:{digest,record,presentation,field,order,flips}.c lamphudet_seals:{seal,version}.c; do
     library=${pair%:*} source=${pair#*:}
     for over in over_archives over_shared; do
