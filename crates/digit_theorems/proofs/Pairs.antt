@@ -10,8 +10,8 @@ use native.Mathlib.Omega.{arith}
 use borrow.Author.Tests.{eqb-true, eq-eqb, ltb-true, lt-ltb}
 use lib.Dec.{ltb}
 use Rattle.lent.proofs.Bools.{and-both}
-use Rattle.digit_theorems.specs.Pairs.{Pair, Agree, pairAt, isUndetected, undetectedFrom, undetected, On, Before, Rising, Once}
-use Rattle.digit_theorems.specs.Pairs.{Complete}
+use Rattle.digit_theorems.specs.Pairs.{Pair, Agree, pairAt, isUndetected, undetectedFrom, undetected, On}
+use Rattle.digit_theorems.specs.Pairs.{Before, Rising, Once, Complete}
 
 before-at : (n i : ℕ) → n < i → Before (pairAt n) (pairAt i)
 unfolding pairAt

@@ -1,6 +1,2 @@
--- features of tag, length and value
-pub mod Features
--- the signature zone
-pub mod Signature
 -- a whole seal, its checks in order
 pub mod Seal

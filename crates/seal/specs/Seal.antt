@@ -18,10 +18,10 @@ use Rattle.c40.specs.Field.{isField, fieldAt}
 use Rattle.seal_fields.specs.Spaces.{filled}
 use Rattle.seal_header.specs.declared.header.Header.{Header}
 use Rattle.seal_header.specs.Header.{headerCheck, headerOf, headerEnd, blankHeader}
-use Rattle.seal.specs.declared.features.Features.{Features}
+use Rattle.seal_features.specs.declared.features.Features.{Features}
 use Rattle.seal.specs.declared.read.Seal.{Seal}
-use Rattle.seal.specs.Features.{features}
-use Rattle.seal.specs.Signature.{signatureAt}
+use Rattle.seal_features.specs.Features.{features}
+use Rattle.seal_features.specs.Signature.{signatureAt}
 
 -- what a seal says
 pub record Said : Type 0 where

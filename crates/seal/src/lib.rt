@@ -1,4 +1,2 @@
 // A printed seal of an emergency document: header, features, signature, and the text that one of the features holds.
-pub mod features;
 pub mod read;
-mod signature;

@@ -26,9 +26,9 @@ use Rattle.c40.specs.Field.{isField}
 use Rattle.c40.proofs.Images.{image-length}
 use Rattle.seal_fields.specs.Spaces.{filled}
 use Rattle.seal_header.specs.Header.{headerCheck, headerOf, headerEnd}
-use Rattle.seal.specs.declared.features.Features.{Features}
-use Rattle.seal.specs.Features.{textTag, signatureTag, features}
-use Rattle.seal.specs.Signature.{signatureAt}
+use Rattle.seal_features.specs.declared.features.Features.{Features}
+use Rattle.seal_features.specs.Features.{textTag, signatureTag, features}
+use Rattle.seal_features.specs.Signature.{signatureAt}
 use Rattle.seal.specs.Seal as seal
 use Rattle.seal.specs.Seal.{textIn, withText, saidIn, SealAnswer, answerBy, readSeal}
 use Rattle.text_theorems.proofs.Acceptance.{accepted-exactly}

@@ -21,7 +21,7 @@ use Rattle.tlv.proofs.Joined.{one-value}
 use Rattle.c40.specs.Image.{imageOf}
 use Rattle.seal_header.specs.declared.header.Header.{Header}
 use Rattle.seal_header.specs.Header.{headerOf}
-use Rattle.seal.specs.Features.{textTag, signatureTag}
+use Rattle.seal_features.specs.Features.{textTag, signatureTag}
 use Rattle.seal.specs.Seal.{textIn}
 use Rattle.seal_theorems.specs.Sealed.{Head, Feature, Contents, headOctets, featureOf, joined, octetsOf, isOther, areOthers}
 use Rattle.seal_theorems.specs.Sealed.{HeadKept, Shaped, featurePlace, headerIn, signatureIn}

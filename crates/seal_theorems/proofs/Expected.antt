@@ -25,8 +25,8 @@ use Rattle.c40.proofs.Fields.{field-characters}
 use Rattle.seal_fields.specs.Spaces.{filled}
 use Rattle.seal_header.specs.declared.header.Header.{Header}
 use Rattle.seal_header.specs.Header.{headerCheck, headerOf, headerEnd}
-use Rattle.seal.specs.Features.{features}
-use Rattle.seal.specs.Signature.{signatureAt}
+use Rattle.seal_features.specs.Features.{features}
+use Rattle.seal_features.specs.Signature.{signatureAt}
 use Rattle.seal.specs.Seal.{featureOctets, textIn, placed, withText, saidIn, readSeal}
 use Rattle.lamphudet_seals.specs.declared.received.SealInC.{SealInC}
 use Rattle.lamphudet_seals.specs.Answer.{fieldsInC, sealInC, readSealInC}

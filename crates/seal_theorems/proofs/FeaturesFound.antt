@@ -20,9 +20,9 @@ use Rattle.tlv.specs.Cut.{hasOctets}
 use Rattle.tlv.proofs.Joined.{never-value, same-value, first-value}
 use Rattle.tlv.proofs.Encoded.{Stands, reads}
 use Rattle.tlv.proofs.Standing.{has-octets, place-behind, to-behind}
-use Rattle.seal.specs.declared.features.Features.{Features}
-use Rattle.seal.specs.Features.{textTag, signatureTag, featureRule, featureAt, isEnd, textPlace, featuresFrom}
-use Rattle.seal.proofs.FeaturesPassed.{feature-value}
+use Rattle.seal_features.specs.declared.features.Features.{Features}
+use Rattle.seal_features.specs.Features.{textTag, signatureTag, featureRule, featureAt, isEnd, textPlace, featuresFrom}
+use Rattle.seal_features.proofs.FeaturesPassed.{feature-value}
 use Rattle.seal_theorems.specs.Sealed.{Feature, featureOf, joined, isOther, areOthers}
 
 -- what a walk from a place on passed, where text is the place of the feature 02 that stood before, 0 where none did

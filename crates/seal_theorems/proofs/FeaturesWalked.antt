@@ -20,10 +20,11 @@ use Rattle.tlv.specs.Cut.{hasOctets}
 use Rattle.tlv.proofs.Joined.{value-then, value-checked}
 use Rattle.tlv.proofs.Encoded.{length-tlv, some-head, tag-first}
 use Rattle.tlv.proofs.Standing.{element-read, octets-had, to-behind}
-use Rattle.seal.specs.declared.features.Features.{Features}
-use Rattle.seal.specs.Features.{numbered, textTag, signatureTag, featureRule, featureAt, isEnd, textPlace, featuresFrom, features}
+use Rattle.seal_features.specs.declared.features.Features.{Features}
+use Rattle.seal_features.specs.Features.{numbered, textTag, signatureTag, featureRule, featureAt, isEnd, textPlace}
+use Rattle.seal_features.specs.Features.{featuresFrom, features}
 use Rattle.seal_theorems.specs.Sealed.{Feature, featureOf, joined, isOther, areOthers}
-use Rattle.seal.proofs.FeaturesPassed.{value-numbered}
+use Rattle.seal_features.proofs.FeaturesPassed.{value-numbered}
 
 -- a walk that has come to a place, with what stands there, and steps enough to go on
 record Came (s : List ℕ) (more at text : ℕ) (to found : ℕ) (r : List ℕ) : Type 0 where

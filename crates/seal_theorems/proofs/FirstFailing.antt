@@ -24,12 +24,13 @@ use Rattle.seal_fields.specs.Spaces.{filled}
 use Rattle.seal_header.specs.declared.header.Header.{Header}
 use Rattle.seal_header.specs.Reference.{version, width, reference, isReference}
 use Rattle.seal_header.specs.Header.{isVersion, country, frontCheck, backCheck, checkBy, headerCheck, headerOf, headerEnd}
-use Rattle.seal.specs.declared.features.Features.{Features}
-use Rattle.seal.specs.Features.{numbered, textTag, signatureTag, featureRule, featureAt, isEnd, textPlace, featuresFrom, features}
-use Rattle.seal.specs.Signature.{signatureAt}
+use Rattle.seal_features.specs.declared.features.Features.{Features}
+use Rattle.seal_features.specs.Features.{numbered, textTag, signatureTag, featureRule, featureAt, isEnd, textPlace}
+use Rattle.seal_features.specs.Features.{featuresFrom, features}
+use Rattle.seal_features.specs.Signature.{signatureAt}
 use Rattle.seal.specs.Seal.{Said, featureOctets, textIn, placed, withText, withImage, withFeatures, withHeader, saidIn}
 use Rattle.seal.specs.Seal.{answerBy, readSeal}
-use Rattle.seal.proofs.FeaturesPassed.{not-end}
+use Rattle.seal_features.proofs.FeaturesPassed.{not-end}
 use Rattle.text_theorems.specs.Ordered.{checksOf, FirstFailing}
 use Rattle.text_theorems.proofs.FirstFailing.{read-first}
 use Rattle.text_theorems.proofs.FirstOf.{firstOf, first-failing, failing-first}

@@ -27,11 +27,11 @@ use Rattle.c40.proofs.Fields.{field-within}
 use Rattle.seal_fields.specs.Day.{isDay, dayOf, numberIn, dayAt}
 use Rattle.seal_header.specs.Reference.{version, referenceLength, width, reference, isReference}
 use Rattle.seal_header.specs.Header.{isVersion, country, frontCheck, backCheck, checkBy, headerCheck, headerEnd}
-use Rattle.seal.specs.declared.features.Features.{Features}
-use Rattle.seal.specs.Features.{numbered, signatureTag, featureRule, featureAt, isEnd, textPlace, featuresFrom}
-use Rattle.seal.specs.Signature.{signatureAt}
+use Rattle.seal_features.specs.declared.features.Features.{Features}
+use Rattle.seal_features.specs.Features.{numbered, signatureTag, featureRule, featureAt, isEnd, textPlace, featuresFrom}
+use Rattle.seal_features.specs.Signature.{signatureAt}
 use Rattle.seal.specs.Seal.{placed}
-use Rattle.seal.proofs.FeaturesPassed.{feature-within}
+use Rattle.seal_features.proofs.FeaturesPassed.{feature-within}
 use Rattle.seal_theorems.proofs.HeadChecks.{version-told, checks-passed}
 use Rattle.seal_theorems.proofs.HeadThere.{country-field}
 use Rattle.seal_theorems.proofs.References.{least, reference-field}

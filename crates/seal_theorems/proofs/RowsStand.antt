@@ -26,7 +26,7 @@ use Rattle.seal_fields.specs.Spaces.{filled}
 use Rattle.seal_fields.proofs.Filled.{length-filled}
 use Rattle.seal_header.specs.Reference.{version, referenceLength, width, reference, isReference}
 use Rattle.seal_header.specs.Header.{isVersion, country}
-use Rattle.seal.specs.declared.features.Features.{Features}
+use Rattle.seal_features.specs.declared.features.Features.{Features}
 use Rattle.seal.specs.Seal.{featureOctets, textIn}
 use Rattle.seal_theorems.specs.Sealed.{Head, threeOctets, dayOctets, referenceOf}
 use Rattle.seal_theorems.specs.SealChecks.{isImage}

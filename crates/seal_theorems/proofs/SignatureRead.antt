@@ -19,9 +19,9 @@ use Rattle.tlv.specs.Cut.{cut}
 use Rattle.tlv.proofs.Joined.{first-value, checked-value, value-then, value-checked, same-value}
 use Rattle.tlv.proofs.Encoded.{reads}
 use Rattle.tlv.proofs.Standing.{last-read, cut-there}
-use Rattle.seal.specs.Features.{numbered, signatureTag}
-use Rattle.seal.specs.Signature.{signatureAt}
-use Rattle.seal.proofs.FeaturesPassed.{numbered-value, value-numbered}
+use Rattle.seal_features.specs.Features.{numbered, signatureTag}
+use Rattle.seal_features.specs.Signature.{signatureAt}
+use Rattle.seal_features.proofs.FeaturesPassed.{numbered-value, value-numbered}
 
 pub signature-read : (s : List ℕ) (at : ℕ) → areOctets s → (v : Stretch) → signatureAt s at ≡ value v
     → drop at s ≡ tlv signatureTag (cut s v)

@@ -19,9 +19,9 @@ use Rattle.c40.specs.Field.{isField}
 use Rattle.seal_fields.specs.Spaces.{filled}
 use Rattle.seal_header.specs.declared.header.Header.{Header}
 use Rattle.seal_header.specs.Header.{headerCheck, headerOf, headerEnd}
-use Rattle.seal.specs.declared.features.Features.{Features}
-use Rattle.seal.specs.Features.{features}
-use Rattle.seal.specs.Signature.{signatureAt}
+use Rattle.seal_features.specs.declared.features.Features.{Features}
+use Rattle.seal_features.specs.Features.{features}
+use Rattle.seal_features.specs.Signature.{signatureAt}
 use Rattle.seal.specs.Seal as seal
 use Rattle.seal.specs.Seal.{textIn, placed, withText, withImage, withFeatures, withHeader, saidIn, answerBy}
 use Rattle.row_theorems.proofs.Behind.{then-behind, checked-behind}

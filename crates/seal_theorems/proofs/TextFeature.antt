@@ -14,8 +14,8 @@ use Rattle.c40.specs.Values.{isC40}
 use Rattle.c40.specs.Image.{imageOf}
 use Rattle.c40.specs.Field.{octetsFor, isField}
 use Rattle.c40.proofs.Fields.{field-read, read-field}
-use Rattle.seal.specs.declared.features.Features.{Features}
-use Rattle.seal.specs.Features.{textTag}
+use Rattle.seal_features.specs.declared.features.Features.{Features}
+use Rattle.seal_features.specs.Features.{textTag}
 use Rattle.seal.specs.Seal as seal
 use Rattle.seal.specs.Seal.{textIn}
 

@@ -26,7 +26,7 @@ use Rattle.seal_fields.specs.Day.{isLeap, daysIn, isDay}
 use Rattle.seal_fields.specs.Hex.{isHexLetter, isHex}
 use Rattle.seal_fields.specs.Spaces.{filled}
 use Rattle.seal_header.specs.Reference.{isLetterOrDigit}
-use Rattle.seal.specs.Features.{textTag, signatureTag}
+use Rattle.seal_features.specs.Features.{textTag, signatureTag}
 use Rattle.seal.specs.Seal.{readSeal}
 use Rattle.text_theorems.specs.Accepted.{Keeps}
 use Rattle.text_theorems.proofs.Acceptance.{accepted-exactly}

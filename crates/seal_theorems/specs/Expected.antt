@@ -15,9 +15,9 @@ use Rattle.tlv.specs.Read.{Read, value, andThen, checked}
 use Rattle.c40.specs.Field.{isField}
 use Rattle.seal_fields.specs.Spaces.{filled}
 use Rattle.seal_header.specs.Header.{headerCheck, headerEnd}
-use Rattle.seal.specs.declared.features.Features.{Features}
-use Rattle.seal.specs.Features.{features}
-use Rattle.seal.specs.Signature.{signatureAt}
+use Rattle.seal_features.specs.declared.features.Features.{Features}
+use Rattle.seal_features.specs.Features.{features}
+use Rattle.seal_features.specs.Signature.{signatureAt}
 use Rattle.seal.specs.Seal.{featureOctets, textIn}
 use Rattle.seal_theorems.specs.Sealed.{Contents, octetsOf, Shaped, featurePlace}
 

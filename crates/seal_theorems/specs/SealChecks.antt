@@ -18,8 +18,8 @@ use Rattle.seal_fields.specs.Day.{isDay, dayAt}
 use Rattle.seal_fields.specs.Spaces.{filled}
 use Rattle.seal_header.specs.Reference.{version, width, reference, isReference}
 use Rattle.seal_header.specs.Header.{isVersion, country, headerEnd}
-use Rattle.seal.specs.declared.features.Features.{Features}
-use Rattle.seal.specs.Features.{textTag, signatureTag, isEnd, textPlace}
+use Rattle.seal_features.specs.declared.features.Features.{Features}
+use Rattle.seal_features.specs.Features.{textTag, signatureTag, isEnd, textPlace}
 use Rattle.seal.specs.Seal.{featureOctets, textIn, placed}
 use Rattle.text_theorems.specs.Ordered.{checksOf}
 use Rattle.row_theorems.specs.Standing.{stretchAt, isCoded}

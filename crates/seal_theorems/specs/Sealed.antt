@@ -27,7 +27,7 @@ use Rattle.seal_fields.specs.Hex.{isHex}
 use Rattle.seal_fields.specs.Spaces.{filled}
 use Rattle.seal_header.specs.declared.header.Header.{Header}
 use Rattle.seal_header.specs.Reference.{isLetterOrDigit}
-use Rattle.seal.specs.Features.{textTag, signatureTag}
+use Rattle.seal_features.specs.Features.{textTag, signatureTag}
 use Rattle.seal.specs.Seal.{SealAnswer}
 use Rattle.text_theorems.specs.Accepted.{Keeps}
 

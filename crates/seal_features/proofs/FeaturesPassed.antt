@@ -15,8 +15,8 @@ use Rattle.tlv.specs.Read.{Read, value, refusal, andThen, checked}
 use Rattle.tlv.specs.Element.{element}
 use Rattle.tlv.proofs.Joined.{first-value, checked-value, same-value, never-value}
 use Rattle.tlv.proofs.Past.{value-within}
-use Rattle.seal.specs.declared.features.Features.{Features}
-use Rattle.seal.specs.Features.{numbered, featureRule, featureAt, isEnd, textPlace, featuresFrom, signatureTag}
+use Rattle.seal_features.specs.declared.features.Features.{Features}
+use Rattle.seal_features.specs.Features.{numbered, featureRule, featureAt, isEnd, textPlace, featuresFrom, signatureTag}
 
 pub numbered-value : {A : Type 0} (n : Why) (m : Read A) (a : A) → numbered n m ≡ value a → m ≡ value a
 unfolding numbered

@@ -1,9 +1,9 @@
 -- Feature 02, or another.
 use borrow.Author.Needs.{needs}
 use borrow.Author.Tests.{eq-eqb, ne-eqb}
-use Rattle.seal.specs.Features.{featureRule}
-use Rattle.seal.proofs.features.keeps_rule.Statement.{statement}
-use Rattle.seal.proofs.features.keeps_rule.Tie as tie
+use Rattle.seal_features.specs.Features.{featureRule}
+use Rattle.seal_features.proofs.features.keeps_rule.Statement.{statement}
+use Rattle.seal_features.proofs.features.keeps_rule.Tie as tie
 
 pub keeps-rule-spec : {M : Type 1} → statement M
 unfolding featureRule

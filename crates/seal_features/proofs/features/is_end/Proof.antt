@@ -1,8 +1,8 @@
 -- The end, or FF.
 use borrow.Author.Needs.{needs}
-use Rattle.seal.specs.Features.{isEnd}
-use Rattle.seal.proofs.features.is_end.Statement.{statement}
-use Rattle.seal.proofs.features.is_end.Tie as tie
+use Rattle.seal_features.specs.Features.{isEnd}
+use Rattle.seal_features.proofs.features.is_end.Statement.{statement}
+use Rattle.seal_features.proofs.features.is_end.Tie as tie
 
 pub is-end-spec : {M : Type 1} → statement M
 unfolding isEnd

@@ -9,7 +9,7 @@ use Rattle.refusal.specs.Outcome.{unless}
 use Rattle.tlv.specs.declared.Stretch.{Stretch}
 use Rattle.tlv.specs.Read.{Read, value, andThen, checked}
 use Rattle.tlv.specs.Element.{element}
-use Rattle.seal.specs.Features.{numbered, signatureTag}
+use Rattle.seal_features.specs.Features.{numbered, signatureTag}
 
 unfoldable pub signatureAt : List ℕ → ℕ → Read Stretch
 signatureAt s at =

@@ -1,7 +1,7 @@
 // The signature zone: FF, a length and the signature, up to the seal's end.
 ghost use mathlib.Core.Path.{_≡_};
 ghost use Rattle.tlv.specs.Element.{takenOf};
-ghost use Rattle.seal.specs.Signature.{signatureAt};
+ghost use Rattle.seal_features.specs.Signature.{signatureAt};
 use crate::features::SIGNATURE;
 use crate::features::numbered;
 use refusal::Cause;
@@ -9,7 +9,7 @@ use refusal::Refusal;
 use tlv::Taken;
 
 // 27, at FF or the end.
-pub(crate) fn signature_at(s: &[u8], at: usize) -> Taken
+pub fn signature_at(s: &[u8], at: usize) -> Taken
     ensures { λ r. ⌜ takenOf r ≡ signatureAt (now (s .entry)) at ⌝ }
 {
     let element = tlv::element(s, at, SIGNATURE as u16);

@@ -1,8 +1,8 @@
 -- The two cases of `numbered`.
 use borrow.Author.Needs.{needs}
-use Rattle.seal.specs.Features.{numbered}
-use Rattle.seal.proofs.features.numbered.Statement.{statement}
-use Rattle.seal.proofs.features.numbered.Tie as tie
+use Rattle.seal_features.specs.Features.{numbered}
+use Rattle.seal_features.proofs.features.numbered.Statement.{statement}
+use Rattle.seal_features.proofs.features.numbered.Tie as tie
 
 pub numbered-spec : {M : Type 1} → statement M
 unfolding numbered

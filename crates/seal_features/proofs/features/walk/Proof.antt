@@ -6,10 +6,10 @@ use borrow.Author.Needs.{needs}
 use denote.Ref.{now}
 use lib.ListN.{length}
 use Rattle.tlv.specs.Element.{takenOf}
-use Rattle.seal.specs.Features.{features}
-use Rattle.seal.proofs.FeaturesPassed.{leftFrom, left-next, feature-within, walk-ends, walk-refused}
-use Rattle.seal.proofs.features.walk.Statement.{statement}
-use Rattle.seal.proofs.features.walk.Tie as tie
+use Rattle.seal_features.specs.Features.{features}
+use Rattle.seal_features.proofs.FeaturesPassed.{leftFrom, left-next, feature-within, walk-ends, walk-refused}
+use Rattle.seal_features.proofs.features.walk.Statement.{statement}
+use Rattle.seal_features.proofs.features.walk.Tie as tie
 
 abbrev Inv-loop : tie.InvT-loop
 Inv-loop s start at₀ text₀ at text = leftFrom s at text ≡ features s start

@@ -2,7 +2,7 @@
 ghost use mathlib.Core.Path.{_≡_};
 ghost use Rattle.refusal.specs.Numbers.{whyOf};
 ghost use Rattle.tlv.specs.Element.{takenOf};
-ghost use Rattle.seal.specs.Features as F;
+ghost use Rattle.seal_features.specs.Features as F;
 use refusal::Cause;
 use refusal::Refusal;
 use tlv::Stretch;
@@ -76,7 +76,7 @@ fn text_place(s: &[u8], at: usize, text: usize) -> usize
 }
 
 // From a place up to FF or the end.
-pub(crate) fn walk(s: &[u8], start: usize) -> Walked
+pub fn walk(s: &[u8], start: usize) -> Walked
     ensures { λ r. ⌜ F.walkedOf r ≡ F.features (now (s .entry)) start ⌝ }
 {
     let mut at = start;

@@ -11,9 +11,9 @@ use Rattle.tlv.specs.declared.Stretch.{Stretch}
 use Rattle.tlv.specs.Read.{Read, value, refusal, andThen, checked}
 use Rattle.tlv.specs.Element.{element}
 use Rattle.tlv.specs.Cut.{hasOctets}
-use Rattle.seal.specs.declared.features.Features.{Features}
-use Rattle.seal.specs.declared.features.Walked.{Walked}
-use Rattle.seal.specs.declared.features.Walked.the-variants.{Found, Refused}
+use Rattle.seal_features.specs.declared.features.Features.{Features}
+use Rattle.seal_features.specs.declared.features.Walked.{Walked}
+use Rattle.seal_features.specs.declared.features.Walked.the-variants.{Found, Refused}
 
 -- a reading whose refusals have a number of their own
 unfoldable pub numbered : {A : Type 0} → Why → Read A → Read A

@@ -1,9 +1,9 @@
 -- The place of feature 02 once it is passed.
 use borrow.Author.Needs.{needs}
 use borrow.Author.Tests.{eq-eqb, ne-eqb}
-use Rattle.seal.specs.Features.{textPlace}
-use Rattle.seal.proofs.features.text_place.Statement.{statement}
-use Rattle.seal.proofs.features.text_place.Tie as tie
+use Rattle.seal_features.specs.Features.{textPlace}
+use Rattle.seal_features.proofs.features.text_place.Statement.{statement}
+use Rattle.seal_features.proofs.features.text_place.Tie as tie
 
 pub text-place-spec : {M : Type 1} → statement M
 unfolding textPlace

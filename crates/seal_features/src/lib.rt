@@ -1,0 +1,3 @@
+// What stands in a printed seal behind its header: features, and the signature.
+pub mod features;
+pub mod signature;
