@@ -1,31 +1,10 @@
--- What the calls of a C host answer and leave: document 01, "What the server lends and gets". There a record passes as its entry.
-use Prim.Native.Nat.{ℕ, _-_}
-use mathlib.Core.Bool.{Bool, false, cond}
-use mathlib.Core.List.{List}
-use lib.Dec.{eqb}
-use lib.ListN.{length}
-use Rattle.refusal.specs.Numbers.{by}
-use Rattle.refusal.specs.Length.{Length, refused}
-use Rattle.writing.specs.Answer.{textAnswer, textOut}
+-- What C receives of a run and of a group's file: document 01, "What the server lends and gets".
+use Prim.Native.Nat.{_-_}
 use Rattle.runs.specs.Run as run
 use Rattle.tlv.specs.declared.Stretch as tlv
 use Rattle.border.specs.declared.received.AnswerInC.{AnswerInC}
 use Rattle.border.specs.Answer.{notRefused, refusedInC}
 use Rattle.border.specs.declared.received.StretchInC.{StretchInC}
-
--- exactly one entry: the run goes on at its own end
-unfoldable pub isOnly : run.Onward → ℕ → Bool
-isOnly (run.next offset) n = eqb offset n
-isOnly run.none n = false
-isOnly (run.refused why place) n = false
-
--- the text writer is given exactly one entry and tests 18 (at 0, also for none or anything after it), then 16
-unfoldable pub writtenAnswer : List ℕ → List ℕ → Length
-writtenAnswer e out = cond (isOnly (run.readEntry e 0 .onward) (length e)) (textAnswer (run.readEntry e 0 .kept) out)
-    (refused (by 18) 0)
-
-unfoldable pub writtenOut : List ℕ → List ℕ → List ℕ
-writtenOut e out = cond (isOnly (run.readEntry e 0 .onward) (length e)) (textOut (run.readEntry e 0 .kept) out) out
 
 -- a run's call answers with the next offset alone; at the end with 0 and 0
 unfoldable pub nextInC : run.Onward → AnswerInC

@@ -1,21 +1,16 @@
-// What C receives of an answer: its numbers, or the fields of a record.
+// What C receives of an answer: its numbers.
 ghost use mathlib.Core.Path.{_≡_};
-ghost use Prim.Native.Nat.{_<_};
 ghost use Rattle.refusal.specs.Length.{lengthOf, refused};
 ghost use Rattle.refusal.specs.Numbers.{whyOf};
 ghost use Rattle.runs.specs.Run.{onwardOf};
 ghost use Rattle.border.specs.Answer.{notRefused, inC};
 ghost use Rattle.border.specs.Calls.{nextInC, stretchInC};
-ghost use Rattle.border.specs.Opened.{recordInC};
 use crate::received::AnswerInC;
-use crate::received::RecordInC;
 use crate::received::StretchInC;
-use entry::codes::form_code;
 use refusal::NO_DIGIT;
 use refusal::Refusal;
 use refusal::Written;
 use runs::run::Step;
-use zone::record::Record;
 
 fn not_refused(value: u64) -> AnswerInC
     ensures { λ r. ⌜ r ≡ notRefused value ⌝ }
@@ -67,35 +62,5 @@ pub fn stretch_in_c(v: tlv::Stretch) -> StretchInC
     StretchInC {
         start: v.from as u64,
         length: length as u64,
-    }
-}
-
-// The lengths of a record that the run reader hands out fit an octet.
-pub(crate) fn record_in_c(number: u32, house: u32, kept: Record) -> RecordInC
-    requires { ⌜ (kept .«number_len» < 256) × (kept .«name_len» < 256) ⌝ }
-    ensures { λ r. ⌜ r ≡ recordInC number house kept ⌝ }
-{
-    let form = kept.form;
-    let code = kept.code;
-    let state = kept.state;
-    let nationality = kept.nationality;
-    let birth = kept.birth;
-    let expiry = kept.expiry;
-    let document_number = kept.number;
-    let name = kept.name;
-    RecordInC {
-        number,
-        house,
-        form: form_code(form),
-        sex: kept.sex,
-        document_number_len: kept.number_len as u8,
-        name_len: kept.name_len as u8,
-        code,
-        state,
-        nationality,
-        birth,
-        expiry,
-        document_number,
-        name,
     }
 }

@@ -1,4 +1,3 @@
-// The border to C: what a host receives of an answer, and a record that passes as its entry.
+// The border to C: what a host receives of an answer in numbers.
 pub mod answer;
-pub mod as_entry;
 pub mod received;

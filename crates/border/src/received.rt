@@ -1,6 +1,4 @@
 // What C receives, laid out as include/lamphudet.h declares it.
-use zone::form::Form;
-
 // Number 0 and how many octets were written or where a run goes on, or the refusal's number and its place. With a wrong check
 // digit, 9, stands the digit that was expected, and 255 else.
 #[repr(C)]
@@ -15,22 +13,4 @@ pub struct AnswerInC {
 pub struct StretchInC {
     pub start: u64,
     pub length: u64,
-}
-
-// What an entry holds: number 0, the house and the record; or 18, house 0 and the blank record. Places past a length are fillers.
-#[repr(C)]
-pub struct RecordInC {
-    pub number: u32,
-    pub house: u32,
-    pub form: u8,
-    pub sex: u8,
-    pub document_number_len: u8,
-    pub name_len: u8,
-    pub code: [u8; Form::CODE],
-    pub state: [u8; Form::STATE],
-    pub nationality: [u8; Form::STATE],
-    pub birth: [u8; Form::DATE],
-    pub expiry: [u8; Form::DATE],
-    pub document_number: [u8; Form::NUMBER],
-    pub name: [u8; Form::NAME],
 }

@@ -18,9 +18,9 @@ use Rattle.entry.specs.Entry.{entryOf, isHouse}
 use Rattle.entry.proofs.Values.{length-entry}
 use Rattle.entry.proofs.Entered.{entered}
 use Rattle.border.specs.Answer.{inC}
-use Rattle.border.specs.Calls.{writtenAnswer, writtenOut}
+use Rattle.as_entry.specs.Written.{writtenAnswer, writtenOut}
 use Rattle.lamphudet.specs.Calls.{readAnswer, readOut}
-use Rattle.border.specs.Opened.{openedInC, recordInC}
+use Rattle.as_entry.specs.Opened.{openedInC, recordInC}
 use Rattle.text_theorems.proofs.RoundTrip.{text-read-back}
 use Rattle.run_theorems.specs.Entered.{Leaves}
 use Rattle.run_theorems.proofs.ListReadBack.{kept-both}

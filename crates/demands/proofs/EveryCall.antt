@@ -30,9 +30,10 @@ use Rattle.runs.specs.Run as run
 use Rattle.runs.specs.Run.{readEntry}
 use Rattle.chip.specs.Presentation.{readPresentation}
 use Rattle.border.specs.Answer.{inC}
-use Rattle.border.specs.Calls.{isOnly, writtenAnswer, writtenOut, nextInC}
+use Rattle.as_entry.specs.Written.{isOnly, writtenAnswer, writtenOut}
+use Rattle.border.specs.Calls.{nextInC}
 use Rattle.lamphudet.specs.Calls.{readAnswer, readOut}
-use Rattle.border.specs.Opened.{recordInC, openedInC}
+use Rattle.as_entry.specs.Opened.{recordInC, openedInC}
 use Rattle.text_theorems.proofs.FirstFailing.{refused-blank}
 use Rattle.text_theorems.proofs.Expected.{text-numbered}
 use Rattle.presentation_theorems.proofs.Acceptance.{presentation-blank}

@@ -14,7 +14,8 @@ use Rattle.chip.specs.Presentation.{readPresentation}
 use Rattle.digest.specs.Answer.{digestAnswer}
 use Rattle.runs.specs.Run as run
 use Rattle.border.specs.Answer.{inC}
-use Rattle.border.specs.Calls.{writtenAnswer, nextInC}
+use Rattle.as_entry.specs.Written.{writtenAnswer}
+use Rattle.border.specs.Calls.{nextInC}
 use Rattle.lamphudet.specs.Calls.{readAnswer}
 use Rattle.text_theorems.proofs.Expected.{nine-tells, digit-told}
 use Rattle.presentation_theorems.proofs.Expected.{expected-carried, presentation-nine}

@@ -16,9 +16,9 @@ use Rattle.chip.specs.Presentation.{readPresentation}
 use Rattle.digest.specs.Answer.{digestAnswer}
 use Rattle.runs.specs.Run.{readEntry}
 use Rattle.border.specs.Answer.{inC}
-use Rattle.border.specs.Calls.{isOnly, writtenAnswer}
+use Rattle.as_entry.specs.Written.{isOnly, writtenAnswer}
 use Rattle.lamphudet.specs.Calls.{readAnswer}
-use Rattle.border.specs.Opened.{openedInC, recordInC}
+use Rattle.as_entry.specs.Opened.{openedInC, recordInC}
 use Rattle.text_theorems.proofs.Expected.{text-numbered}
 use Rattle.presentation_theorems.proofs.Expected.{presentation-numbered}
 use Rattle.run_theorems.proofs.NumbersEntered.{zero-no-refusal}

@@ -22,7 +22,7 @@ use Rattle.writing.specs.Answer.{textAnswer, textOut}
 use Rattle.entry.specs.Entry.{entryOf, isHouse}
 use Rattle.runs.specs.Run.{Onward, next, none, refused, readEntry}
 use Rattle.border.specs.Answer.{inC}
-use Rattle.border.specs.Calls.{isOnly, writtenAnswer, writtenOut}
+use Rattle.as_entry.specs.Written.{isOnly, writtenAnswer, writtenOut}
 use Rattle.text_theorems.proofs.RoundTrip.{text-length}
 use Rattle.run_theorems.specs.Runs.{Line, isKept}
 use Rattle.run_theorems.specs.Entered.{Leaves}

@@ -17,7 +17,7 @@ use Rattle.sound.specs.Sound.{isSound}
 use Rattle.digest.specs.Answer.{digestAnswer}
 use Rattle.writing.specs.Answer.{textAnswer}
 use Rattle.runs.specs.Run.{readEntry}
-use Rattle.border.specs.Calls.{isOnly, writtenAnswer}
+use Rattle.as_entry.specs.Written.{isOnly, writtenAnswer}
 
 module _ (P : Length → Type 0) (ends : (n : ℕ) → P (written n))
     (denies : (n q : ℕ) → (n ≡ 0 → ⊥) → (n ≡ 9 → ⊥) → P (refused (by n) q)) where

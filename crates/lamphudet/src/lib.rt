@@ -10,14 +10,15 @@ ghost use Rattle.digest.specs.Answer.{digestAnswer, digestOut};
 ghost use Rattle.runs.specs.Run.{readEntry};
 ghost use Rattle.version.specs.Version.{versionNumber};
 ghost use Rattle.border.specs.Answer.{inC};
-ghost use Rattle.border.specs.Calls.{writtenAnswer, writtenOut, nextInC, stretchInC};
+ghost use Rattle.as_entry.specs.Written.{writtenAnswer, writtenOut};
+ghost use Rattle.border.specs.Calls.{nextInC, stretchInC};
 ghost use Rattle.lamphudet.specs.Calls.{readAnswer, readOut};
-ghost use Rattle.border.specs.Opened.{openedInC};
+ghost use Rattle.as_entry.specs.Opened.{openedInC};
+use as_entry::received::RecordInC;
 use border::answer::in_c;
 use border::answer::next_in_c;
 use border::answer::stretch_in_c;
 use border::received::AnswerInC;
-use border::received::RecordInC;
 use border::received::StretchInC;
 use zone::form::Source;
 
@@ -58,7 +59,7 @@ pub extern "C" fn lamphudet_write_text(entry: &[u8], text: &mut [u8]) -> AnswerI
     ensures { λ _. ⌜ now (text .exit) ≡ writtenOut (now (entry .entry)) (now (text .entry)) ⌝ }
     ensures { λ _. ⌜ areOctets (now (entry .entry)) ⌝ }
 {
-    in_c(border::as_entry::write_one(entry, text))
+    in_c(as_entry::write_one(entry, text))
 }
 
 // The house and the record of exactly one entry.
@@ -67,7 +68,7 @@ pub extern "C" fn lamphudet_open_entry(entry: &[u8]) -> RecordInC
     ensures { λ r. ⌜ r ≡ openedInC (now (entry .entry)) ⌝ }
     ensures { λ _. ⌜ areOctets (now (entry .entry)) ⌝ }
 {
-    border::as_entry::open_one(entry)
+    as_entry::open_one(entry)
 }
 
 // Where a run of entries goes on.

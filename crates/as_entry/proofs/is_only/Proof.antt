@@ -1,8 +1,8 @@
 -- The three cases of `isOnly`.
 use borrow.Author.Needs.{needs}
-use Rattle.border.specs.Calls.{isOnly}
-use Rattle.border.proofs.as_entry.is_only.Statement.{statement}
-use Rattle.border.proofs.as_entry.is_only.Tie as tie
+use Rattle.as_entry.specs.Written.{isOnly}
+use Rattle.as_entry.proofs.is_only.Statement.{statement}
+use Rattle.as_entry.proofs.is_only.Tie as tie
 
 pub is-only-spec : {M : Type 1} → statement M
 unfolding isOnly

@@ -2,15 +2,18 @@
 ghost use mathlib.Core.Path.{_≡_};
 ghost use Rattle.refusal.specs.Length.{lengthOf};
 ghost use Rattle.runs.specs.Run.{onwardOf};
-ghost use Rattle.border.specs.Calls.{isOnly, writtenAnswer, writtenOut};
-ghost use Rattle.border.specs.Opened.{openedInC};
-use crate::answer::record_in_c;
+ghost use Rattle.as_entry.specs.Written.{isOnly, writtenAnswer, writtenOut};
+ghost use Rattle.as_entry.specs.Opened.{openedInC};
 use crate::received::RecordInC;
+use crate::record::record_in_c;
 use refusal::Cause;
 use refusal::Refusal;
 use refusal::Written;
 use runs::run::Step;
 use zone::record::Record;
+
+pub mod received;
+mod record;
 
 const NOT_ONE_ENTRY: Refusal = Refusal {
     cause: Cause::Entry,

@@ -2,9 +2,9 @@
 use borrow.Author.Needs.{needs}
 use mathlib.Core.Path.{sym, _∙_}
 use Rattle.runs.specs.Run.{standingOf}
-use Rattle.border.specs.Calls.{writtenAnswer, writtenOut}
-use Rattle.border.proofs.as_entry.write_one.Statement.{statement}
-use Rattle.border.proofs.as_entry.write_one.Tie as tie
+use Rattle.as_entry.specs.Written.{writtenAnswer, writtenOut}
+use Rattle.as_entry.proofs.write_one.Statement.{statement}
+use Rattle.as_entry.proofs.write_one.Tie as tie
 
 returns : tie.Need-returns
 unfolding standingOf writtenAnswer writtenOut

@@ -8,8 +8,8 @@ use Rattle.zone.specs.declared.record.Record.{Record}
 use Rattle.zone.specs.Record.{blank}
 use Rattle.entry.specs.Codes.{formCode}
 use Rattle.runs.specs.Run.{readEntry}
-use Rattle.border.specs.Calls.{isOnly}
-use Rattle.border.specs.declared.received.RecordInC.{RecordInC}
+use Rattle.as_entry.specs.Written.{isOnly}
+use Rattle.as_entry.specs.declared.received.RecordInC.{RecordInC}
 
 -- a number, a house and each field of a record; the form by its code in the entry
 unfoldable pub recordInC : (number house : ℕ) → Record → RecordInC

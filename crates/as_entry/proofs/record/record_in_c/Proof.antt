@@ -1,8 +1,8 @@
 -- Field by field.
 use borrow.Author.Needs.{needs}
-use Rattle.border.specs.Opened.{recordInC}
-use Rattle.border.proofs.answer.record_in_c.Statement.{statement}
-use Rattle.border.proofs.answer.record_in_c.Tie as tie
+use Rattle.as_entry.specs.Opened.{recordInC}
+use Rattle.as_entry.proofs.record.record_in_c.Statement.{statement}
+use Rattle.as_entry.proofs.record.record_in_c.Tie as tie
 
 pub record-in-c-spec : {M : Type 1} → statement M
 unfolding recordInC

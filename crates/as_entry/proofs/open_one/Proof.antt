@@ -6,9 +6,9 @@ use denote.Ref.{now}
 use Rattle.zone.specs.Record.{blank, holding}
 use Rattle.runs.specs.Run.{standingOf}
 use Rattle.runs.proofs.Lengths.{short-read}
-use Rattle.border.specs.Opened.{openedInC}
-use Rattle.border.proofs.as_entry.open_one.Statement.{statement}
-use Rattle.border.proofs.as_entry.open_one.Tie as tie
+use Rattle.as_entry.specs.Opened.{openedInC}
+use Rattle.as_entry.proofs.open_one.Statement.{statement}
+use Rattle.as_entry.proofs.open_one.Tie as tie
 
 record-in-c-requires : tie.Need-record-in-c-requires
 unfolding standingOf
