@@ -11,7 +11,8 @@ use Rattle.digest.specs.Answer.{digestAnswer}
 use Rattle.runs.specs.Run as run
 use Rattle.runs.specs.Run.{readEntry}
 use Rattle.border.specs.Answer.{inC}
-use Rattle.border.specs.Calls.{writtenAnswer, nextInC}
+use Rattle.border.specs.Calls.{nextInC}
+use Rattle.as_entry.specs.Written.{writtenAnswer}
 use Rattle.lamphudet.specs.Calls.{readAnswer}
 use Rattle.demands.specs.Given.{lengthGiven, nextGiven, Gives}
 use Rattle.demands.proofs.NotZero.{NotZero, read-text-not-zero, read-presentation-not-zero, write-text-not-zero}

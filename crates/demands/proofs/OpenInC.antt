@@ -9,9 +9,9 @@ use borrow.Author.Tests.{eq-eqb}
 use lib.ListN.{length}
 use Rattle.zone.specs.Octets.{areOctets}
 use Rattle.entry.specs.Entry.{entryOf}
-use Rattle.border.specs.declared.received.RecordInC.{RecordInC}
-use Rattle.border.specs.Calls.{isOnly}
-use Rattle.border.specs.Opened.{openedInC, recordInC}
+use Rattle.as_entry.specs.declared.received.RecordInC.{RecordInC}
+use Rattle.as_entry.specs.Written.{isOnly}
+use Rattle.as_entry.specs.Opened.{openedInC, recordInC}
 use Rattle.run_theorems.specs.Runs.{Line, isKept}
 use Rattle.run_theorems.proofs.ListReadBack.{kept-both}
 use Rattle.demands.specs.OneEntry.{OneEntry}

@@ -12,10 +12,10 @@ use Rattle.refusal.specs.Calls.{ofTextWriterInC}
 use Rattle.chip.specs.Presentation.{readPresentation}
 use Rattle.entry.specs.Entry.{entryOf}
 use Rattle.border.specs.declared.received.AnswerInC.{AnswerInC}
-use Rattle.border.specs.declared.received.RecordInC.{RecordInC}
+use Rattle.as_entry.specs.declared.received.RecordInC.{RecordInC}
 use Rattle.border.specs.declared.received.StretchInC.{StretchInC}
 use Rattle.border.specs.Calls.{stretchInC}
-use Rattle.border.specs.Opened.{openedInC, recordInC}
+use Rattle.as_entry.specs.Opened.{openedInC, recordInC}
 use Rattle.presentation_theorems.specs.Presented.{Contents, Presented, Lent, Outside, octetsOf}
 use Rattle.presentation_theorems.proofs.GroupFile.{group-refused}
 use Rattle.run_theorems.specs.Runs.{Line, isKept}

@@ -10,12 +10,13 @@ use Rattle.text.specs.Read.{readText}
 use Rattle.chip.specs.Presentation.{readPresentation, groupStretch}
 use Rattle.runs.specs.Run.{readEntry}
 use Rattle.border.specs.declared.received.AnswerInC.{AnswerInC}
-use Rattle.border.specs.declared.received.RecordInC.{RecordInC}
+use Rattle.as_entry.specs.declared.received.RecordInC.{RecordInC}
 use Rattle.border.specs.declared.received.StretchInC.{StretchInC}
-use Rattle.border.specs.Calls.{writtenAnswer, writtenOut, nextInC, stretchInC}
+use Rattle.border.specs.Calls.{nextInC, stretchInC}
+use Rattle.as_entry.specs.Written.{writtenAnswer, writtenOut}
 use Rattle.lamphudet.specs.Calls.{readOut}
 use Rattle.border.specs.Answer.{inC}
-use Rattle.border.specs.Opened.{openedInC}
+use Rattle.as_entry.specs.Opened.{openedInC}
 use Rattle.demands.specs.InC.{inText, inPresentation}
 
 -- `lamphudet_read_text`

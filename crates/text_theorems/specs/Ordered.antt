@@ -20,8 +20,8 @@ unfoldable pub byPart : List (PartRow (List Outcome)) → List Part → List Out
 byPart rows [] = []
 byPart rows (x ∷ xs) = inRows [] rows x ++ byPart rows xs
 
--- "Order: 1, 2, then 3 to 8 by field in text order, then check digits in text order": 1, a text of no form that may stand there, at
--- its start; 2 at the first character that is none
+-- "Order: 1, 2, then 3 to 8 by field in text order, then check digits in text order": 1, a text of no form that may stand there,
+-- at its start; 2 at the first character that is none
 unfoldable pub checksBy : Recognised → List ℕ → List Outcome
 checksBy Unknown t = refused (by 1) 0 ∷ []
 checksBy (As f) t =

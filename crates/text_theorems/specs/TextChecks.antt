@@ -1,5 +1,5 @@
--- The checks of a text, part by part, a row for each sentence that can refuse: document 01, "The text" and "Refusal numbers", 3 to
--- 9. Said of the text, without the reader; where one fails, those behind it decide nothing.
+-- The checks of a text, part by part, a row for each sentence that can refuse: document 01, "The text" and "Refusal numbers", 3
+-- to 9. Said of the text, without the reader; where one fails, those behind it decide nothing.
 use Prim.Native.Nat.{ℕ, _+_, _-_}
 use mathlib.Core.Bool.{Bool, cond, not, _&&_, _||_}
 use mathlib.Core.List.{List, [], _∷_, _++_}
@@ -25,7 +25,8 @@ use Rattle.text_theorems.specs.Accepted.{fillerAt}
 unfoldable pub isEnded : Form → List ℕ → Bool
 isEnded f t = leb 2 (fillerAt f t) && ltb (fillerAt f t) (width f optional)
 
--- 3 document code; 4 state or nationality; 5 document number, which "does not begin with `<`"; 6 date; 7 sex; 8 name: "field start"
+-- 3 document code; 4 state or nationality; 5 document number, which "does not begin with `<`"; 6 date; 7 sex; 8 name: each at
+-- the "field start"
 unfoldable pub fieldChecks : Form → List ℕ → List (PartRow (List Outcome))
 fieldChecks f t =
     code is (unless (codeRule f (field f code t)) 3 (start f code) ∷ [])
