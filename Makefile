@@ -5,6 +5,7 @@ LIBDIR ?= $(PREFIX)/lib
 INCLUDEDIR ?= $(PREFIX)/include
 BINDIR ?= $(PREFIX)/bin
 MANDIR ?= $(PREFIX)/share/man
+DOCDIR ?= $(PREFIX)/share/doc/lamphudet
 DESTDIR ?=
 # The seed of the compared cases; empty for the one that the gate takes.
 SEED ?=
@@ -129,11 +130,12 @@ demo: $(DESK) $(SCANNER)
 	@examples/desk/demo '$(DESK)'
 	@examples/scanner/demo '$(SCANNER)'
 
-##   make install    libraries, headers, pkg-config files, manual pages, desk and scanner below PREFIX
+##   make install    libraries, headers, pkg-config files, manual pages, CHANGELOG.md, desk and scanner below
+##                   PREFIX
 ##   make uninstall  takes them away again
 # Handed to that script alone: a make that another recipe runs, such as a test's, is to make its own of them.
-handed = $(foreach name,PREFIX LIBDIR INCLUDEDIR BINDIR MANDIR DESTDIR VERSION SO_VERSION ARCHIVE SEALS_ARCHIVE DESK SCANNER, \
-    $(name)=$(call quoted,$($(name))))
+handed = $(foreach name,PREFIX LIBDIR INCLUDEDIR BINDIR MANDIR DOCDIR DESTDIR VERSION SO_VERSION ARCHIVE SEALS_ARCHIVE DESK \
+    SCANNER,$(name)=$(call quoted,$($(name))))
 install: libraries $(DESK) $(SCANNER)
 	@$(handed) tools/install files
 
@@ -182,7 +184,8 @@ clean:
 ## 
 ## Variables, with what they are unless they are given:
 ##   PREFIX=/usr/local, LIBDIR=PREFIX/lib, INCLUDEDIR=PREFIX/include, BINDIR=PREFIX/bin,
-##   MANDIR=PREFIX/share/man, and DESTDIR, none, which stands before each when a package is made
+##   MANDIR=PREFIX/share/man, DOCDIR=PREFIX/share/doc/lamphudet, and DESTDIR, none, which stands before each
+##   when a package is made
 ##   CC=cc, CFLAGS=-O2, LDFLAGS, for shared libraries, desk and scanner
 ##   LAMPHUDET_ARCHIVE, LAMPHUDET_SEALS_ARCHIVE: archives that were built elsewhere, taken as they are by all
 ##   but test and format; then nothing is proved, and no rt is needed

@@ -18,6 +18,7 @@ lib/liblamphudet_seals.so.$(so_version "$version")
 lib/liblamphudet_seals.so.$version
 lib/pkgconfig/lamphudet.pc
 lib/pkgconfig/lamphudet_seals.pc
+share/doc/lamphudet/CHANGELOG.md
 share/man/man1/desk.1
 share/man/man1/scanner.1
 share/man/man3/lamphudet.3
@@ -81,7 +82,7 @@ try 'make install with DESTDIR' staged
 try 'make install with LIBDIR' elsewhere "$folder/multi/lib/x86_64-linux-gnu"
 try 'make install with LIBDIR outside of PREFIX' elsewhere "$folder/lib64"
 try 'make uninstall' taken_away
-for variable in PREFIX LIBDIR INCLUDEDIR BINDIR MANDIR DESTDIR; do
+for variable in PREFIX LIBDIR INCLUDEDIR BINDIR MANDIR DOCDIR DESTDIR; do
     try "a blank in $variable is refused" refused $variable
 done
 
@@ -90,7 +91,7 @@ refused_empty() {
     refuses "$1 is empty" make --silent install DESTDIR="$folder/empty" "$1=" && [[ ! -e $folder/empty ]] \
         && refuses "$1 is empty" make --silent uninstall DESTDIR="$folder/empty" "$1="
 }
-for variable in PREFIX LIBDIR INCLUDEDIR BINDIR MANDIR; do
+for variable in PREFIX LIBDIR INCLUDEDIR BINDIR MANDIR DOCDIR; do
     try "an empty $variable is refused" refused_empty $variable
 done
 
@@ -98,7 +99,7 @@ done
 hands_none_on() {
     printf 'include Makefile\nshow:\n\t@env\n' > "$folder/shows"
     make --silent -f "$folder/shows" show > "$folder/handed" || return 1
-    ! grep -E '^(LIBDIR|INCLUDEDIR|BINDIR|MANDIR|SCANNER)=' "$folder/handed"
+    ! grep -E '^(LIBDIR|INCLUDEDIR|BINDIR|MANDIR|DOCDIR|SCANNER)=' "$folder/handed"
 }
 try 'make hands no place to its other recipes' hands_none_on
 

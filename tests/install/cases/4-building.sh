@@ -6,7 +6,7 @@ copy="$folder/a copy"
 archive=$(realpath "${LAMPHUDET_ARCHIVE:-target/staticlib/liblamphudet.a}")
 seals_archive=$(realpath "${LAMPHUDET_SEALS_ARCHIVE:-target/staticlib/liblamphudet_seals.a}")
 mkdir -p "$copy" "$folder/tools"
-cp -r Makefile tools packaging include man examples crates crates.txt "$copy"
+cp -r Makefile tools packaging include man examples crates crates.txt CHANGELOG.md "$copy"
 cat > "$folder/tools/rt" << END
 #!/bin/sh
 [ ! -e "$copy/refused" ] || { echo 'crates/zone/proofs/Laws.antt: not so' && exit 1; }
