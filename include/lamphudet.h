@@ -36,13 +36,14 @@ extern "C" {
 #endif
 
 /*
- * The version of this header, in words and as a number for #if: 10000 times the first of its three
- * numbers, 100 times the second, and the third; 0.2.0 is 200. A later version has a greater number.
- * lamphudet_version() is that of the library that was linked.
+ * The version of this header, as a string and as a number for #if: 10000 times the first of its
+ * three numbers, 100 times the second, and the third; 0.2.0 is 200. A later version has a greater
+ * number. lamphudet_version() is that of the library that was linked.
  *
  * What a version promises:
  *   - The number of a refusal never changes its meaning. There may be new ones.
- *   - An answer that changes is in CHANGELOG.md, with the request that asked for it.
+ *   - An answer that changes is in CHANGELOG.md, which is installed in share/doc/lamphudet, with the
+ *     request that asked for it.
  *   - Structs, the entry's layout and how a call is declared change only with a new SONAME, the name
  *     by which a program asks for the shared library: liblamphudet.so.0.2. While the first number is
  *     0 it has the first two, from 1 on the first alone. As long as it is the same a host need not be
@@ -494,7 +495,9 @@ lamphudet_answer lamphudet_digest(const uint8_t *input, size_t input_len, uint8_
 
 /*
  * The version of the library that was linked, as LAMPHUDET_VERSION_NUMBER is that of this header: of a
- * shared library it may be a later one. Refuses nothing.
+ * shared library it may be another one, later or earlier. Where it is < LAMPHUDET_VERSION_NUMBER, what
+ * CHANGELOG.md has as new or changed since that version is not in the library: a host that relies on
+ * it asks first. Refuses nothing.
  */
 LAMPHUDET_MUST_USE
 uint32_t lamphudet_version(void);

@@ -6,8 +6,8 @@
  *
  * Both libraries have one version, LAMPHUDET_VERSION, and what lamphudet.h says that it promises
  * holds here too: the number of a refusal never changes its meaning; an answer that changes is in
- * CHANGELOG.md, with the request that asked for it; structs and the entry's layout change only with a
- * new SONAME, liblamphudet_seals.so.0.2.
+ * CHANGELOG.md, with the request that asked for it; structs, the entry's layout and how a call is
+ * declared change only with a new SONAME, liblamphudet_seals.so.0.2.
  *
  * What is left to the host: the signature, which signs all octets before its FF, and whom to trust by
  * signer and reference; the dates, none of which is compared with another or with today.
@@ -112,7 +112,8 @@ lamphudet_seal lamphudet_read_seal(uint32_t house, const uint8_t *seal, size_t s
 
 /*
  * The version of the library for seals that was linked, as LAMPHUDET_VERSION_NUMBER is that of these
- * headers. Its name is not lamphudet_version: both libraries may be linked into one program.
+ * headers: of a shared library it may be another one, later or earlier, as lamphudet.h has it. Its
+ * name is not lamphudet_version: both libraries may be linked into one program.
  */
 LAMPHUDET_MUST_USE
 uint32_t lamphudet_seals_version(void);

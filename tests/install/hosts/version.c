@@ -1,6 +1,6 @@
 /*
  * A host of both installed libraries: each tells the version that the headers have, and the headers' number is the one of their
- * words. Exit status 0 where that is so.
+ * string. Exit status 0 where that is so.
  */
 #include <lamphudet_seals.h>
 #include <stdio.h>
