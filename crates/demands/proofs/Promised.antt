@@ -69,13 +69,13 @@ module _ (e : List ℕ) (r : RecordInC) (call : OpensEntry e r) where
 
 module _ (w : List ℕ) (at : ℕ) (r : AnswerInC) (call : NextEntry w at r) where
   -- 0 and another offset than 0: the entry of a house and a sound record stands at the offset asked for, and ends at that one
-  pub next-exactly : at ≤ length w → (n : ℕ) → (n ≡ 0 → ⊥)
+  pub next-exactly : (n : ℕ) → (n ≡ 0 → ⊥)
       → ((r .number ≡ 0) × (r .value ≡ n))
       ↔ ((l : Line) × (isKept l ≡ true) × (drop at w ≡ entryOf (l .house) (l .kept) ++ drop n w) ×
       (n ≡ at + length (entryOf (l .house) (l .kept))))
-  next-exactly within n some =
+  next-exactly n some =
       let told = next-told w at n some in
-      let stands = goes-on-exactly w at (call .octets) within n in
+      let stands = goes-on-exactly w at (call .octets) n in
       rw (call .answers) (λ h. stands .0 (told .0 h), λ x. told .1 (stands .1 x))
 
 -- ---- the file of a group

@@ -44,7 +44,7 @@ room-told false e = absurd (omega (arith, e))
 
 module _ (h : ℕ) (r : Record) (house : isHouse h ≡ true) (sound : isSound r ≡ true) (out : List ℕ) where
   pub alone : readEntry (entryOf h r) 0 ≡ record { onward = next (0 + length (entryOf h r)); house = h; kept = r }
-  alone = read-where-stands h r house sound (entryOf h r) 0 [] (omega arith) (sym (append-nil (entryOf h r)))
+  alone = read-where-stands h r house sound (entryOf h r) 0 [] (sym (append-nil (entryOf h r)))
 
   written-as : writtenAnswer (entryOf h r) out ≡ textAnswer r out
   unfolding writtenAnswer isOnly
@@ -82,7 +82,7 @@ module _ (e out : List ℕ) (small : areOctets e) where
       go none p q = absurd (false≢true q)
       go (refused why place) p q = absurd (false≢true q)
       go (next n) p q =
-          let x = goes-on-exactly e 0 small (omega arith) n .0 p in
+          let x = goes-on-exactly e 0 small n .0 p in
           let entry = entryOf (x .0 .house) (x .0 .kept) in
           let end : drop n e ≡ [] = ap (λ (k : ℕ). drop k e) (eqb-true n (length e) q) ∙ drop-length e in
           (x .0, x .1, x .2 ∙ ap (λ (s : List ℕ). entry ++ s) end ∙ append-nil entry)

@@ -64,7 +64,7 @@ read-from (suc most) w at small h k = go (readEntry w at .onward) refl (λ (n : 
     go (refused c p) e rest =
         let here = refused-here w at c p e in
         let other : at ≡ length w → ⊥ = here .1 in
-        nothing-more w at (refused c p) (inr (here .0, omega arith, no-entry w at h c p e))
+        nothing-more w at (refused c p) (inr (here .0, omega arith, no-entry w at c p e))
 
 -- what the reading of any bytes says: a list of kept lines, whose bytes they are, or with whose bytes they begin and no entry
 -- follows

@@ -1,5 +1,5 @@
 -- What one answer of a run's reader says of the place where it reads: the end, or no entry.
-use Prim.Native.Nat.{ℕ, _+_, _≤_, _<_}
+use Prim.Native.Nat.{ℕ, _+_, _<_}
 use mathlib.Core.Path.{_≡_, refl, ap, sym, _∙_}
 use mathlib.Core.Logic.{_↔_, _⊎_, inl, inr}
 use mathlib.Core.Bool.{Bool, true, false, cond}
@@ -98,19 +98,19 @@ module _ (w : List ℕ) (at : ℕ) where
       go false q false h = (other (entry-or-not (formIn (drop at w)) (drop at w) at (refused k p) h), eqb-false at (length w) q)
 
   -- where an entry stands, the answer is no refusal
-  pub no-entry : at ≤ length w → (k : Why) (p : ℕ) → readEntry w at .onward ≡ refused k p → NoEntry (drop at w)
-  no-entry h k p e l rest kept there =
+  pub no-entry : (k : Why) (p : ℕ) → readEntry w at .onward ≡ refused k p → NoEntry (drop at w)
+  no-entry k p e l rest kept there =
       let both = kept-both l kept in
-      let read = read-where-stands (l .house) (l .kept) (both .0) (both .1) w at rest h there in
+      let read = read-where-stands (l .house) (l .kept) (both .0) (both .1) w at rest there in
       next-not-refused (at + length (entryOf (l .house) (l .kept))) k p (sym (ap (λ (a : Standing). a .onward) read) ∙ e)
 
   -- the reading goes on exactly where the entry of a kept house and record stands, and there with what follows it
-  pub goes-on-exactly : areOctets w → at ≤ length w → (n : ℕ)
+  pub goes-on-exactly : areOctets w → (n : ℕ)
       → (readEntry w at .onward ≡ next n)
       ↔ ((l : Line) × (isKept l ≡ true) × (drop at w ≡ entryOf (l .house) (l .kept) ++ drop n w) ×
       (n ≡ at + length (entryOf (l .house) (l .kept))))
   unfolding isKept lineAt
-  goes-on-exactly small h n = (
+  goes-on-exactly small n = (
     λ e.
         let p = passed-over w at n small e in (
           lineAt w at,
@@ -122,6 +122,6 @@ module _ (w : List ℕ) (at : ℕ) where
     λ x.
         let both = kept-both (x .0) (x .1) in
         ap (λ (a : Standing). a .onward)
-        (read-where-stands (x .0 .house) (x .0 .kept) (both .0) (both .1) w at (drop n w) h (x .2))
+        (read-where-stands (x .0 .house) (x .0 .kept) (both .0) (both .1) w at (drop n w) (x .2))
         ∙ ap next (sym (x .3)),
   )

@@ -1,12 +1,12 @@
 -- DEMAND 3, written and read back: where the entry of a house and a sound record stands in a run, reading there answers that
 -- house, that record and the offset behind the entry, whatever stands before it and behind it.
-use Prim.Native.Nat.{ℕ, _+_, _≤_}
+use Prim.Native.Nat.{ℕ, _+_, _-_, _≤_}
 use mathlib.Core.Path.{_≡_, refl, ap, sym, _∙_}
 use mathlib.Core.Bool.{true}
 use mathlib.Core.List.{List, _++_}
 use native.Mathlib.Omega.{arith}
 use borrow.Author.Tests.{ne-eqb, le-ltb}
-use lib.ListN.{length, take, drop, length-append, take-append-drop}
+use lib.ListN.{length, take, drop, length-append, length-drop, take-append-drop}
 use lib.Seq.{drop-at, length-take-le}
 use Rattle.zone.specs.declared.form.Recognised.the-variants.{As}
 use Rattle.zone.specs.declared.record.Record.{Record}
@@ -108,10 +108,13 @@ module _ (h : ℕ) (r : Record) (house : isHouse h ≡ true) (sound : isSound r 
         d .record-told,
       )
 
-  -- the same, said of the place
-  pub read-where-stands : (w : List ℕ) (at : ℕ) (rest : List ℕ) → at ≤ length w → drop at w ≡ entryOf h r ++ rest
+  -- the same, said of the place; past the end no entry stands
+  pub read-where-stands : (w : List ℕ) (at : ℕ) (rest : List ℕ) → drop at w ≡ entryOf h r ++ rest
       → readEntry w at ≡ record { onward = next (at + length (entryOf h r)); house = h; kept = r }
-  read-where-stands w at rest within there =
+  read-where-stands w at rest there =
+      let left : length w - at ≡ length (entryOf h r) + length rest = sym (length-drop at w)
+      ∙ (ap length there ∙ length-append (entryOf h r) rest) in
+      let within : at ≤ length w = omega (arith, some-octets, left) in
       let whole : take at w ++ (entryOf h r ++ rest) ≡ w = ap (λ (x : List ℕ). take at w ++ x) (sym there)
       ∙ take-append-drop at w in
       rw (whole, length-take-le at w within) at (read-back (take at w) rest)
