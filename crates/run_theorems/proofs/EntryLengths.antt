@@ -1,6 +1,6 @@
 -- DEMAND 3, lengths: the entry of a sound record with a name of n characters has 278 + 6n bits rounded up to bytes, 36 at n = 1
 -- and 64 at n = 39, and no entry has fewer or more.
-use Prim.Native.Nat.{ℕ, _≤_}
+use Prim.Native.Nat.{ℕ, _+_, _*_, _/_, _≤_}
 use mathlib.Core.Path.{_≡_}
 use mathlib.Core.Bool.{true}
 use native.Mathlib.Omega.{arith}
@@ -10,6 +10,11 @@ use Rattle.sound.specs.Sound.{isSound}
 use Rattle.entry.specs.Entry.{entryOf, size}
 use Rattle.sound.proofs.SoundRecord.{taken-apart}
 use Rattle.entry.proofs.Values.{length-entry}
+
+-- the formula itself, which the row of cells comes to
+pub entry-formula : (r : Record) → size r ≡ (278 + 6 * r .«name_len» + 7) / 8
+unfolding size
+entry-formula r = omega arith
 
 pub shortest-entry : (r : Record) → r .«name_len» ≡ 1 → size r ≡ 36
 unfolding size

@@ -10,7 +10,7 @@ pub mod ListReadBack
 pub mod OneAnswer
 -- DEMAND 3: any octets are read up to their end or to the first place where no entry stands (`read-any`)
 pub mod AnyRun
--- DEMAND 3: 278 + 6n bits rounded up (`entry-length`)
+-- DEMAND 3: 278 + 6n bits rounded up (`entry-length`, `entry-formula`)
 pub mod EntryLengths
 -- the expected digit where what was read is entered (`entered-told`)
 pub mod Expected
