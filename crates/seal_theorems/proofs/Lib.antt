@@ -33,7 +33,7 @@ pub mod ContentsByOctets
 pub mod TextsSealed
 -- the record of an accepted seal is sound (`seal-sound`)
 pub mod SealRecord
--- no second answer (`only-seal`, `only-header`), and what every refusal gives (`seal-blank`)
+-- no second answer (`only-seal`, `only-header`, `only-features`), and what every refusal gives (`seal-blank`)
 pub mod OneAnswer
 -- a seal's text has a text's characters, so that it is never refused by 2 (`filled-numbered`)
 pub mod TextCharacters

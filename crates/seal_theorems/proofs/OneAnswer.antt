@@ -1,5 +1,5 @@
--- NO SECOND ANSWER meets the promise of reading a seal (`only-seal`) or its header (`only-header`), and every refusal gives the
--- blank header, the blank record and no signature (`seal-blank`).
+-- NO SECOND ANSWER meets the promise of reading a seal (`only-seal`), its header (`only-header`) or its features
+-- (`only-features`), and every refusal gives the blank header, the blank record and no signature (`seal-blank`).
 use Prim.Native.Nat.{ℕ}
 use mathlib.Core.Path.{_≡_, ap, sym, _∙_}
 use mathlib.Core.List.{List}
@@ -9,6 +9,9 @@ use Rattle.refusal.proofs.Outcomes.{refused-not-passed}
 use Rattle.refusal.proofs.Numbers.{outcome-tells}
 use Rattle.zone.specs.Record.{blank}
 use Rattle.tlv.specs.Read.{Read, value, refusal}
+use Rattle.seal_features.specs.declared.features.Walked.{Walked}
+use Rattle.seal_features.specs.Features.{features, walkedOf}
+use Rattle.seal_features.proofs.Told.{features-tell}
 use Rattle.seal_header.specs.declared.header.Headed.{Headed}
 use Rattle.seal_header.specs.Header.{blankHeader, Heads}
 use Rattle.seal.specs.declared.read.Seal.{Seal}
@@ -34,6 +37,10 @@ only-header s r q e f =
     let b : r .header ≡ q .header = e .said ∙ sym (f .said) in
     let c : r .end ≡ q .end = e .ends ∙ sym (f .ends) in
     λ i. record { verdict = a i; header = b i; end = c i }
+
+-- nor the features'
+pub only-features : (s : List ℕ) (at : ℕ) (r q : Walked) → walkedOf r ≡ features s at → walkedOf q ≡ features s at → r ≡ q
+only-features s at r q e f = features-tell r q (e ∙ sym f)
 
 pub seal-blank : (s : List ℕ) (n : Why) (p : ℕ) → readSeal s .outcome ≡ refused n p
     → readSeal s
