@@ -1,6 +1,6 @@
 -- Which length and which next offset each answer gives, and what C receives of them.
 use Prim.Native.Nat.{ℕ}
-use mathlib.Core.Path.{_≡_, refl}
+use mathlib.Core.Path.{_≡_, refl, _∙_}
 use mathlib.Core.List.{List}
 use Rattle.refusal.specs.Numbers.{Why}
 use Rattle.refusal.specs.Length.{Length, written, refused}
@@ -14,25 +14,31 @@ use Rattle.border.specs.Answer.{inC}
 use Rattle.border.specs.Calls.{nextInC}
 use Rattle.as_entry.specs.Written.{writtenAnswer}
 use Rattle.lamphudet.specs.Calls.{readAnswer}
+use Rattle.run_theorems.specs.Expected.{numberTold, valueTold}
 use Rattle.demands.specs.Given.{lengthGiven, nextGiven, Gives}
+use Rattle.demands.proofs.NumbersInC.{number-in-c, value-in-c}
 use Rattle.demands.proofs.NotZero.{NotZero, read-text-not-zero, read-presentation-not-zero, write-text-not-zero}
 use Rattle.demands.proofs.NotZero.{digest-not-zero}
 use Rattle.demands.proofs.NextInC.{next-not-zero}
 
--- a call that writes
+-- a call that writes, of whose answer C receives a number and a value; number 0 is never a refusal
+pub gives-told : (l : Length) (number value : ℕ) → number ≡ numberTold l → value ≡ valueTold l
+    → ((why : Why) (p : ℕ) → l ≡ refused why p → number ≡ 0 → ⊥)
+    → Gives (λ p. (why : Why) × (l ≡ refused why p)) (lengthGiven l) number value
+gives-told (written n) number value a b some = record {
+  when-zero = λ zero. b;
+  when-refused = λ p x. absurd (some (x .0) p (x .1) a);
+}
+gives-told (refused why q) number value a b some = record {
+  when-zero = λ zero. absurd (some why q refl zero);
+  when-refused = λ p x. let same : q ≡ p = let e = x .1 in cc in (refl, b ∙ same);
+}
+
 abbrev GivesLength : Length → Type 0
 GivesLength l = Gives (λ p. (why : Why) × (l ≡ refused why p)) (lengthGiven l) (inC l .number) (inC l .value)
 
 gives-length : (l : Length) → NotZero l → GivesLength l
-unfolding inC
-gives-length (written n) some = record {
-  when-zero = λ zero. refl;
-  when-refused = λ p x. absurd (some (x .0) p (x .1) refl);
-}
-gives-length (refused why q) some = record {
-  when-zero = λ zero. absurd (some why q refl zero);
-  when-refused = λ p x. let same : q ≡ p = let e = x .1 in cc in (refl, same);
-}
+gives-length l some = gives-told l (inC l .number) (inC l .value) (number-in-c l) (value-in-c l) some
 
 pub read-text-gives : (house : ℕ) (t out : List ℕ) → GivesLength (readAnswer house (readText Alone t) out)
 read-text-gives house t out = gives-length _ (read-text-not-zero house t out)

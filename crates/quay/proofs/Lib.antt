@@ -5,3 +5,5 @@ pub mod Separation
 -- SEPARATION of a whole session: its run is read back, and under a house are exactly that house's calls (`session-read`,
 -- `session-own`)
 pub mod Session
+-- DEMAND 1, the length of every answer of reading a seal (`read-seal-gives`)
+pub mod SealGives

@@ -49,18 +49,19 @@ module _ (house : ℕ) (s out : List ℕ) where
   abbrev answer : Length
   answer = enteredAnswer (readSeal s .outcome) house (readSeal s .kept) out
 
-  same-number : inSeal .number ≡ numberTold answer
+  -- they are those of the answer
+  pub seal-number : inSeal .number ≡ numberTold answer
   unfolding readSealInC
-  same-number = number-in-c answer (readSeal s .header) (readSeal s .signature)
+  seal-number = number-in-c answer (readSeal s .header) (readSeal s .signature)
 
-  same-value : inSeal .value ≡ valueTold answer
+  pub seal-value : inSeal .value ≡ valueTold answer
   unfolding readSealInC
-  same-value = value-in-c answer (readSeal s .header) (readSeal s .signature)
+  seal-value = value-in-c answer (readSeal s .header) (readSeal s .signature)
 
   pub read-seal-exactly : areOctets s
       → (inSeal .number ≡ 0) ↔ Allowed ((p : Contents) × (s ≡ octetsOf p) × Sealed p) house (readSeal s .kept) out
   read-seal-exactly small =
-      rw same-number
+      rw seal-number
       (zero-allowed house (readSeal s .kept) out ofSeal (refl, refl, refl) (readSeal s .outcome) (seal-numbered s)
       (seal-sound s) _ (sealed-exactly s small))
 
@@ -68,26 +69,26 @@ module _ (house : ℕ) (s out : List ℕ) where
       → Leaves (entryOf house (readSeal s .kept)) out (inSeal .value) (readSealOut house s out)
   unfolding readSealOut
   read-seal-leaves =
-      rw (same-number, same-value)
+      rw (seal-number, seal-value)
       (zero-leaves house (readSeal s .kept) out ofSeal (refl, refl, refl) (readSeal s .outcome) (seal-numbered s) (seal-sound s))
 
   pub read-seal-house : (inSeal .number ≡ 17) ↔ ((readSeal s .outcome ≡ passed) × (isHouse house ≡ false))
   read-seal-house =
-      rw same-number
+      rw seal-number
       (seventeen-exactly house (readSeal s .kept) out ofSeal (refl, refl, refl) (readSeal s .outcome) (seal-numbered s)
       (seal-sound s))
 
   pub read-seal-not-zero : (why : Why) (p : ℕ) → answer ≡ refused why p → inSeal .number ≡ 0 → ⊥
   read-seal-not-zero why p denied zero =
       zero-no-refusal house (readSeal s .kept) out ofSeal (refl, refl, refl) (readSeal s .outcome) (seal-numbered s)
-      (seal-sound s) why p denied (sym same-number ∙ zero)
+      (seal-sound s) why p denied (sym seal-number ∙ zero)
 
   -- DEMAND 1: a refusal has one of a seal's numbers, 16 or 17, and a place no further than the end, and leaves every octet; a
   -- success changes the octets that it reports and no others
   pub read-seal-answers : AnswersInC (entered ofSeal) (length s) out (inSeal .number) (inSeal .value) (readSealOut house s out)
   unfolding readSealOut
   read-seal-answers =
-      rw (same-number, same-value)
+      rw (seal-number, seal-value)
       (answers-in-c (entered ofSeal) refl (length s) out answer _
       (entered-answers (length s) house (readSeal s .kept) out ofSeal (readSeal s .outcome)
       (λ why p e. (told-of ofSeal why (seal-numbered s why p e), seal-within s why p e))))
@@ -95,4 +96,4 @@ module _ (house : ℕ) (s out : List ℕ) where
   -- with 0 what was read is entered
   pub seal-enters : inSeal .number ≡ 0 → Enters (readSeal s .outcome) house (readSeal s .kept) out
   seal-enters zero = zero-enters house (readSeal s .kept) out ofSeal (refl, refl, refl) (readSeal s .outcome)
-      (seal-numbered s) (seal-sound s) (sym same-number ∙ zero)
+      (seal-numbered s) (seal-sound s) (sym seal-number ∙ zero)
