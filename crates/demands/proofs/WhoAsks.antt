@@ -6,16 +6,17 @@ use mathlib.Core.Bool.{Bool, true, false, not, _&&_}
 use mathlib.Core.List.{List}
 use lib.ListN.{getD}
 use Rattle.refusal.specs.Numbers.{by}
-use Rattle.refusal.specs.Outcome.{refused}
+use Rattle.refusal.specs.Outcome.{refused, unless}
 use Rattle.zone.specs.declared.form.Form.{Form}
 use Rattle.zone.specs.declared.form.Source.{Source}
 use Rattle.zone.specs.declared.form.Recognised.the-variants.{Unknown}
 use Rattle.zone.specs.Alphabet.{isFiller}
 use Rattle.zone.specs.Part.{number}
-use Rattle.zone.specs.Form.{formOf, field}
+use Rattle.zone.specs.Form.{formOf, start, field}
 use Rattle.zone.specs.Record.{blank}
 use Rattle.text_digits.specs.declared.number.Span.the-variants.{Bad}
 use Rattle.text_digits.specs.Number.{spanRule, numberRule}
+use Rattle.text.specs.Order.{fieldRows, fieldCheck}
 use Rattle.text.specs.Read.{readText, readBy, answered}
 use Rattle.runs.specs.Run.{formIn, entryBy, noEntry}
 use Rattle.tlv.specs.Read.{refusal}
@@ -33,12 +34,12 @@ pub no-form-entered : (s : List ℕ) (at : ℕ) → formIn s ≡ Unknown → ent
 unfolding entryBy
 no-form-entered s at e = rw e
 
--- the rule of the number does not hold
-pub no-end-no-number : (f : Form) (t : List ℕ) → numberRule f t Bad ≡ false
-unfolding numberRule spanRule
-no-end-no-number f t = never (not (isFiller (getD (field f number t) 0 0)))
+-- 5 at the number's start
+pub no-end-read : (f : Form) (t : List ℕ) → fieldCheck f t Bad number ≡ refused (by 5) (start f number)
+unfolding fieldRows numberRule spanRule
+no-end-read f t = never (not (isFiller (getD (field f number t) 0 0)))
   where
-    never : (b : Bool) → (b && false) ≡ false
+    never : (b : Bool) → unless (b && false) 5 (start f number) ≡ refused (by 5) (start f number)
     never true = refl
     never false = refl
 
