@@ -31,7 +31,7 @@ pub mod Spaced
 pub mod ContentsByOctets
 -- every accepted text of 72 characters is carried by an accepted seal (`every-text-sealed`)
 pub mod TextsSealed
--- the record of an accepted seal is sound (`seal-sound`)
+-- the record of an accepted seal is an accepted text's (`seal-held`), and so sound (`seal-sound`)
 pub mod SealRecord
 -- no second answer (`only-seal`, `only-header`, `only-features`), and what every refusal gives (`seal-blank`)
 pub mod OneAnswer

@@ -1,4 +1,5 @@
--- THE RECORD of an accepted seal is sound (`seal-sound`), whatever numbers it was read from, since it is an accepted text's.
+-- THE RECORD of an accepted seal is sound (`seal-sound`), whatever numbers it was read from, since it is an accepted text's
+-- (`seal-held`).
 use Prim.Native.Nat.{ℕ}
 use mathlib.Core.Path.{_≡_, ap, _∙_}
 use mathlib.Core.Bool.{true}
@@ -12,7 +13,7 @@ use Rattle.seal.specs.Seal.{textIn, saidIn, readSeal}
 use Rattle.text_theorems.proofs.RecordOfText.{kept-and-sound}
 use Rattle.seal_theorems.proofs.Stages.{taken-apart, passed-value}
 
-seal-held : (s : List ℕ) → readSeal s .outcome ≡ passed
+pub seal-held : (s : List ℕ) → readSeal s .outcome ≡ passed
     → (t : List ℕ) × (readText Seal t .outcome ≡ passed) × (readSeal s .kept ≡ readText Seal t .kept)
 unfolding readSeal
 seal-held s e =
