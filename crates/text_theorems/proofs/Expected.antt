@@ -133,10 +133,10 @@ tells-verdict f t =
 -- ---- the text
 
 -- every refusal of a text of a form tells what it should; that of another length is 1
-pub text-tells : (source : Source) (t : List ℕ) (n : Why) (p : ℕ) → readText source t .outcome ≡ refused n p
+pub refusal-tells : (source : Source) (t : List ℕ) (n : Why) (p : ℕ) → readText source t .outcome ≡ refused n p
     → (n ≡ by 1) ⊎ ((f : Form) × (formOf source t ≡ As f) × Tells f t n p)
 unfolding readText readBy
-text-tells source t n p e = go (formOf source t) refl e
+refusal-tells source t n p e = go (formOf source t) refl e
   where
     go : (told : Recognised) → formOf source t ≡ told → readBy told t .outcome ≡ refused n p
         → (n ≡ by 1) ⊎ ((f : Form) × (formOf source t ≡ As f) × Tells f t n p)
@@ -150,7 +150,7 @@ text-tells source t n p e = go (formOf source t) refl e
 -- so it has one of a text's numbers
 pub text-numbered : (source : Source) (t : List ℕ) → Each (λ why p. tells ofText why ≡ true) (readText source t .outcome)
 text-numbered source t (expecting d) p e = refl
-text-numbered source t (by n) p e = go (text-tells source t (by n) p e)
+text-numbered source t (by n) p e = go (refusal-tells source t (by n) p e)
   where
     go : (by n ≡ by 1) ⊎ ((f : Form) × (formOf source t ≡ As f) × (tells ofText (by n) ≡ true)) → tells ofText (by n) ≡ true
     go (inl q) = ap (tells ofText) q
@@ -165,7 +165,7 @@ nine-tells source t (by n) p e h = absurd (plain-not-nine ofText n (text-numbere
 -- and the digit is the one expected at its place
 pub digit-told : (source : Source) (t : List ℕ) (d p : ℕ) → readText source t .outcome ≡ refused (expecting d) p
     → (f : Form) × (formOf source t ≡ As f) × Expected f t d p
-digit-told source t d p e = go (text-tells source t (expecting d) p e)
+digit-told source t d p e = go (refusal-tells source t (expecting d) p e)
   where
     go : (expecting d ≡ by 1) ⊎ ((f : Form) × (formOf source t ≡ As f) × Expected f t d p)
         → (f : Form) × (formOf source t ≡ As f) × Expected f t d p
