@@ -15,7 +15,8 @@ nextGiven (run.next offset) = offset
 nextGiven run.none = 0
 nextGiven (run.refused why place) = 0
 
--- what C receives beside the number: with 0 what the answer gives, and with a refusal its place, over nothing given
+-- what C receives beside the number: with 0 what the answer gives, and with a refusal its place, where the length or offset
+-- given is 0
 pub record Gives (refuses : ℕ → Type 0) (given number value : ℕ) : Type 0 where
   pub when-zero : number ≡ 0 → value ≡ given
   pub when-refused : (place : ℕ) → refuses place → (given ≡ 0) × (value ≡ place)

@@ -1,6 +1,6 @@
--- What the C calls that are lent octets promise, a record for each with the lines of its `ensures` (lamphudet, src/lib.rt): what
--- C receives, what the range holds afterwards, and that what was lent is octets. So what is shown of octets is shown of every
--- call.
+-- What the C calls that are lent octets promise, with the lines of their `ensures` (lamphudet, src/lib.rt): what C receives, what
+-- the range holds afterwards, and that what was lent is octets. So what is shown of octets is shown of every call. A record for
+-- each but the digest, of which nothing is shown that asks for octets.
 use Prim.Native.Nat.{ℕ}
 use mathlib.Core.Path.{_≡_}
 use mathlib.Core.List.{List}

@@ -32,7 +32,7 @@ values (x of c ∷ ps) h r = said h r x ∷ values ps h r
 unfoldable pub entryOf : ℕ → Record → List ℕ
 entryOf h r = octetsOf (cells row) (values row h r)
 
--- how many characters the parts have that tell how many
+-- the lengths of the counted cells, in the row's order
 abbrev pub lengths : Record → List ℕ
 lengths r = r .«name_len» ∷ []
 

@@ -21,6 +21,6 @@ ruleRows f s =
     ∷ name is nameRule s
     ∷ []
 
--- whether what stands for a part keeps its rule
+-- whether what stands for a part keeps its rule; true where no row has one
 abbrev pub rule : Form → Part → List ℕ → Bool
 rule f x s = inRows true (ruleRows f s) x

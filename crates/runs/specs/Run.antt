@@ -45,14 +45,14 @@ pub record Standing : Type 0 where
 unfoldable pub standingOf : code.Standing → Standing
 standingOf r = record { onward = onwardOf (r .step); house = r .house; kept = r .kept }
 
--- what a part says: one number, or characters
+-- what the values of a row say of a part: one number, or characters
 abbrev pub numberOf : List (List ℕ) → Part → ℕ
 numberOf vs x = getD (valueOf vs x) 0 0
 
 abbrev pub charactersOf : List (List ℕ) → Part → List ℕ
 charactersOf vs x = map characterOf (valueOf vs x)
 
--- what they say of a field: the number without the fillers that fill it up
+-- what the values of a row say of a field: the number without the fillers that fill it up
 unfoldable pub saidOf : List (List ℕ) → text.Part → List ℕ
 saidOf vs x =
     inRows (charactersOf vs (field x))

@@ -29,7 +29,7 @@ pub mod Acceptance
 pub mod Spaced
 -- the octets of a seal tell its contents (`seal-octets-tell`)
 pub mod ContentsByOctets
--- every accepted text of 72 characters is carried by an accepted seal (`every-text-sealed`)
+-- every text of 72 characters that is accepted in a seal is carried by an accepted seal (`every-text-sealed`)
 pub mod TextsSealed
 -- the record of an accepted seal is an accepted text's (`seal-held`), and so sound (`seal-sound`)
 pub mod SealRecord

@@ -1,5 +1,6 @@
--- ACCEPTANCE is not empty for seals: every accepted text of 72 characters is carried by octets that are accepted, with the text's
--- own record (`every-text-sealed`). So no reader that refuses everything, or always hands out the same record, meets it.
+-- ACCEPTANCE is not empty for seals: every text of 72 characters that is accepted in a seal is carried by octets that are
+-- accepted, with the text's own record (`every-text-sealed`). So no reader that refuses everything, or always hands out the same
+-- record, meets it.
 use Prim.Native.Nat.{ℕ, _+_, _≤_}
 use mathlib.Core.Path.{_≡_, refl, ap, sym, _∙_, subst}
 use mathlib.Core.Logic.{inl}

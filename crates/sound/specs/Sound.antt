@@ -14,7 +14,7 @@ use Rattle.zone.specs.declared.record.Record.{Record}
 use Rattle.field.specs.Letters.{nameRule}
 use Rattle.field.specs.Rules.{rule}
 
--- fits: the places that each field has in a record
+-- each field has as many places as the record has for it; in the code its types say so
 unfoldable pub isShaped : Record → Bool
 isShaped r =
     allRows (λ x room. eqb (length (held r x)) room) plain

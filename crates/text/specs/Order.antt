@@ -16,7 +16,7 @@ use Rattle.text_digits.specs.Number.{numberRule}
 use Rattle.text_digits.specs.Digits.{digitCheck, inOrder}
 use Rattle.text_digits.specs.declared.number.Span.{Span}
 
--- 2: a character that is none, at the first such
+-- 2: a character that is not of the alphabet, at the first such
 unfoldable pub characters : List ℕ → Outcome
 characters t = unless (eqb (firstForeign t) (length t)) 2 (firstForeign t)
 

@@ -21,7 +21,7 @@ byPart rows [] = []
 byPart rows (x ∷ xs) = inRows [] rows x ++ byPart rows xs
 
 -- "Order: 1, 2, then 3 to 8 by field in text order, then check digits in text order": 1, a text of no form that may stand there,
--- at its start; 2 at the first character that is none
+-- at its start; 2 at the first character that is not of the alphabet
 unfoldable pub checksBy : Recognised → List ℕ → List Outcome
 checksBy Unknown t = refused (by 1) 0 ∷ []
 checksBy (As f) t =

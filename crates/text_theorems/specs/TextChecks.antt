@@ -25,8 +25,8 @@ use Rattle.text_theorems.specs.Accepted.{fillerAt}
 unfoldable pub isEnded : Form → List ℕ → Bool
 isEnded f t = leb 2 (fillerAt f t) && ltb (fillerAt f t) (width f optional)
 
--- 3 document code; 4 state or nationality; 5 document number, which "does not begin with `<`"; 6 date; 7 sex; 8 name: each at
--- the "field start"
+-- 3 document code; 4 state or nationality; 5 document number, which "does not begin with `<`"; 6 date; 7 sex; 8 name: each at its
+-- "field start", the sex at "its place"
 unfoldable pub fieldChecks : Form → List ℕ → List (PartRow (List Outcome))
 fieldChecks f t =
     code is (unless (codeRule f (field f code t)) 3 (start f code) ∷ [])
@@ -46,8 +46,8 @@ unfoldable pub nineAt : List ℕ → ℕ → List ℕ → List Outcome
 nineAt t place covers = refusedUnless (eqb (getD t place 0) (digitOf covers)) (expecting (checkOf covers)) place ∷ []
 
 -- a short number's check digit at its check place, a long one's before the first filler of the optional field: it "runs over the
--- nine and the further characters, skipping the filler between"; those of birth, expiry and personal number, unless this one is
--- left out; the composite
+-- nine and the further characters, skipping the filler between"; those of birth and expiry, and that of the personal number
+-- unless it is left out (document 02, 2026-02); the composite
 unfoldable pub digitChecks : Form → List ℕ → List (PartRow (List Outcome))
 digitChecks f t =
     numberCheck is cond (isLong f t) [] (nineAt t (start f numberCheck) (field f number t))

@@ -1,5 +1,6 @@
 -- Which version of the libraries this is. No paper says it: docs/DECISIONS.md has what raises which number. Headers, Makefile and
--- pkg-config files have the same three, and the one of them below, to which `tests/manual/run` holds them.
+-- pkg-config files have the same three numbers, and the header the one number below; `tests/manual/run` holds them to this file,
+-- and the prover `src/lib.rt`.
 use Prim.Native.Nat.{ℕ, _+_, _*_}
 
 abbrev pub major : ℕ

@@ -37,8 +37,8 @@ atCheck r = cond (isWide r) filler (digitOf (take nine (r .number)))
 unfoldable pub inOptional : Record → List ℕ
 inOptional r = cond (isWide r) (furtherIn r ++ (digitOf (numberIn r) ∷ [])) []
 
--- what each part is given, but for the composite: the rooms of number and name, check digits, 0 as TD3's personal check; every
--- other part what the record holds of it
+-- what each part is given, but for the composite: number and name as they stand in the record, with the fillers behind them,
+-- check digits, 0 as TD3's personal check; every other part what the record holds of it
 unfoldable pub givenRows : Record → List (PartRow (List ℕ))
 givenRows r =
     number is (r .number)

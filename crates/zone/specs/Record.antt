@@ -26,11 +26,12 @@ trimmed s = take (trimmedLength s) s
 unfoldable pub padded : ℕ → List ℕ → List ℕ
 padded n s = take n s ++ replicate (n - length s) filler
 
--- the fields that have one width in every form, and so many characters in every record; number and name have lengths of their own
+-- the fields of one width in every form, each with that width; number and name are not among them: they have lengths of their own
 unfoldable pub plain : List (PartRow ℕ)
 plain =
     code is codeRoom ∷ state is stateRoom ∷ nationality is stateRoom ∷ birth is dateRoom ∷ sex is 1 ∷ expiry is dateRoom ∷ []
 
+-- how many characters, 0 of a part that is not plain
 abbrev pub room : Part → ℕ
 room x = inRows 0 plain x
 
