@@ -12,7 +12,7 @@ use Rattle.lent.proofs.Bools.{and-both}
 use Rattle.zone.specs.Alphabet.{isCharacter, every}
 use Rattle.zone.specs.Codes.{codeOf}
 use Rattle.zone.specs.Part.{Part, code, state, nationality, birth, sex, expiry}
-use Rattle.zone.specs.Record.{plain, room, isPlain, heldRows, held}
+use Rattle.zone.specs.Record.{plain, plainRoom, isPlain, heldRows, held}
 use Rattle.zone.specs.Rooms.{numberRoom}
 use Rattle.field.specs.Rules.{ruleRows}
 use Rattle.zone.specs.declared.record.Record.{Record}
@@ -43,8 +43,8 @@ coded n c l p = (length-map c codeOf ∙ l, codes-held c p)
 
 module _ (r : Record) (s : Sound r) where
   plain-coded : (x : Part) → isPlain x ≡ true
-      → (length (map codeOf (held r x)) ≡ room x) × (every (isHeld 6) (map codeOf (held r x)) ≡ true)
-  plain-coded x p = coded (room x) (held r x) (s .places x p) (s .characters x p)
+      → (length (map codeOf (held r x)) ≡ plainRoom x) × (every (isHeld 6) (map codeOf (held r x)) ≡ true)
+  plain-coded x p = coded (plainRoom x) (held r x) (s .places x p) (s .characters x p)
 
   pub name-taken : length (take (r .«name_len») (r .name)) ≡ r .«name_len»
   name-taken = length-take-le (r .«name_len») (r .name) (omega (arith, s .name-most, s .name-places))

@@ -16,7 +16,7 @@ use Rattle.zone.specs.declared.form.Kind.{Kind}
 use Rattle.zone.specs.declared.form.Kind.the-variants.{Card, Passport}
 use Rattle.zone.specs.Form.{row}
 use Rattle.zone.specs.Part.{Part}
-use Rattle.zone.specs.Record.{room, isPlain}
+use Rattle.zone.specs.Record.{plainRoom, isPlain}
 use Rattle.field.specs.Code.{codeRule, kindRule, cardRule, passportRule, isCardLetter, isSecond}
 use Rattle.field.specs.Letters.{stateRule, lettersThenFillers, sexRule, isNameCharacter}
 use Rattle.field.specs.declared.date.Pair.{Pair}
@@ -184,7 +184,7 @@ one-pure s l e = every-each isCharacter s go
     go (suc i) h = absurd (omega arith)
 
 -- so of every field that has one width
-pub plain-pure : (f : Form) (s : List ℕ) (x : Part) → isPlain x ≡ true → length s ≡ room x → rule f x s ≡ true
+pub plain-pure : (f : Form) (s : List ℕ) (x : Part) → isPlain x ≡ true → length s ≡ plainRoom x → rule f x s ≡ true
     → every isCharacter s ≡ true
 unfolding ruleRows
 plain-pure f s = each-plain (λ x n. length s ≡ n → rule f x s ≡ true → every isCharacter s ≡ true) (code-pure f s) (state-pure s)

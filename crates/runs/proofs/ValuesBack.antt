@@ -9,7 +9,7 @@ use lib.Seq.{take-all}
 use Rattle.zone.specs.Alphabet.{isCharacter, every}
 use Rattle.zone.specs.Codes.{codeOf, characterOf}
 use Rattle.zone.specs.Part.{Part, code, state, number, nationality, birth, sex, expiry, name}
-use Rattle.zone.specs.Record.{trimmed, padded, plain, room, isPlain, heldRows, held, holding}
+use Rattle.zone.specs.Record.{trimmed, padded, plain, plainRoom, isPlain, heldRows, held, holding}
 use Rattle.zone.specs.Rooms.{stateRoom, numberRoom, nameRoom}
 use Rattle.zone.specs.declared.form.Form.{Form}
 use Rattle.zone.specs.declared.form.Recognised.the-variants.{As}
@@ -47,12 +47,12 @@ record-back house r s =
 
 -- and the values that bits say are those of the record that they say, where it is sound
 module _ (f : Form) (s : List ℕ) (told : formIn s ≡ As f) (o : Sound (recordIn f s)) where
-  plain-back : (x : Part) → isPlain x ≡ true → saidOf (valuesIn s) x ≡ map characterOf (numbersAt s (start x) (room x) 6)
-      → map codeOf (held (recordIn f s) x) ≡ numbersAt s (start x) (room x) 6
+  plain-back : (x : Part) → isPlain x ≡ true → saidOf (valuesIn s) x ≡ map characterOf (numbersAt s (start x) (plainRoom x) 6)
+      → map codeOf (held (recordIn f s) x) ≡ numbersAt s (start x) (plainRoom x) 6
   unfolding recordIn recordOf
   plain-back x p e =
-      let v = numbersAt s (start x) (room x) 6 in
-      let long = ap length e ∙ length-map v characterOf ∙ length-numbers s (start x) (room x) 6 in
+      let v = numbersAt s (start x) (plainRoom x) 6 in
+      let long = ap length e ∙ length-map v characterOf ∙ length-numbers s (start x) (plainRoom x) 6 in
       let here = held-plain f (saidOf (valuesIn s)) x p long ∙ e in
       ap (map codeOf) here ∙ characters-tell v (ap (every isCharacter) (sym here) ∙ o .characters x p)
 

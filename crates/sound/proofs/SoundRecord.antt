@@ -14,7 +14,7 @@ use Rattle.zone.specs.declared.record.Record.{Record}
 use Rattle.zone.specs.Part.{Part, code, state, nationality, birth, sex, expiry, name}
 use Rattle.zone.specs.Form.{width, longest}
 use Rattle.zone.specs.Rooms.{nine, numberRoom, nameRoom}
-use Rattle.zone.specs.Record.{trimmedLength, plain, room, isPlain, heldRows, held, holding}
+use Rattle.zone.specs.Record.{trimmedLength, plain, plainRoom, isPlain, heldRows, held, holding}
 use Rattle.field.specs.Letters.{nameRule, isNameCharacter}
 use Rattle.field.specs.Rules.{rule}
 use Rattle.sound.specs.Sound.{isSound, isShaped, keepsRules, isHeld, isSolid, isNumber, isNumbered, isNamed}
@@ -28,7 +28,7 @@ use Rattle.field.proofs.Characters.{plain-pure, name-pure}
 
 pub record Sound (r : Record) : Type 0 where
   -- the fields of one width
-  pub places : (x : Part) → isPlain x ≡ true → length (held r x) ≡ room x
+  pub places : (x : Part) → isPlain x ≡ true → length (held r x) ≡ plainRoom x
   pub kept : (x : Part) → isPlain x ≡ true → rule (r .form) x (held r x) ≡ true
   pub characters : (x : Part) → isPlain x ≡ true → every isCharacter (held r x) ≡ true
   -- the number and the name
@@ -71,8 +71,8 @@ taken-apart r e =
     (written .1) in
     let named = and-both _ _ (both .1) in
     let m = apart (width (r .form) name) (r .name) (r .«name_len») (named .0) in
-    let places : (x : Part) → isPlain x ≡ true → length (held r x) ≡ room x = λ x p.
-    eqb-true (length (held r x)) (room x) (plain-passes (λ y k. eqb (length (held r y)) k) (rooms .0) x p) in
+    let places : (x : Part) → isPlain x ≡ true → length (held r x) ≡ plainRoom x = λ x p.
+    eqb-true (length (held r x)) (plainRoom x) (plain-passes (λ y k. eqb (length (held r y)) k) (rooms .0) x p) in
     let kept : (x : Part) → isPlain x ≡ true → rule (r .form) x (held r x) ≡ true =
     plain-passes (λ y k. rule (r .form) y (held r y)) (rules .0) in
     let number-long = eqb-true (length (r .number)) numberRoom (long .0) in

@@ -17,7 +17,7 @@ use Rattle.zone.specs.declared.record.Record.{Record}
 use Rattle.zone.specs.Part.{Part, number, optional, name}
 use Rattle.zone.specs.Rooms.{numberRoom, nameRoom}
 use Rattle.zone.specs.Form.{start, width, total, longest, field}
-use Rattle.zone.specs.Record.{trimmedLength, trimmed, padded, room, isPlain, heldRows, held, holding}
+use Rattle.zone.specs.Record.{trimmedLength, trimmed, padded, plainRoom, isPlain, heldRows, held, holding}
 use Rattle.zone.proofs.Widths.{within, fixed, name-room, some-name, longest-number}
 use Rattle.zone.proofs.Holding.{each-plain, passes-plain, plain-width, held-plain}
 use Rattle.zone.proofs.Padded.{padded-spare, padded-trimmed, length-padded, take-padded, trimmed-le, trimmed-length}
@@ -185,7 +185,7 @@ module _ (f : Form) (t : List ℕ) (k : Keeps f t) where
   unfolding isShaped recordBy holding inText
   shaped =
       both-and
-      (passes-plain (λ x n. eqb (length (held told x)) n) (λ x p. eq-eqb (length (held told x)) (room x)
+      (passes-plain (λ x n. eqb (length (held told x)) n) (λ x p. eq-eqb (length (held told x)) (plainRoom x)
       (ap length (plain-in x p) ∙ field-length f x t (k .size) ∙ plain-width f x p)))
       (both-and (eq-eqb _ numberRoom (length-padded numberRoom (numberBy f t (spanOf f t))))
       (eq-eqb _ nameRoom (length-padded nameRoom (trimmed (field f name t)))))

@@ -14,29 +14,29 @@ use Rattle.zone.specs.Part.{Part, code, state, number, nationality, birt
 use Rattle.zone.specs.Rows.{allRows}
 use Rattle.zone.specs.Form.{width}
 use Rattle.zone.specs.Rooms.{codeRoom, stateRoom, dateRoom, numberRoom, nameRoom}
-use Rattle.zone.specs.Record.{trimmedLength, trimmed, padded, plain, room, isPlain, heldRows, held, holding}
+use Rattle.zone.specs.Record.{trimmedLength, trimmed, padded, plain, plainRoom, isPlain, heldRows, held, holding}
 use Rattle.zone.proofs.Padded.{padded-exact, padded-trimmed, trimmed-le}
 use Rattle.zone.proofs.Parts.{in-rows, _and_, all-said, rows-then, rows-pass, pass-rows}
 use Rattle.zone.proofs.Widths.{fixed}
 
 -- what holds of each plain field, with its room
 pub each-plain : (P : Part → ℕ → Type 0) → P code codeRoom → P state stateRoom → P nationality stateRoom → P birth dateRoom
-    → P sex 1 → P expiry dateRoom → (x : Part) → isPlain x ≡ true → P x (room x)
+    → P sex 1 → P expiry dateRoom → (x : Part) → isPlain x ≡ true → P x (plainRoom x)
 unfolding plain
 each-plain P a b c d e f = in-rows (λ x n. ltb 0 n ≡ true → P x n) 0 plain (λ x h. absurd (false≢true h))
     ((λ h. a) and (λ h. b) and (λ h. c) and (λ h. d) and (λ h. e) and (λ h. f) and all-said)
 
-pub plain-passes : (p : Part → ℕ → Bool) → allRows p plain ≡ true → (x : Part) → isPlain x ≡ true → p x (room x) ≡ true
+pub plain-passes : (p : Part → ℕ → Bool) → allRows p plain ≡ true → (x : Part) → isPlain x ≡ true → p x (plainRoom x) ≡ true
 plain-passes p e = in-rows (λ x n. ltb 0 n ≡ true → p x n ≡ true) 0 plain (λ x h. absurd (false≢true h))
     (rows-then plain (λ x n e h. e) (rows-pass p plain e))
 
-pub passes-plain : (p : Part → ℕ → Bool) → ((x : Part) → isPlain x ≡ true → p x (room x) ≡ true) → allRows p plain ≡ true
+pub passes-plain : (p : Part → ℕ → Bool) → ((x : Part) → isPlain x ≡ true → p x (plainRoom x) ≡ true) → allRows p plain ≡ true
 unfolding plain
 passes-plain p h = pass-rows p plain
     (h code refl and h state refl and h nationality refl and h birth refl and h sex refl and h expiry refl and all-said)
 
 -- in every form it is as wide as its room
-pub plain-width : (f : Form) (x : Part) → isPlain x ≡ true → width f x ≡ room x
+pub plain-width : (f : Form) (x : Part) → isPlain x ≡ true → width f x ≡ plainRoom x
 plain-width f =
     let w = fixed f in
     each-plain (λ x n. width f x ≡ n) (w .code-width) (w .state-width) (w .nationality-width) (w .birth-width) (w .sex-width)
@@ -48,7 +48,8 @@ one-held (c ∷ []) e = refl
 one-held (c ∷ (d ∷ s)) e = absurd (omega arith)
 
 -- what fits its room is held
-pub held-plain : (f : Form) (g : Part → List ℕ) (x : Part) → isPlain x ≡ true → length (g x) ≡ room x → held (holding f g) x ≡ g x
+pub held-plain : (f : Form) (g : Part → List ℕ) (x : Part) → isPlain x ≡ true → length (g x) ≡ plainRoom x
+    → held (holding f g) x ≡ g x
 unfolding heldRows holding
 held-plain f g = each-plain (λ x n. length (g x) ≡ n → held (holding f g) x ≡ g x) (padded-exact codeRoom (g code))
     (padded-exact stateRoom (g state)) (padded-exact stateRoom (g nationality)) (padded-exact dateRoom (g birth))
@@ -81,7 +82,7 @@ pub held-length : (n : ℕ) (s : List ℕ) → trimmedLength s ≡ n → length 
 held-length n s e = length-take-le n s (omega (arith, trimmed-le s))
 
 -- a record with fillers in every place past its lengths is that of what it holds
-pub holding-held : (r : Record) → ((x : Part) → isPlain x ≡ true → length (held r x) ≡ room x)
+pub holding-held : (r : Record) → ((x : Part) → isPlain x ≡ true → length (held r x) ≡ plainRoom x)
     → length (r .number) ≡ numberRoom → trimmedLength (r .number) ≡ r .«number_len»
     → length (r .name) ≡ nameRoom → trimmedLength (r .name) ≡ r .«name_len» → holding (r .form) (held r) ≡ r
 unfolding holding heldRows plain

@@ -32,11 +32,11 @@ plain =
     code is codeRoom ∷ state is stateRoom ∷ nationality is stateRoom ∷ birth is dateRoom ∷ sex is 1 ∷ expiry is dateRoom ∷ []
 
 -- how many characters, 0 of a part that is not plain
-abbrev pub room : Part → ℕ
-room x = inRows 0 plain x
+abbrev pub plainRoom : Part → ℕ
+plainRoom x = inRows 0 plain x
 
 abbrev pub isPlain : Part → Bool
-isPlain x = ltb 0 (room x)
+isPlain x = ltb 0 (plainRoom x)
 
 -- the characters that a record holds of each part
 unfoldable pub heldRows : Record → List (PartRow (List ℕ))
