@@ -1,4 +1,5 @@
-//! The entry and the run, from document 01, "The entry, most significant bit first".
+//! The entry and the run, from document 01, "The entry, most significant bit first", and document 02, request 2026-05:
+//! "entries with form 3 and 4".
 
 use crate::field::{trimmed, FILLER};
 use crate::form::Form;
@@ -144,6 +145,28 @@ mod tests {
         assert_eq!(entry.len(), 43);
         assert_eq!(entry[..6], [0x00, 0x02, 0x9f, 0x79, 0x95, 0x48]);
         assert_eq!(read(&entry), Some((1, t3(), 43)));
+    }
+
+    /// The forms of an entry's bits, from the sixteenth on: 3 for MRV-A, 4 for MRV-B, and none for 5 to 7.
+    #[test]
+    fn the_forms_of_visas() {
+        for (text, code) in [(specimens::ERIKSSON_MRV_A, 3), (specimens::ERIKSSON_MRV_B, 4)] {
+            let record = text::read(text.as_bytes()).unwrap();
+            let entry = write(1, &record);
+            assert_eq!((entry[1] & 1, entry[2] >> 6), (code >> 2, code & 3));
+            assert_eq!(entry.len(), (278 + 6 * 20 + 7) / 8);
+            assert_eq!(read(&entry), Some((1, record.clone(), entry.len())));
+            let long = Record { number: b"L8988901C4".to_vec(), ..record.clone() };
+            assert!(read(&write(1, &long)).is_none());
+            assert!(read(&write(1, &Record { code: *b"P<", ..record.clone() })).is_none());
+            let longest = record.form.longest_name();
+            let named = |length| read(&write(1, &Record { name: vec![b'N'; length], ..record.clone() }));
+            assert!(named(longest).is_some() && named(longest + 1).is_none());
+            for other in 5..8 {
+                let octets = [(entry[1] & !1) | other >> 2, (entry[2] & 0x3f) | (other & 3) << 6];
+                assert!(read(&[&entry[..1], &octets, &entry[3..]].concat()).is_none());
+            }
+        }
     }
 
     #[test]

@@ -1,4 +1,4 @@
-//! The alphabet, the check digit and the rule of each field, from document 01, "The text".
+//! The alphabet, the check digit and the rule of each field, from document 01, "The text", and document 02, request 2026-05.
 
 use crate::form::Form;
 
@@ -65,7 +65,13 @@ pub fn is_code(form: Form, code: &[u8]) -> bool {
     match form {
         Form::Td3 => code[0] == b'P' && second,
         Form::Td1 | Form::Td2 => matches!(code[0], b'A' | b'C' | b'I') && second && code[1] != b'V' && code != b"AC",
+        Form::MrvA | Form::MrvB => selects_visa(code),
     }
+}
+
+/// Whether a text, or its code alone, begins as a visa's: "Code V and a letter or `<` selects them".
+pub fn selects_visa(text: &[u8]) -> bool {
+    matches!(text, [b'V', second, ..] if is_letter(*second) || *second == FILLER)
 }
 
 /// An issuing state or a nationality: one to three letters, then fillers.
@@ -147,6 +153,10 @@ mod tests {
         assert!(is_code(Form::Td3, b"P<") && is_code(Form::Td3, b"PV") && !is_code(Form::Td3, b"P0"));
         assert!(is_code(Form::Td1, b"AB") && !is_code(Form::Td1, b"AC") && is_code(Form::Td2, b"IC"));
         assert!(!is_code(Form::Td1, b"IV") && !is_code(Form::Td2, b"V<") && !is_code(Form::Td1, b"P<"));
+        for visa in Form::VISAS {
+            assert!([b"V<", b"VA", b"VC", b"VV", b"VZ"].iter().all(|code| is_code(visa, *code)));
+            assert!(![b"V0", b"V9", b"P<", b"I<", b"AC", b"<V"].iter().any(|code| is_code(visa, *code)));
+        }
     }
 
     #[test]

@@ -1,5 +1,6 @@
 //! What an entry holds, field by field, as it passes to C. Document 01 has the blank record of a refusal (TD1, fillers,
-//! lengths 0), and the numbers of the forms in an entry (TD1 0, TD2 1, TD3 2).
+//! lengths 0), and the numbers of the forms in an entry (TD1 0, TD2 1, TD3 2); document 02, request 2026-05, has those of the
+//! visas, "form 3 and 4".
 
 use crate::field::FILLER;
 use crate::record::Record;

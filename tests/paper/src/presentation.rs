@@ -1,7 +1,8 @@
 //! A presentation and the file of a group, from document 01, "What the server lends and gets" and "Stages of a
-//! presentation".
+//! presentation", and document 02, request 2026-05.
 
 use crate::answer::Stretch;
+use crate::form::Form;
 use crate::object::Entry;
 use crate::record::Record;
 use crate::refusal::{Refusal, LONGEST};
@@ -73,7 +74,8 @@ fn record(lent: &[u8], file: &Element) -> Result<Record, Refusal> {
     let text = walk.take(&[0x5f, 0x1f])?.content;
     walk.close()?;
     let start = text.start;
-    text::read(&lent[text]).map_err(|refusal| Refusal { place: start + refusal.place, ..refusal })
+    text::read_among(&lent[text], &Form::IN_GROUP_1)
+        .map_err(|refusal| Refusal { place: start + refusal.place, ..refusal })
 }
 
 /// The first file with the group's tag, as a stretch of what was lent.
@@ -243,6 +245,20 @@ mod tests {
             let other = sealed(other, 122..215, 51);
             assert_eq!(refused(&other), (number, place));
             assert_eq!(read(&other).unwrap_err().expected, Some(0).filter(|_| number == 9));
+        }
+    }
+
+    /// "Inside group 1 such a text stays refusal 3", but where a character is none of the alphabet.
+    #[test]
+    fn visas_in_group_1() {
+        for text in [specimens::ERIKSSON_MRV_A, specimens::ERIKSSON_MRV_B].map(str::as_bytes) {
+            let with = |text: &[u8]| refused(&write(&[(1, write_text_element(text)), (2, Vec::new())]));
+            assert_eq!(with(text), (3, 127));
+            for place in 1..text.len() {
+                let other = |character: u8| [&text[..place], &[character], &text[place + 1..]].concat();
+                assert_eq!(with(&other(b'a')), (2, 127 + place));
+                assert_eq!(with(&other(b'0')), (3, 127));
+            }
         }
     }
 

@@ -1,4 +1,4 @@
-//! Texts that are printed in the papers: the specimens of Doc 9303 parts 4 to 6, and T3 of document 01.
+//! Texts that are printed in the papers: the specimens of Doc 9303 parts 4 to 7, and T3 of document 01.
 
 use crate::form::Form;
 
@@ -27,7 +27,16 @@ pub const LONG_TD1: &str = "I<UTOD23145890<7349<<<<<<<<<<<\
 pub const LONG_TD2: &str = "I<UTOSTEVENSON<<PETER<JOHN<<<<<<<<<<\
                             D23145890<UTO3407127M95071227349<<<8";
 
-pub const ALL: [&str; 6] = [T3, ERIKSSON_TD3, ERIKSSON_TD1, ERIKSSON_TD2, LONG_TD1, LONG_TD2];
+/// Doc 9303-7: a visa of format A, with optional data.
+pub const ERIKSSON_MRV_A: &str = "V<UTOERIKSSON<<ANNA<MARIA<<<<<<<<<<<<<<<<<<<\
+                                  L8988901C4XXX4009078F96121096ZE184226B<<<<<<";
+
+/// Doc 9303-7: a visa of format B.
+pub const ERIKSSON_MRV_B: &str = "V<UTOERIKSSON<<ANNA<MARIA<<<<<<<<<<<\
+                                  L8988901C4XXX4009078F9612109<<<<<<<<";
+
+pub const ALL: [&str; 8] =
+    [T3, ERIKSSON_TD3, ERIKSSON_TD1, ERIKSSON_TD2, LONG_TD1, LONG_TD2, ERIKSSON_MRV_A, ERIKSSON_MRV_B];
 
 /// The specimen of each form whose number is short.
 pub fn short(form: Form) -> &'static str {
@@ -35,5 +44,7 @@ pub fn short(form: Form) -> &'static str {
         Form::Td1 => ERIKSSON_TD1,
         Form::Td2 => ERIKSSON_TD2,
         Form::Td3 => ERIKSSON_TD3,
+        Form::MrvA => ERIKSSON_MRV_A,
+        Form::MrvB => ERIKSSON_MRV_B,
     }
 }

@@ -1,4 +1,4 @@
-//! Reading and writing a text, from document 01, "The text", and document 02, request 2026-02.
+//! Reading and writing a text, from document 01, "The text", and document 02, requests 2026-02 and 2026-05.
 
 use crate::field::{self, trimmed, Check, FILLER};
 use crate::form::{Form, Layout};
@@ -7,9 +7,14 @@ use crate::record::Record;
 use crate::refusal::Refusal;
 use std::ops::Range;
 
-/// The record of a text, or its first refusal: the length, the alphabet, the fields, then the check digits.
+/// The record of a text that stands alone, or its first refusal.
 pub fn read(text: &[u8]) -> Result<Record, Refusal> {
-    let form = Form::of_length(text.len()).ok_or(Refusal::at(1, 0))?;
+    read_among(text, &Form::ALL)
+}
+
+/// The same where only these forms may stand: the length, the alphabet, the fields, then the check digits.
+pub fn read_among(text: &[u8], among: &[Form]) -> Result<Record, Refusal> {
+    let form = Form::of(text, among).ok_or(Refusal::at(1, 0))?;
     if let Some(place) = text.iter().position(|character| !field::in_alphabet(*character)) {
         return Err(Refusal::at(2, place));
     }
@@ -56,7 +61,8 @@ fn field_refusal(form: Form, text: &[u8], further: &Option<Range<usize>>) -> Opt
 
 /// Each check digit's place is where it stands, so here too the lowest place is the first.
 fn digit_refusal(at: &Layout, text: &[u8], further: &Range<usize>) -> Option<Refusal> {
-    let digits = digits(at, text, further).into_iter().flatten().chain([(at.composite, composite(at, text))]);
+    let composite = at.composite.map(|place| (place, composite(at, text)));
+    let digits = digits(at, text, further).into_iter().flatten().chain(composite);
     let failing = digits.filter(|(place, digit)| text[*place] != *digit && !is_left_out(at, text, *place));
     failing.map(|(place, digit)| Refusal::digit(digit - b'0', place)).min_by_key(|refusal| refusal.place)
 }
@@ -129,7 +135,9 @@ pub fn repair(form: Form, text: &mut [u8], further: usize) {
     for (place, digit) in digits(at, text, &(start..start + further)).into_iter().flatten() {
         text[place] = digit;
     }
-    text[at.composite] = composite(at, text);
+    if let Some(place) = at.composite {
+        text[place] = composite(at, text);
+    }
 }
 
 #[cfg(test)]
@@ -162,7 +170,8 @@ mod tests {
             let record = read(text.as_bytes()).unwrap();
             assert!(record.is_sound());
             // A text without optional data is written as it was printed.
-            assert_eq!(write(&record) == text.as_bytes(), text != specimens::ERIKSSON_TD3);
+            let has_data = [specimens::ERIKSSON_TD3, specimens::ERIKSSON_MRV_A].contains(&text);
+            assert_eq!(write(&record) == text.as_bytes(), !has_data);
         }
         for text in [specimens::LONG_TD1, specimens::LONG_TD2] {
             assert_eq!(read(text.as_bytes()).unwrap().number, b"D23145890734");
@@ -173,7 +182,8 @@ mod tests {
     fn what_is_refused_and_where() {
         assert_eq!(refused(""), (1, 0));
         assert_eq!(refused(&with(specimens::T3, 40, "a ")), (2, 40));
-        assert_eq!(refused(&with(specimens::T3, 0, "V")), (3, 0));
+        assert_eq!(refused(&with(specimens::T3, 0, "I")), (3, 0));
+        assert_eq!(refused(&with(specimens::T3, 0, "V0")), (3, 0));
         assert_eq!(refused(&with(specimens::T3, 2, "U<O")), (4, 2));
         assert_eq!(refused(&with(specimens::T3, 5, "0")), (8, 5));
         assert_eq!(refused(&with(specimens::T3, 44, "<")), (5, 44));
@@ -188,13 +198,15 @@ mod tests {
     }
 
     /// The check digits as the papers print them, each with its place.
-    const PRINTED: [(&str, &[(usize, u8)]); 6] = [
+    const PRINTED: [(&str, &[(usize, u8)]); 8] = [
         (specimens::T3, &[(53, 1), (63, 8), (71, 2), (86, 0), (87, 0)]),
         (specimens::ERIKSSON_TD3, &[(53, 6), (63, 2), (71, 9), (86, 1), (87, 0)]),
         (specimens::ERIKSSON_TD1, &[(14, 7), (36, 2), (44, 9), (59, 6)]),
         (specimens::ERIKSSON_TD2, &[(45, 7), (55, 2), (63, 9), (71, 6)]),
         (specimens::LONG_TD1, &[(18, 9), (36, 7), (44, 2), (59, 2)]),
         (specimens::LONG_TD2, &[(55, 7), (63, 2), (67, 9), (71, 8)]),
+        (specimens::ERIKSSON_MRV_A, &[(53, 4), (63, 8), (71, 9)]),
+        (specimens::ERIKSSON_MRV_B, &[(45, 4), (55, 8), (63, 9)]),
     ];
 
     #[test]
@@ -245,5 +257,90 @@ mod tests {
         // In TD2 the long number's digit stands behind those of birth and expiry.
         assert_eq!(refused(&with(specimens::LONG_TD2, 67, "0")), (9, 67));
         assert_eq!(refused(&with(&with(specimens::LONG_TD2, 67, "0"), 63, "0")), (9, 63));
+    }
+
+    /// Each digit of the two specimens, by the weights 7, 3, 1, with 21 for L and 12 for C.
+    #[test]
+    fn the_digits_of_the_visas() {
+        let number = [21 * 7, 8 * 3, 9, 8 * 7, 8 * 3, 9, 0, 3, 12];
+        let birth = [4 * 7, 0, 0, 9 * 7, 0, 7];
+        let expiry = [9 * 7, 6 * 3, 1, 2 * 7, 3, 0];
+        let sums = [number.iter().sum::<u32>(), birth.iter().sum(), expiry.iter().sum()];
+        assert_eq!(sums.map(|sum| sum % 10), [4, 8, 9]);
+    }
+
+    #[test]
+    fn the_visas_are_accepted() {
+        let visas = [(specimens::ERIKSSON_MRV_A, Form::MrvA), (specimens::ERIKSSON_MRV_B, Form::MrvB)];
+        for (text, form) in visas {
+            let record = read(text.as_bytes()).unwrap();
+            assert_eq!((record.form, &record.code, &record.state), (form, b"V<", b"UTO"));
+            assert_eq!((&record.number[..], &record.nationality, record.sex), (&b"L8988901C"[..], b"XXX", b'F'));
+            assert_eq!((&record.birth, &record.expiry), (b"400907", b"961210"));
+            assert_eq!(record.name, b"ERIKSSON<<ANNA<MARIA");
+            // Fillers in the optional data, and no check over them.
+            let optional = form.layout().free[0].clone();
+            let written = write(&record);
+            assert_eq!(written[..optional.start], text.as_bytes()[..optional.start]);
+            assert!(written[optional].iter().all(|character| *character == FILLER));
+            assert_eq!(read(&written), Ok(record));
+        }
+    }
+
+    /// In the order of the fields, which is TD3's and TD2's; a filler at the number's check is no long number.
+    #[test]
+    fn visas_that_are_refused() {
+        for (text, line) in [(specimens::ERIKSSON_MRV_A, 44), (specimens::ERIKSSON_MRV_B, 36)] {
+            let fields: [(usize, &str, u32); 13] = [
+                (0, "V0", 3),
+                (0, "P0", 3),
+                (0, "Va", 2),
+                (1, "/", 2),
+                (line - 1, "a", 2),
+                (2, "U<O", 4),
+                (5, "0", 8),
+                (line, "<", 5),
+                (line + 10, "<<<", 4),
+                (line + 13, "400230", 6),
+                (line + 20, "X", 7),
+                (line + 21, "<<1210", 6),
+                (line + 21, "961310", 6),
+            ];
+            for (place, characters, number) in fields {
+                let at = place + usize::from(characters == "Va");
+                assert_eq!(refused(&with(text, place, characters)), (number, at), "{characters}");
+            }
+            for (place, digit) in [(line + 9, 4), (line + 19, 8), (line + 27, 9)] {
+                assert_eq!(read(with(text, place, "<").as_bytes()), Err(Refusal::digit(digit, place)));
+            }
+            // What would be a long number of a card: here the check of the nine is told.
+            let long = with(&with(text, line + 9, "<"), line + 28, "7349<");
+            assert_eq!(read(long.as_bytes()), Err(Refusal::digit(4, line + 9)));
+        }
+    }
+
+    /// Whatever stands in the optional data is accepted, to the last place: there is no composite.
+    #[test]
+    fn the_optional_data_of_visas() {
+        for text in [specimens::ERIKSSON_MRV_A, specimens::ERIKSSON_MRV_B] {
+            let record = read(text.as_bytes()).unwrap();
+            for place in record.form.layout().free[0].clone() {
+                for character in (b'0'..=b'9').chain(b'A'..=b'Z').map(|character| char::from(character).to_string()) {
+                    assert_eq!(read(with(text, place, &character).as_bytes()), Ok(record.clone()));
+                }
+                assert_eq!(refused(&with(text, place, " ")), (2, place));
+            }
+        }
+    }
+
+    /// Where visas may not stand they are read as the forms of their lengths, whose codes do not begin with V.
+    #[test]
+    fn visas_where_they_may_not_stand() {
+        for text in [specimens::ERIKSSON_MRV_A, specimens::ERIKSSON_MRV_B] {
+            let read = |text: &str| read_among(text.as_bytes(), &Form::IN_GROUP_1);
+            assert_eq!(read(text), Err(Refusal::at(3, 0)));
+            assert_eq!(read(&with(text, text.len() - 1, "a")), Err(Refusal::at(2, text.len() - 1)));
+            assert_eq!(read(&with(text, 5, "0")), Err(Refusal::at(3, 0)));
+        }
     }
 }

@@ -5,6 +5,7 @@ pub mod fillers;
 pub mod header;
 pub mod printed;
 
+use crate::form::Form;
 use crate::record::Record;
 use crate::refusal::{Refusal, LONGEST};
 use crate::seal::fillers::with_fillers;
@@ -41,8 +42,9 @@ pub fn read(lent: &[u8]) -> Result<Seal, Refusal> {
     let spaced = c40::read(&lent[feature.content]).filter(|text| text.len() == TEXT_CHARACTERS);
     let spaced = spaced.ok_or(Refusal::at(26, place))?;
     let signature = signature(&mut walk)?;
-    // Of 72 characters, so that it is read as TD2, of which no code begins with V.
-    let record = text::read(&with_fillers(&spaced)).map_err(|refusal| Refusal { place, ..refusal })?;
+    // As TD2, of which no code begins with V: a visa may not stand here.
+    let record =
+        text::read_among(&with_fillers(&spaced), &Form::IN_SEALS).map_err(|refusal| Refusal { place, ..refusal })?;
     Ok(Seal { header, record, signature })
 }
 

@@ -2,7 +2,7 @@
 
 use super::*;
 use crate::day::Day;
-use crate::specimens::ERIKSSON_TD2;
+use crate::specimens::{ERIKSSON_MRV_B, ERIKSSON_TD2};
 use crate::tlv::WRONG_LENGTHS;
 
 /// Section 8's header and message, with a version octet: 68 octets, the text's feature at 18.
@@ -200,6 +200,18 @@ fn texts_are_refused_at_the_feature() {
     assert_eq!((with(56, "X"), with(5, "0")), ((7, 18), (8, 18)));
     for (place, digit) in [(45, 7), (55, 2), (63, 9), (71, 6)] {
         assert_eq!(read(&spoilt(place, "Z")), Err(Refusal::digit(digit, 18)));
+    }
+}
+
+/// "a leading V being 3": also of a visa that is accepted where it stands alone, and of one that is wrong elsewhere too.
+#[test]
+fn visas_are_refused_at_the_feature() {
+    let visa = ERIKSSON_MRV_B;
+    assert!(text::read(visa.as_bytes()).is_ok());
+    assert_eq!(refused(&with_text(visa)), (3, 18));
+    for (place, character) in [(1, "0"), (1, "C"), (5, "0"), (45, "<"), (55, "0"), (71, "7")] {
+        let other = [&visa[..place], character, &visa[place + 1..]].concat();
+        assert_eq!(refused(&with_text(&other)), (3, 18));
     }
 }
 
