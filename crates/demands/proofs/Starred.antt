@@ -5,7 +5,8 @@ use Rattle.refusal.specs.Outcome.{passed}
 use Rattle.zone.specs.declared.form.Source.{Source}
 use Rattle.zone.specs.declared.form.Source.the-variants.{Alone, GroupOne, Seal}
 use Rattle.zone.specs.Alphabet.{isDigit, isLetter, isFiller, isCharacter, isForeign, every, first, firstForeign}
-use Rattle.zone.specs.Form.{row, forms, partOf, parts, start, startIn, width, widthIn, firstForm, mayStand, isOf}
+use Rattle.zone.specs.Form.{row, forms, partOf, parts, start, startIn, width, widthIn}
+use Rattle.zone.specs.Form.{firstForm, isVisa, isAlone, isVisaCode, mayStand, isOf}
 use Rattle.zone.specs.Form.{formOf, field, pieceOf}
 use Rattle.zone.specs.Form.{pieces, cut, joinedCuts, covered}
 use Rattle.zone.specs.Record.{trimmed, trimmedLength, padded, heldRows, holding}
@@ -34,21 +35,22 @@ pub starred : allRight examples ≡ true
 unfolding allRight examples isRight isPassed isDigitAt T3 octets checkOf sumFrom value weight isDigit isLetter isFiller
     birthRule pairOf yearOf monthOf dayOf isLeap isShort daysIn yearRule monthRule dayRule row forms firstForm start startIn
     width widthIn field pieceOf pieces cut joinedCuts covered recordBy holding inText spanOf isLong numberBy trimmed
-    trimmedLength padded entryOf octetsOf putRow putCell putAll said heldRows bits.octets gathered put codeOf
-    sexCode alike told isRead isRefused element tagAt tagWidth sizeAt sizeOf sized endsWithin readText readBy answered mayStand
-    isOf formOf verdictBy characters firstForeign first isForeign isCharacter inOrder parts partOf fieldRows codeRule kindRule
-    stateRule numberRule spanRule sexRule nameRule isNameCharacter every expiryRule digitRows numberDigit furtherDigit
-    personalDigit isLeftOut digitAt digitOf checkedBy passportRule isSecond lettersThenFillers isKnown
+    trimmedLength padded entryOf octetsOf putRow putCell putAll said heldRows bits.octets gathered put codeOf sexCode alike
+    told isRead isRefused element tagAt tagWidth sizeAt sizeOf sized endsWithin readText readBy answered mayStand isVisa
+    isAlone isVisaCode isOf formOf verdictBy characters firstForeign first isForeign isCharacter inOrder parts partOf
+    fieldRows codeRule kindRule stateRule numberRule spanRule sexRule nameRule isNameCharacter every expiryRule digitRows
+    numberDigit furtherDigit personalDigit isLeftOut digitAt digitOf checkedBy passportRule isSecond lettersThenFillers
+    isKnown
 starred = refl
 
 -- and by itself: T3 is accepted
 pub T3-accepted : (source : Source) → readText source (octets T3) .outcome ≡ passed
-unfolding T3 octets readText readBy answered mayStand isOf formOf verdictBy characters firstForeign first isForeign isCharacter
-    isDigit isLetter isFiller inOrder parts partOf row forms firstForm start startIn width widthIn field fieldRows codeRule
-    kindRule passportRule isSecond stateRule lettersThenFillers numberRule spanRule sexRule nameRule isNameCharacter every
-    birthRule expiryRule isKnown pairOf yearOf monthOf dayOf isLeap isShort daysIn yearRule monthRule dayRule spanOf isLong
-    digitRows numberDigit furtherDigit personalDigit isLeftOut digitAt digitOf checkedBy checkOf sumFrom value weight covered
-    pieceOf pieces cut joinedCuts
+unfolding T3 octets readText readBy answered mayStand isVisa isAlone isVisaCode isOf formOf verdictBy characters firstForeign
+    first isForeign isCharacter isDigit isLetter isFiller inOrder parts partOf row forms firstForm start startIn width widthIn
+    field fieldRows codeRule kindRule passportRule isSecond stateRule lettersThenFillers numberRule spanRule sexRule nameRule
+    isNameCharacter every birthRule expiryRule isKnown pairOf yearOf monthOf dayOf isLeap isShort daysIn yearRule monthRule
+    dayRule spanOf isLong digitRows numberDigit furtherDigit personalDigit isLeftOut digitAt digitOf checkedBy checkOf sumFrom
+    value weight covered pieceOf pieces cut joinedCuts
 T3-accepted Alone = refl
 T3-accepted GroupOne = refl
 T3-accepted Seal = refl

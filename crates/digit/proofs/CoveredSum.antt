@@ -168,7 +168,7 @@ same-weights : (f : Form)
 unfolding weightsOver both behind weightsFrom coveredParts inTurn before pieces pieceOf weight width widthIn start startIn row
     forms
 same-weights = all-forms
-    (λ f. cond (has f composite) (weightsOver (coveredParts f) ≡ weightsOver (inTurn 0 (pieces f))) Unit) (search needs)
+    (λ f. cond (has f composite) (weightsOver (coveredParts f) ≡ weightsOver (inTurn 0 (pieces f))) Unit) (search needs depth 9)
 
 -- one character
 sum-first : (place : ℕ) (t : List ℕ) → sumFrom place (take 1 t) ≡ value (getD t 0 0) * weight place

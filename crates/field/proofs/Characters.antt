@@ -13,8 +13,8 @@ use Rattle.lent.proofs.Bools.{and-both, or-either}
 use Rattle.zone.specs.Alphabet.{isDigit, isLetter, isFiller, isCharacter, every}
 use Rattle.zone.specs.declared.form.Form.{Form}
 use Rattle.zone.specs.declared.form.Kind.{Kind}
-use Rattle.zone.specs.declared.form.Kind.the-variants.{Card, Passport}
-use Rattle.zone.specs.Form.{row}
+use Rattle.zone.specs.declared.form.Kind.the-variants.{Card, Passport, Visa}
+use Rattle.zone.specs.Form.{row, isVisa, isVisaCode}
 use Rattle.zone.specs.Part.{Part}
 use Rattle.zone.specs.Record.{plainRoom, isPlain}
 use Rattle.field.specs.Code.{codeRule, kindRule, cardRule, passportRule, isCardLetter, isSecond}
@@ -93,10 +93,19 @@ passport-pure s l e =
     let both = and-both (eqb a (code "P")) (isLetter b || isFiller b) e in
     two s l (one-of a (code "P") refl (both .0)) (either-in b (both .1))
 
+visa-pure : (s : List ℕ) → length s ≡ 2 → isVisaCode (getD s 0 0) (getD s 1 0) ≡ true → every isCharacter s ≡ true
+unfolding isVisaCode isLetter
+visa-pure s l e =
+    let a = getD s 0 0 in
+    let b = getD s 1 0 in
+    let both = and-both (eqb a (code "V")) (isLetter b || isFiller b) e in
+    two s l (one-of a (code "V") refl (both .0)) (either-in b (both .1))
+
 kind-pure : (k : Kind) (s : List ℕ) → length s ≡ 2 → kindRule k (getD s 0 0) (getD s 1 0) ≡ true → every isCharacter s ≡ true
 unfolding kindRule
 kind-pure Card s l e = card-pure s l e
 kind-pure Passport s l e = passport-pure s l e
+kind-pure Visa s l e = visa-pure s l e
 
 pub code-pure : (f : Form) (s : List ℕ) → length s ≡ 2 → codeRule f s ≡ true → every isCharacter s ≡ true
 unfolding codeRule
@@ -189,3 +198,24 @@ pub plain-pure : (f : Form) (s : List ℕ) (x : Part) → isPlain x ≡ true →
 unfolding ruleRows
 plain-pure f s = each-plain (λ x n. length s ≡ n → rule f x s ≡ true → every isCharacter s ≡ true) (code-pure f s) (state-pure s)
     (state-pure s) (birth-pure s) (one-pure s) (expiry-pure s)
+
+-- a code tells whether it is a visa's
+other-code : (a b n : ℕ) → eqb a n ≡ true → eqb n (code "V") ≡ false → isVisaCode a b ≡ false
+unfolding isVisaCode
+other-code a b n e other = rw (eqb-true a n e, other)
+
+pub code-tells : (k : Kind) (a b : ℕ) → kindRule k a b ≡ true → isVisaCode a b ≡ isVisa k
+unfolding kindRule cardRule passportRule isCardLetter isVisa
+code-tells Visa a b e = e
+code-tells Passport a b e = other-code a b (code "P") (and-both (eqb a (code "P")) (isSecond b) e .0) refl
+code-tells Card a b e =
+    go (or-either (eqb a (code "A") || eqb a (code "C")) (eqb a (code "I"))
+    (and-both (eqb a (code "A") || eqb a (code "C") || eqb a (code "I")) _ e .0))
+  where
+    first-two : (eqb a (code "A") ≡ true) ⊎ (eqb a (code "C") ≡ true) → isVisaCode a b ≡ false
+    first-two (inl h) = other-code a b (code "A") h refl
+    first-two (inr h) = other-code a b (code "C") h refl
+
+    go : (eqb a (code "A") || eqb a (code "C") ≡ true) ⊎ (eqb a (code "I") ≡ true) → isVisaCode a b ≡ false
+    go (inl h) = first-two (or-either (eqb a (code "A")) (eqb a (code "C")) h)
+    go (inr h) = other-code a b (code "I") h refl

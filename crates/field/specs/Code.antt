@@ -1,4 +1,4 @@
--- The document code: document 01, "The text", Field rules, Code.
+-- The document code: document 01, "The text", Field rules, Code; document 02, request 2026-05, of visas.
 use Prim.Native.Nat.{ℕ}
 use Prim.Native.Char.{code}
 use mathlib.Core.Bool.{Bool, not, _&&_, _||_}
@@ -8,8 +8,8 @@ use lib.Dec.{eqb}
 use Rattle.zone.specs.Alphabet.{isLetter, isFiller}
 use Rattle.zone.specs.declared.form.Form.{Form}
 use Rattle.zone.specs.declared.form.Kind.{Kind}
-use Rattle.zone.specs.declared.form.Kind.the-variants.{Card, Passport}
-use Rattle.zone.specs.Form.{row}
+use Rattle.zone.specs.declared.form.Kind.the-variants.{Card, Passport, Visa}
+use Rattle.zone.specs.Form.{row, isVisaCode}
 
 -- A, C or I
 unfoldable pub isCardLetter : ℕ → Bool
@@ -30,6 +30,7 @@ passportRule a b = eqb a (code "P") && isSecond b
 unfoldable pub kindRule : Kind → ℕ → ℕ → Bool
 kindRule Card a b = cardRule a b
 kindRule Passport a b = passportRule a b
+kindRule Visa a b = isVisaCode a b
 
 unfoldable pub codeRule : Form → List ℕ → Bool
 codeRule f s = kindRule (row f .kind) (getD s 0 0) (getD s 1 0)

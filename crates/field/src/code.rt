@@ -1,5 +1,6 @@
 // The document code: two characters, by the kind of document that the form is of.
 ghost use mathlib.Core.Path.{_≡_};
+ghost use Rattle.zone.specs.Form.{isVisaCode};
 ghost use Rattle.field.specs.Code.{codeRule, cardRule, passportRule, isCardLetter};
 use crate::letters::is_letter_or_filler;
 use zone::form::Form;
@@ -24,6 +25,12 @@ fn is_passport(a: u8, b: u8) -> bool
     (a == b'P') & is_letter_or_filler(b)
 }
 
+fn is_visa(a: u8, b: u8) -> bool
+    ensures { λ r. ⌜ r ≡ isVisaCode a b ⌝ }
+{
+    (a == b'V') & is_letter_or_filler(b)
+}
+
 pub fn is_code(form: Form, s: &[u8]) -> bool
     ensures { λ r. ⌜ r ≡ codeRule form (now (s .entry)) ⌝ }
 {
@@ -32,5 +39,6 @@ pub fn is_code(form: Form, s: &[u8]) -> bool
     match form.kind() {
         Kind::Card => is_card(a, b),
         Kind::Passport => is_passport(a, b),
+        Kind::Visa => is_visa(a, b),
     }
 }

@@ -12,7 +12,7 @@ use Rattle.refusal.specs.Outcome.{refused}
 use Rattle.zone.specs.declared.form.Source.the-variants.{Seal}
 use Rattle.zone.specs.Alphabet.{every}
 use Rattle.zone.specs.declared.form.Form.the-variants.{Td2}
-use Rattle.zone.specs.Form.{row, mayStand, partOf, parts, start, startIn, width, widthIn, field}
+use Rattle.zone.specs.Form.{row, isAlone, isVisa, partOf, parts, start, startIn, width, widthIn, field}
 use Rattle.field.specs.Code.{isCardLetter, cardRule, kindRule, codeRule}
 use Rattle.text_digits.specs.Number.{spanOf}
 use Rattle.text_digits.specs.Digits.{inOrder}
@@ -24,6 +24,7 @@ use Rattle.seal.specs.Seal as seal
 use Rattle.seal.specs.Seal.{placed, withText, answerBy, readSeal}
 use Rattle.tlv.specs.Read.{Read, checked}
 use Rattle.text.proofs.EachCheck.{answered-outcome}
+use Rattle.zone.proofs.FormTold.{told-by}
 use Rattle.text_theorems.proofs.Acceptance.{read-as}
 use Rattle.seal_fields.proofs.Filled.{length-filled}
 use Rattle.seal_theorems.specs.Sealed.{Contents, octetsOf, Shaped, featurePlace}
@@ -42,14 +43,14 @@ filled-v (c ∷ t) h e = (filled t, rw e)
 
 pub text-leading-v : (t : List ℕ) → length t ≡ 72 → every isC40 t ≡ true → getD t 0 0 ≡ code "V"
     → readText Seal (filled t) .outcome ≡ refused (by 3) 0
-unfolding verdictBy row mayStand
+unfolding verdictBy row isAlone isVisa
 text-leading-v t n p e =
     let l = filled t in
     let v = filled-v t (omega arith) e in
     let span = spanOf Td2 l in
     let first : inOrder (fieldCheck Td2 l span) (parts Td2) ≡ refused (by 3) 0 =
     ap (λ (m : List ℕ). inOrder (fieldCheck Td2 m (spanOf Td2 m)) (parts Td2)) (v .1) ∙ code-v (v .0) in
-    ap (λ (a : Answer). a .outcome) (read-as Seal Td2 l refl (length-filled t ∙ n))
+    ap (λ (a : Answer). a .outcome) (read-as Seal Td2 l (told-by Seal Td2 l refl (length-filled t ∙ n)))
     ∙ answered-outcome (verdictBy Td2 l span) (recordBy Td2 l span)
     ∙ rw (filled-passed t p, first)
 

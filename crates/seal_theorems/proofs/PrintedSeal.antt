@@ -8,7 +8,8 @@ use Rattle.lent.specs.Octets.{octets}
 use Rattle.refusal.specs.Outcome.{passed}
 use Rattle.zone.specs.declared.form.Source.the-variants.{Seal}
 use Rattle.zone.specs.Alphabet.{isDigit, isLetter, isFiller, isCharacter, isForeign, every, first, firstForeign}
-use Rattle.zone.specs.Form.{row, forms, partOf, parts, start, startIn, width, widthIn, firstForm, mayStand, isOf}
+use Rattle.zone.specs.Form.{row, forms, partOf, parts, start, startIn, width, widthIn}
+use Rattle.zone.specs.Form.{firstForm, isVisa, isAlone, isVisaCode, mayStand, isOf}
 use Rattle.zone.specs.Form.{formOf, field, pieceOf, pieces, cut, joinedCuts, covered}
 use Rattle.zone.specs.Record.{trimmed, trimmedLength, padded, holding}
 use Rattle.digit.specs.Check.{value, weight, sumFrom, checkOf, digitOf}
@@ -33,13 +34,13 @@ use Rattle.seal_theorems.proofs.TextsSealed.{every-text-sealed}
 
 -- its text is accepted, with this record
 pub printed-text : readText Seal (octets printedText) ≡ record { outcome = passed; kept = printedRecord }
-unfolding printedText printedRecord octets readText readBy answered mayStand isOf formOf verdictBy characters firstForeign first
-    isForeign isCharacter isDigit isLetter isFiller inOrder parts partOf row forms firstForm start startIn width widthIn field
-    fieldRows codeRule kindRule cardRule isCardLetter isSecond stateRule lettersThenFillers numberRule spanRule sexRule nameRule
-    isNameCharacter every birthRule expiryRule isKnown pairOf yearOf monthOf dayOf isLeap isShort daysIn yearRule monthRule
-    dayRule spanOf isLong digitRows numberDigit furtherDigit personalDigit isLeftOut digitAt digitOf checkedBy checkOf sumFrom
-    value weight covered pieceOf pieces cut joinedCuts recordBy holding inText numberBy trimmed trimmedLength
-    padded
+unfolding printedText printedRecord octets readText readBy answered mayStand isVisa isAlone isVisaCode isOf formOf verdictBy
+    characters firstForeign first isForeign isCharacter isDigit isLetter isFiller inOrder parts partOf row forms firstForm
+    start startIn width widthIn field fieldRows codeRule kindRule cardRule isCardLetter isSecond stateRule lettersThenFillers
+    numberRule spanRule sexRule nameRule isNameCharacter every birthRule expiryRule isKnown pairOf yearOf monthOf dayOf isLeap
+    isShort daysIn yearRule monthRule dayRule spanOf isLong digitRows numberDigit furtherDigit personalDigit isLeftOut digitAt
+    digitOf checkedBy checkOf sumFrom value weight covered pieceOf pieces cut joinedCuts recordBy holding inText numberBy
+    trimmed trimmedLength padded
 printed-text = refl
 
 printed-wide : length (octets printedText) ≡ 72

@@ -34,4 +34,4 @@ pub fields-in-order : (f : Form) (t : List ℕ) (span : Span) → joined f t spa
 unfolding inOrder inTurn fieldRows parts partOf row forms start startIn
 fields-in-order f t span =
     all-forms (λ g. joined g t span ≡ inOrder (fieldCheck g t span) (parts g))
-    (simp (orElse-assoc, orElse-passed) (search needs)) f
+    (simp (orElse-assoc, orElse-passed) (search needs depth 9)) f

@@ -2,7 +2,7 @@
 use Prim.Native.Nat.{ℕ, _+_, _-_, _≤_, _<_}
 use mathlib.Core.Path.{_≡_, refl, ap, sym, _∙_}
 use mathlib.Core.Logic.{_↔_}
-use mathlib.Core.Bool.{Bool, true, false, not}
+use mathlib.Core.Bool.{Bool, true, false, not, _&&_, _||_}
 use mathlib.Core.List.{List, _++_}
 use lib.ListN.{length, take, getD}
 use native.Mathlib.Nat.{add-zero}
@@ -21,7 +21,10 @@ use Rattle.zone.proofs.First.{first-none, none-first}
 use Rattle.zone.specs.Part.{Part, code, state, number, numberCheck, optional, birth, birthCheck, sex, expiry, expiryCheck}
 use Rattle.zone.specs.Part.{nationality, composite, name, personal, personalCheck}
 use Rattle.zone.proofs.Parts.{in-rows, _and_, all-said}
-use Rattle.zone.specs.Form.{mayStand, formOf, parts, start, width, has, total, field, covered}
+use Rattle.zone.specs.Form.{row, isVisa, isAlone, isVisaCode, selectsVisa, mayStand, formOf, parts, start, width, has, total}
+use Rattle.zone.specs.Form.{field, covered}
+use Rattle.field.proofs.Characters.{code-tells}
+use Rattle.text_theorems.proofs.CodeTold.{code-there}
 use Rattle.zone.specs.Record.{plain, isPlain}
 use Rattle.zone.proofs.Widths.{has-among, fixed}
 use Rattle.zone.proofs.Holding.{each-plain}
@@ -192,11 +195,25 @@ module _ (f : Form) (t : List ℕ) (k : Keeps f t) where
         each-walk (digitCheck f t (spanOf f t)) (parts f) (λ x m. digits-pass x (has-among f x ∙ m)),
       )
 
--- a text of a form's length is read as that form, where the form may stand
-pub read-as : (source : Source) (f : Form) (t : List ℕ) → mayStand source f ≡ true → length t ≡ total f
+-- a text that is told as a form is read as that form
+pub read-as : (source : Source) (f : Form) (t : List ℕ) → formOf source t ≡ As f
     → readText source t ≡ answered (verdictBy f t (spanOf f t)) (recordBy f t (spanOf f t))
 unfolding readText readBy
-read-as source f t may e = rw (told-by source f t may e)
+read-as source f t e = rw e
+
+-- one that keeps the rules of a form that may stand there is told as that form, since its code tells whether it is a visa's
+pub kept-told : (source : Source) (f : Form) (t : List ℕ) → mayStand source f ≡ true → Keeps f t → formOf source t ≡ As f
+unfolding mayStand ruleRows codeRule plain
+kept-told source f t may k =
+    told-by source f t (go (isVisa (row f .kind)) (isAlone source) may (sym (code-there f t) ∙ tells)) (k .size)
+  where
+    tells : isVisaCode (getD (field f code t) 0 0) (getD (field f code t) 1 0) ≡ isVisa (row f .kind)
+    tells = code-tells (row f .kind) (getD (field f code t) 0 0) (getD (field f code t) 1 0) (k .plain-kept code refl)
+
+    go : (visa alone : Bool) → not visa || alone ≡ true → selectsVisa t ≡ visa → alone && selectsVisa t ≡ visa
+    go true alone h e = rw (h, e)
+    go false true h e = e
+    go false false h e = refl
 
 accepted-by : (told : Recognised) (t : List ℕ) → readBy told t .outcome ≡ passed
     → (f : Form) × (told ≡ As f) × (verdictBy f t (spanOf f t) ≡ passed)
@@ -221,5 +238,5 @@ accepted-exactly source t = (forth, λ w. back (w .0) (w .1) (w .2))
         (w .0, told .0, keeps (w .0) t (told .1) (w .2))
 
     back : (f : Form) → mayStand source f ≡ true → Keeps f t → readText source t .outcome ≡ passed
-    back f may k = rw (read-as source f t may (k .size))
+    back f may k = rw (read-as source f t (kept-told source f t may k))
         (answered-outcome (verdictBy f t (spanOf f t)) (recordBy f t (spanOf f t)) ∙ passes f t k)

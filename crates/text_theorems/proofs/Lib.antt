@@ -12,10 +12,14 @@ pub mod TextRows
 pub mod FirstFailing
 -- DEMAND 2: the digit that a refusal 9 carries (`expected-exactly`, `digit-told`, `nine-tells`)
 pub mod Expected
+-- the code stands first, and tells a visa
+pub mod CodeTold
 -- DEMAND 2: accepted exactly when every rule is kept (`accepted-exactly`)
 pub mod Acceptance
 -- DEMAND 2: the record of an accepted text holds its fields, and is sound (`kept-and-sound`)
 pub mod RecordOfText
+-- visas as text only: elsewhere every answer is as it was (`no-visa-same`, `visa-elsewhere`)
+pub mod Visas
 -- what the text of a record holds, part by part
 pub mod TextOfRecord
 -- DEMAND 2: every sound record is written as a text that reads back as that record (`text-read-back`)

@@ -238,5 +238,5 @@ kept-and-sound source t e =
     let f = w .0 in
     let told = by-told source f t (w .1) in
     let k = keeps f t (told .1) (w .2) in
-    let said = read-as source f t (told .0) (told .1) in
+    let said = read-as source f t (w .1) in
     (f, k, rw (said, w .2) (holds f t k), rw (said, w .2) (sound f t k))

@@ -32,7 +32,8 @@ use Rattle.sound.specs.Sound.{isSolid, isSound}
 use Rattle.writing.specs.Text.{numberIn, furtherIn, isWide, atCheck, inOptional, givenRows, textOf}
 use Rattle.text_theorems.specs.Accepted.{Keeps, fillerAt}
 use Rattle.text_theorems.proofs.NumberSpan.{short-span, long-span}
-use Rattle.text_theorems.proofs.Acceptance.{passes, read-as}
+use Rattle.text_theorems.proofs.Acceptance.{passes, read-as, kept-told}
+use Rattle.zone.proofs.FormTold.{alone-may}
 use Rattle.zone.proofs.Every.{every-append, every-take, each-every}
 use Rattle.sound.proofs.SoundRecord.{Sound, taken-apart}
 use Rattle.zone.proofs.Fields.{in-field}
@@ -208,7 +209,7 @@ module _ (r : Record) (s : Sound r) where
 
   read-written : (source : Source) → mayStand source f ≡ true → readText source t ≡ record { outcome = passed; kept = r }
   unfolding answered
-  read-written source may = rw (read-as source f t may (length-text r), passes f t text-keeps, record-read)
+  read-written source may = rw (read-as source f t (kept-told source f t may text-keeps), passes f t text-keeps, record-read)
 
 -- ---- the theorem
 
@@ -219,8 +220,7 @@ module _ (r : Record) (sound : isSound r ≡ true) where
   text-read-back-in source may = read-written r (taken-apart r sound) source may
 
   pub text-read-back : readText Alone (textOf r) ≡ record { outcome = passed; kept = r }
-  unfolding mayStand
-  text-read-back = text-read-back-in Alone refl
+  text-read-back = text-read-back-in Alone (alone-may (r .form))
 
   pub text-length : length (textOf r) ≡ total (r .form)
   text-length = length-text r

@@ -53,6 +53,14 @@ fn lines(text: &[u8], place: usize) {
                 line(text, 0, 44, place);
                 line(text, 44, 44, place);
             }
+            Form::MrvA => {
+                line(text, 0, 44, place);
+                line(text, 44, 44, place);
+            }
+            Form::MrvB => {
+                line(text, 0, 36, place);
+                line(text, 36, 36, place);
+            }
         },
         Recognised::Unknown => formless(text, place),
     }
@@ -136,6 +144,8 @@ fn form(form: Form) {
         Form::Td1 => field(label, b"TD1"),
         Form::Td2 => field(label, b"TD2"),
         Form::Td3 => field(label, b"TD3"),
+        Form::MrvA => field(label, b"MRV-A"),
+        Form::MrvB => field(label, b"MRV-B"),
     }
 }
 

@@ -1,17 +1,20 @@
--- The forms: document 01, "The text", Layouts and Composite. Every offset follows from the widths, in text order.
+-- The forms: document 01, "The text", Layouts and Composite, and document 02, request 2026-05, for visas. Every offset follows
+-- from the widths, in text order.
 use Prim.Native.Nat.{ℕ, _+_, _-_, _*_}
-use mathlib.Core.Bool.{Bool, true, cond, _&&_}
+use Prim.Native.Char as char
+use mathlib.Core.Bool.{Bool, true, false, cond, not, _&&_, _||_}
 use mathlib.Core.List.{List, [], _∷_, _++_, map}
-use lib.ListN.{length, take, drop}
+use lib.ListN.{length, take, drop, getD}
 use lib.Dec.{eqb, ltb}
 use Rattle.zone.specs.declared.form.Form.{Form}
-use Rattle.zone.specs.declared.form.Form.the-variants.{Td1, Td2, Td3}
+use Rattle.zone.specs.declared.form.Form.the-variants.{Td1, Td2, Td3, MrvA, MrvB}
 use Rattle.zone.specs.declared.form.Kind.{Kind}
-use Rattle.zone.specs.declared.form.Kind.the-variants.{Card, Passport}
+use Rattle.zone.specs.declared.form.Kind.the-variants.{Card, Passport, Visa}
 use Rattle.zone.specs.declared.form.Source.{Source}
 use Rattle.zone.specs.declared.form.Source.the-variants.{Alone, GroupOne, Seal}
 use Rattle.zone.specs.declared.form.Recognised.{Recognised}
 use Rattle.zone.specs.declared.form.Recognised.the-variants.{As, Unknown}
+use Rattle.zone.specs.Alphabet.{isLetter, isFiller}
 use Rattle.zone.specs.Part.{Part, code, state, number, numberCheck, optional, birth, birthCheck, sex, expiry, expiryCheck}
 use Rattle.zone.specs.Part.{nationality, optional2, composite, name, personal, personalCheck, same}
 
@@ -33,7 +36,7 @@ pub record Row : Type 0 where
   pub layout : List Cell
   -- the longest number
   pub longest : ℕ
-  -- Composite: what its digit covers
+  -- Composite: what its digit covers, nothing where there is none
   pub covers : List Run
   -- whose code it has
   pub kind : Kind
@@ -80,10 +83,38 @@ row Td3 = record {
   kind = Passport;
   entered = 2;
 }
+-- "The first line has code, state and name as in TD3 and TD2; the second has number 9, check, nationality 3, birth 6, check, sex,
+-- valid-until 6, check, then optional data of 16 or 8, with no composite and no long numbers"
+row MrvA = record {
+  total = 88;
+  line = 44;
+  layout =
+      code of 2 ∷ state of 3 ∷ name of 39
+      ∷ number of 9 ∷ numberCheck of 1 ∷ nationality of 3
+      ∷ birth of 6 ∷ birthCheck of 1 ∷ sex of 1 ∷ expiry of 6 ∷ expiryCheck of 1
+      ∷ optional of 16 ∷ [];
+  longest = 9;
+  covers = [];
+  kind = Visa;
+  entered = 3;
+}
+row MrvB = record {
+  total = 72;
+  line = 36;
+  layout =
+      code of 2 ∷ state of 3 ∷ name of 31
+      ∷ number of 9 ∷ numberCheck of 1 ∷ nationality of 3
+      ∷ birth of 6 ∷ birthCheck of 1 ∷ sex of 1 ∷ expiry of 6 ∷ expiryCheck of 1
+      ∷ optional of 8 ∷ [];
+  longest = 9;
+  covers = [];
+  kind = Visa;
+  entered = 4;
+}
 
--- all of them
+-- all of them; visas first, since what selects a visa is no other form's where visas may stand
 unfoldable pub forms : List Form
-forms = Td1 ∷ Td2 ∷ Td3 ∷ []
+forms = MrvA ∷ MrvB ∷ Td1 ∷ Td2 ∷ Td3 ∷ []
 
 abbrev pub total : Form → ℕ
 total f = row f .total
@@ -126,19 +157,35 @@ unfoldable pub firstForm : (Form → Bool) → List Form → Recognised
 firstForm p [] = Unknown
 firstForm p (f ∷ fs) = cond (p f) (As f) (firstForm p fs)
 
--- the forms that may stand where a text is read: alone, in group 1, in a seal
-unfoldable pub mayStand : Source → Form → Bool
-mayStand Alone f = true
-mayStand GroupOne f = true
-mayStand Seal f = true
+unfoldable pub isVisa : Kind → Bool
+isVisa Card = false
+isVisa Passport = false
+isVisa Visa = true
 
--- whether a text is one of a form, which its length tells
-unfoldable pub isOf : List ℕ → Form → Bool
-isOf t f = eqb (length t) (total f)
+-- where a text stands: alone, in group 1, in a seal
+unfoldable pub isAlone : Source → Bool
+isAlone Alone = true
+isAlone GroupOne = false
+isAlone Seal = false
+
+-- the forms that may stand there: visas "as text only"
+unfoldable pub mayStand : Source → Form → Bool
+mayStand source f = not (isVisa (row f .kind)) || isAlone source
+
+-- "Code V and a letter or `<` selects them"
+unfoldable pub isVisaCode : ℕ → ℕ → Bool
+isVisaCode a b = eqb a (char.code "V") && (isLetter b || isFiller b)
+
+abbrev pub selectsVisa : List ℕ → Bool
+selectsVisa t = isVisaCode (getD t 0 0) (getD t 1 0)
+
+-- whether a text is one of a form where it stands: its length tells, and of a visa its code too
+unfoldable pub isOf : Source → List ℕ → Form → Bool
+isOf source t f = eqb (length t) (total f) && (mayStand source f && (not (isVisa (row f .kind)) || selectsVisa t))
 
 -- the form of a text, of those that may stand there
 unfoldable pub formOf : Source → List ℕ → Recognised
-formOf source t = firstForm (λ f. mayStand source f && isOf t f) forms
+formOf source t = firstForm (λ f. isOf source t f) forms
 
 -- and which a number in an entry
 unfoldable pub formBy : ℕ → Recognised

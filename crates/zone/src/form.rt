@@ -1,21 +1,28 @@
-// The three forms of document 01, "The text": which length tells which, and where everything stands in each. A form is a row of
-// constants here; what reads and writes a text goes by these and by nothing else of the form.
+// The three forms of document 01, "The text", and the two visas of request 2026-05: what tells which, and where everything stands
+// in each. A form is a row of constants here; what reads and writes a text goes by these and by nothing else of the form.
 ghost use mathlib.Core.Path.{_≡_};
+ghost use mathlib.Core.Bool.{not, _&&_, _||_};
 ghost use lib.Dec.{eqb};
-ghost use Rattle.zone.specs.Form.{row, forms, firstForm, formOf, formBy, width, longest, total};
+ghost use Rattle.zone.specs.Form.{row, forms, firstForm, formOf, formBy, isAlone};
+ghost use Rattle.zone.specs.Form.{isVisa, isVisaCode, width, longest, total};
 ghost use Rattle.zone.specs.Inner.Places.{placesOf};
 ghost use Rattle.zone.specs.Part.{name, optional, personal, composite};
+use crate::alphabet::FILLER;
+use crate::alphabet::is_letter;
 
 pub enum Form {
     Td1,
     Td2,
     Td3,
+    MrvA,
+    MrvB,
 }
 
 // What a document is, which its code tells.
 pub enum Kind {
     Card,
     Passport,
+    Visa,
 }
 
 // Where a text stands, on which it depends what forms it may have.
@@ -73,6 +80,10 @@ impl Form {
 
     pub const TD3_TEXT: usize = 88;
 
+    pub const MRV_A_TEXT: usize = 88;
+
+    pub const MRV_B_TEXT: usize = 72;
+
     // The widths that are the same in every form; a nationality has that of a state.
     pub const CODE: usize = 2;
 
@@ -92,36 +103,52 @@ impl Form {
 
     pub const TD3_NUMBER: usize = 9;
 
+    pub const MRV_A_NUMBER: usize = 9;
+
+    pub const MRV_B_NUMBER: usize = 9;
+
     pub const TD1_NAME: usize = 30;
 
     pub const TD2_NAME: usize = 31;
 
     pub const TD3_NAME: usize = 39;
 
+    pub const MRV_A_NAME: usize = 39;
+
+    pub const MRV_B_NAME: usize = 31;
+
     // The room that a record has: the most of any form.
     pub const NUMBER: usize = 22;
 
     pub const NAME: usize = 39;
 
-    // Which form a text is, of those that may stand there: today all of them anywhere.
+    // Which form a text is, of those that may stand there: its length tells, and its code where a visa is as long.
     pub fn of_text(source: Source, text: &[u8]) -> Recognised
         ensures { λ r. ⌜ r ≡ formOf source (now (text .entry)) ⌝ }
     {
-        let n = text.len();
-        match source {
-            Source::Alone => Form::of_length(n),
-            Source::GroupOne => Form::of_length(n),
-            Source::Seal => Form::of_length(n),
-        }
+        let visa = is_alone(source) & selects_visa(lent::octet(text, 0), lent::octet(text, 1));
+        Form::of_length(text.len(), visa)
     }
 
-    fn of_length(n: usize) -> Recognised
-        ensures { λ r. ⌜ r ≡ firstForm (λ f. eqb n (total f)) forms ⌝ }
+    fn of_length(n: usize, visa: bool) -> Recognised
+        ensures { λ r. ⌜ r ≡ firstForm (λ f. eqb n (total f) && (not (isVisa (row f .kind)) || visa)) forms ⌝ }
     {
         match n {
             Form::TD1_TEXT => Recognised::As(Form::Td1),
-            Form::TD2_TEXT => Recognised::As(Form::Td2),
-            Form::TD3_TEXT => Recognised::As(Form::Td3),
+            Form::TD2_TEXT => {
+                if visa {
+                    Recognised::As(Form::MrvB)
+                } else {
+                    Recognised::As(Form::Td2)
+                }
+            }
+            Form::TD3_TEXT => {
+                if visa {
+                    Recognised::As(Form::MrvA)
+                } else {
+                    Recognised::As(Form::Td3)
+                }
+            }
             _ => Recognised::Unknown,
         }
     }
@@ -134,6 +161,8 @@ impl Form {
             0 => Recognised::As(Form::Td1),
             1 => Recognised::As(Form::Td2),
             2 => Recognised::As(Form::Td3),
+            3 => Recognised::As(Form::MrvA),
+            4 => Recognised::As(Form::MrvB),
             _ => Recognised::Unknown,
         }
     }
@@ -196,7 +225,26 @@ impl Form {
             Form::Td1 => td1_places(),
             Form::Td2 => td2_places(),
             Form::Td3 => td3_places(),
+            Form::MrvA => mrv_a_places(),
+            Form::MrvB => mrv_b_places(),
         }
+    }
+}
+
+// The first two characters of a visa.
+fn selects_visa(a: u8, b: u8) -> bool
+    ensures { λ r. ⌜ r ≡ isVisaCode a b ⌝ }
+{
+    (a == b'V') & (is_letter(b) | (b == FILLER))
+}
+
+fn is_alone(source: Source) -> bool
+    ensures { λ r. ⌜ r ≡ isAlone source ⌝ }
+{
+    match source {
+        Source::Alone => true,
+        Source::GroupOne => false,
+        Source::Seal => false,
     }
 }
 
@@ -300,5 +348,73 @@ fn td3_places() -> Places
         optional_before: 39,
         optional2: Form::TD3_TEXT,
         optional2_width: 0,
+    }
+}
+
+fn mrv_a_places() -> Places
+    ensures { λ r. ⌜ r ≡ placesOf Form.MrvA ⌝ }
+{
+    Places {
+        kind: Kind::Visa,
+        entered: 3,
+        text_length: Form::MRV_A_TEXT,
+        code: 0,
+        state: 2,
+        name: 5,
+        name_width: Form::MRV_A_NAME,
+        number: 44,
+        number_longest: Form::MRV_A_NUMBER,
+        number_check: 53,
+        nationality: 54,
+        birth: 57,
+        birth_check: 63,
+        sex: 64,
+        expiry: 65,
+        expiry_check: 71,
+        optional: 72,
+        optional_width: 16,
+        optional_before: 0,
+        composite: Form::MRV_A_TEXT,
+        composite_width: 0,
+        optional2: Form::MRV_A_TEXT,
+        optional2_width: 0,
+        personal: Form::MRV_A_TEXT,
+        personal_width: 0,
+        personal_check: Form::MRV_A_TEXT,
+        personal_check_width: 0,
+    }
+}
+
+fn mrv_b_places() -> Places
+    ensures { λ r. ⌜ r ≡ placesOf Form.MrvB ⌝ }
+{
+    Places {
+        kind: Kind::Visa,
+        entered: 4,
+        text_length: Form::MRV_B_TEXT,
+        code: 0,
+        state: 2,
+        name: 5,
+        name_width: Form::MRV_B_NAME,
+        number: 36,
+        number_longest: Form::MRV_B_NUMBER,
+        number_check: 45,
+        nationality: 46,
+        birth: 49,
+        birth_check: 55,
+        sex: 56,
+        expiry: 57,
+        expiry_check: 63,
+        optional: 64,
+        optional_width: 8,
+        optional_before: 0,
+        composite: Form::MRV_B_TEXT,
+        composite_width: 0,
+        optional2: Form::MRV_B_TEXT,
+        optional2_width: 0,
+        personal: Form::MRV_B_TEXT,
+        personal_width: 0,
+        personal_check: Form::MRV_B_TEXT,
+        personal_check_width: 0,
     }
 }

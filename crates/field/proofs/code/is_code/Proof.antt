@@ -16,6 +16,8 @@ is-code-spec =
     (λ c κs. search needs)
     (λ c. search needs)
     (λ c κs. search needs)
+    (λ c. search needs)
+    (λ c κs. search needs)
     (λ c. simp (
       ← c .is-card .ensures,
       ← c .before .before .before .kind .ensures,
@@ -27,6 +29,13 @@ is-code-spec =
       ← c .is-passport .ensures,
       ← c .before .before .before .kind .ensures,
       c .before .enum-told2 .given .1,
+      ← c .before .before .before .before .octet2 .ensures,
+      ← c .before .before .before .before .before .octet .ensures,
+    ))
+    (λ c. simp (
+      ← c .is-visa .ensures,
+      ← c .before .before .before .kind .ensures,
+      c .before .enum-told3 .given .1,
       ← c .before .before .before .before .octet2 .ensures,
       ← c .before .before .before .before .before .octet .ensures,
     )))
