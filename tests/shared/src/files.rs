@@ -2,6 +2,7 @@
 
 use crate::records;
 use crate::seeds::Seeds;
+use paper::form::Form;
 use paper::presentation::write_text_element;
 use paper::{group, text};
 
@@ -21,5 +22,5 @@ pub fn files(seeds: &mut Seeds, groups: usize) -> Vec<(u8, Vec<u8>)> {
 
 /// The content of a group 1 with the text of a sound record.
 pub fn group_1(seeds: &mut Seeds) -> Vec<u8> {
-    write_text_element(&text::write(&records::sound(seeds)))
+    write_text_element(&text::write(&records::sound_among(seeds, &Form::IN_GROUP_1)))
 }

@@ -9,14 +9,19 @@ pub const ALPHABET: &[u8; 37] = b"<0123456789ABCDEFGHIJKLMNOPQRSTUVWXYZ";
 const LETTERS: &[u8] = b"ABCDEFGHIJKLMNOPQRSTUVWXYZ";
 
 pub fn sound(seeds: &mut Seeds) -> Record {
-    let form = seeds.pick(&Form::ALL);
+    sound_among(seeds, &Form::ALL)
+}
+
+/// Of one of these forms.
+pub fn sound_among(seeds: &mut Seeds, forms: &[Form]) -> Record {
+    let form = seeds.pick(forms);
     sound_of(seeds, form)
 }
 
 pub fn sound_of(seeds: &mut Seeds, form: Form) -> Record {
     Record {
         form,
-        code: until(seeds, |seeds| [seeds.pick(b"PACI"), seeds.pick(ALPHABET)], |code| is_code(form, code)),
+        code: until(seeds, |seeds| [seeds.pick(b"PACIV"), seeds.pick(ALPHABET)], |code| is_code(form, code)),
         state: state(seeds),
         number: number(seeds, form),
         nationality: state(seeds),

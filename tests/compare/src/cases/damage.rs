@@ -232,6 +232,11 @@ fn files() -> Vec<Damage> {
         text[place] = character;
         all.push(at(&[2, 0], Kind::Content(text)));
     }
+    // Visas, which are texts alone: as they are printed, and with a character that is none.
+    for visa in [specimens::ERIKSSON_MRV_A, specimens::ERIKSSON_MRV_B].map(str::as_bytes) {
+        let foreign = [&visa[..30], b"a", &visa[31..]].concat();
+        all.extend([visa.to_vec(), foreign].map(|text| at(&[2, 0], Kind::Content(text))));
+    }
     all.push(at(&[2], Kind::Over(specimens::T3.as_bytes().to_vec())));
     all
 }

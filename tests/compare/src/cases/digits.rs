@@ -7,7 +7,7 @@ use shared::records::{until, ALPHABET};
 use shared::seeds::Seeds;
 
 /// Where the check digits stand in the text of a sound record: the number's, which of a long one stands behind its further
-/// characters, the birth's, the expiry's, TD3's personal one, and the composite.
+/// characters, the birth's, the expiry's, TD3's personal one, and the composite, which visas do not have.
 pub fn places(record: &Record) -> Vec<usize> {
     let at = record.form.layout();
     let number = match (&at.further, further(record)) {
@@ -15,7 +15,7 @@ pub fn places(record: &Record) -> Vec<usize> {
         _ => at.number_check,
     };
     let personal = at.personal.as_ref().map(|personal| personal.end);
-    [number, at.birth_check, at.expiry_check].into_iter().chain(personal).chain([at.composite]).collect()
+    [number, at.birth_check, at.expiry_check].into_iter().chain(personal).chain(at.composite).collect()
 }
 
 fn further(record: &Record) -> usize {
@@ -72,19 +72,21 @@ mod tests {
         }
     }
 
-    /// A filler at the number's own check place makes a number long, or shorter; in TD3 alone it is refused there. TD3's
-    /// composite runs over fields with their digits, and each with its own adds an even sum, since all weights are odd.
+    /// A filler at the number's own check place makes a number long, or shorter; where there are no long numbers, in TD3 and
+    /// in visas, it is refused there. TD3's composite runs over fields with their digits, and each with its own adds an even
+    /// sum, since all weights are odd.
     fn can_be(form: Form, which: usize, digit: u8, kind: [bool; 3]) -> bool {
         match form {
             Form::Td1 | Form::Td2 => which > 0 || !kind[0],
             Form::Td3 => which < 4 || digit % 2 == 0,
+            Form::MrvA | Form::MrvB => true,
         }
     }
 
     #[test]
     fn every_digit_at_every_place_under_every_kind() {
         let mut seeds = Seeds::new(1);
-        let all: BTreeSet<_> = (0..150_000).filter_map(|_| drawn(&mut seeds)).collect();
+        let all: BTreeSet<_> = (0..250_000).filter_map(|_| drawn(&mut seeds)).collect();
         let kinds = [0, 1, 2].map(|one| [0, 1, 2].map(|kind| kind == one));
         let mut every = BTreeSet::new();
         for (form, long, checks) in [
@@ -93,6 +95,8 @@ mod tests {
             (Form::Td2, false, 4),
             (Form::Td2, true, 4),
             (Form::Td3, false, 5),
+            (Form::MrvA, false, 3),
+            (Form::MrvB, false, 3),
         ] {
             for (which, digit, kind) in (0..checks).flat_map(|w| (0..10).flat_map(move |d| kinds.map(|k| (w, d, k)))) {
                 every.extend(can_be(form, which, digit, kind).then_some((form as u8, long, which, digit, kind)));

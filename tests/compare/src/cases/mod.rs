@@ -23,4 +23,5 @@ pub mod trees;
 pub mod trials;
 pub mod vector;
 pub mod version;
+pub mod visas;
 pub mod write_text;

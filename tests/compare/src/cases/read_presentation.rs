@@ -4,10 +4,12 @@ use crate::border;
 use crate::cases::houses::HOUSES;
 use crate::cases::reading::{self, Reader, Reading, ROOM};
 use crate::cases::trials::{self, Trials};
+use crate::cases::visas::{visa, Wrong};
 use crate::cases::{chance, damage, digits, octets, personal, presentations, vector};
 use crate::guard::{Lent, Side};
 use crate::report::Tally;
 use paper::answer::{Answer, Outcome};
+use paper::form::Form;
 use paper::presentation::{write, write_file, write_text_element};
 use paper::refusal::LONGEST;
 use paper::sha256::sha256;
@@ -34,6 +36,7 @@ pub fn compare(seed: u64) -> Tally {
     trials.numbers();
     trials.wrong_digits();
     trials.personal_checks();
+    trials.visas();
     trials.fenced();
     trials.drawn();
     trials.random();
@@ -287,7 +290,7 @@ impl Trials<ReadPresentation> {
     /// One or more wrong check digits in group 1's text, which has its digest in its entry.
     fn wrong_digits(&mut self) {
         for turn in 0..2_000 {
-            let record = records::sound(&mut self.seeds);
+            let record = records::sound_among(&mut self.seeds, &Form::IN_GROUP_1);
             let text = digits::spoilt(&mut self.seeds, &record);
             self.with_text(&text, 1 + turn % 4);
         }
@@ -298,6 +301,16 @@ impl Trials<ReadPresentation> {
         for (kind, turn) in personal::kinds().flat_map(|kind| (0..1_000).map(move |turn| (kind, turn))) {
             let text = personal::passport(&mut self.seeds, kind);
             self.with_text(&text, 1 + turn % 4);
+        }
+    }
+
+    /// Sound and damaged visas of both kinds in group 1, where none may stand: 2 where a character is foreign, else 3.
+    fn visas(&mut self) {
+        for (form, wrong) in Form::VISAS.into_iter().flat_map(|form| Wrong::ALL.map(|wrong| (form, wrong))) {
+            for turn in 0..300 {
+                let text = visa(&mut self.seeds, form, wrong);
+                self.with_text(&text, 1 + turn % 4);
+            }
         }
     }
 

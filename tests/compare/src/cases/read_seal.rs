@@ -8,16 +8,18 @@ use crate::cases::reading::{self, Reader, Reading, ROOM};
 use crate::cases::seals::damage::{self, filled};
 use crate::cases::seals::Pieces;
 use crate::cases::trials::Trials;
+use crate::cases::visas::{visa, Wrong};
 use crate::guard::{Lent, Side};
 use crate::report::Tally;
 use paper::answer::Outcome;
 use paper::day::Day;
+use paper::form::Form;
 use paper::refusal::LONGEST;
 use paper::seal::answer::SealAnswer;
 use paper::seal::{printed, Feature, MARKER, TEXT};
 use paper::tlv::tlv;
 use paper::{calls, day, specimens};
-use shared::seals::{other, sound, sound_of_kind, VERSIONS};
+use shared::seals::{other, sound, sound_of_kind, Sound, VERSIONS};
 
 pub fn compare(seed: u64) -> Tally {
     let mut trials = Trials::<ReadSeal>::new(seed);
@@ -36,6 +38,7 @@ pub fn compare(seed: u64) -> Tally {
     trials.without_text();
     trials.many_features();
     trials.wrong_digits();
+    trials.visas();
     trials.fenced();
     trials.drawn();
     trials.random();
@@ -232,11 +235,28 @@ impl Trials<ReadSeal> {
     /// One or more wrong check digits in the text.
     fn wrong_digits(&mut self) {
         for _ in 0..2_000 {
-            let mut made = sound(&mut self.seeds);
-            let text = made.features.iter().position(|feature| feature.tag == TEXT).expect("the feature with the text");
-            made.features[text] = Feature::of_text(&digits::spoilt(&mut self.seeds, &made.record));
-            self.case(&made.octets());
+            let made = sound(&mut self.seeds);
+            let text = digits::spoilt(&mut self.seeds, &made.record);
+            self.with_text(made, &text);
         }
+    }
+
+    /// Sound and damaged visas, where none may stand: 3 at the feature. Those of 88 characters have another length.
+    fn visas(&mut self) {
+        for wrong in Wrong::IN_SEALS.into_iter().flat_map(|wrong| [wrong; 400]) {
+            for form in Form::VISAS {
+                let made = sound(&mut self.seeds);
+                let text = visa(&mut self.seeds, form, wrong);
+                self.with_text(made, &text);
+            }
+        }
+    }
+
+    /// The seal with another text.
+    fn with_text(&mut self, mut made: Sound, text: &[u8]) {
+        let place = made.features.iter().position(|feature| feature.tag == TEXT).expect("the feature with the text");
+        made.features[place] = Feature::of_text(text);
+        self.case(&made.octets());
     }
 
     /// Nothing is read past either end, wherever a seal is cut, nor the pointer of an empty range.

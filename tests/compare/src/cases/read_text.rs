@@ -3,6 +3,7 @@
 use crate::border;
 use crate::cases::houses::{house, HOUSES};
 use crate::cases::trials::{Call, Trials};
+use crate::cases::visas::{visa, Wrong};
 use crate::cases::{digits, personal};
 use crate::guard::{Lent, Side};
 use crate::report::{hex, Tally};
@@ -36,6 +37,8 @@ pub fn compare(seed: u64) -> Tally {
     trials.long_numbers();
     trials.wrong_digits();
     trials.personal_checks();
+    trials.visas();
+    trials.visa_codes();
     trials.random();
     trials.tally
 }
@@ -86,8 +89,10 @@ impl Trials<ReadText> {
     /// Every length up to well past the longest form, and a null pointer for the empty text.
     fn lengths(&mut self) {
         for length in (0..=200).chain([65_535, 65_536, 1_000_000]) {
-            let text: Vec<u8> = specimens::T3.bytes().cycle().take(length).collect();
-            self.case(&text);
+            for text in [specimens::T3, specimens::ERIKSSON_MRV_A, specimens::ERIKSSON_MRV_B] {
+                let text: Vec<u8> = text.bytes().cycle().take(length).collect();
+                self.case(&text);
+            }
         }
         let (none, entry) = (Lent::absent(), self.room(ROOM));
         self.watch(ReadText { house: 1, text: none, entry });
@@ -125,8 +130,11 @@ impl Trials<ReadText> {
 
     /// Nothing is read past either end of a text, whatever its length.
     fn fenced(&mut self) {
-        let texts = [specimens::T3, specimens::LONG_TD1, specimens::LONG_TD2].map(str::as_bytes);
-        for text in texts.into_iter().flat_map(|text| (0..=text.len()).map(move |length| &text[..length])) {
+        let documents = [specimens::T3, specimens::LONG_TD1, specimens::LONG_TD2];
+        let texts = documents.into_iter().chain([specimens::ERIKSSON_MRV_A, specimens::ERIKSSON_MRV_B]);
+        for text in
+            texts.map(str::as_bytes).into_iter().flat_map(|text| (0..=text.len()).map(move |length| &text[..length]))
+        {
             self.together(|trials| {
                 for (side, room) in Side::BOTH.into_iter().flat_map(|side| [0, 43, ROOM].map(|room| (side, room))) {
                     let text = Lent::fenced(text, side);
@@ -280,7 +288,9 @@ impl Trials<ReadText> {
             let right = Check::start().over(&text[at.number.clone()]).over(&text[optional.start..digit]).digit();
             text[digit] = self.seeds.pick(&[right, right, right, text[digit], b'0' + (right - b'0' + 1) % 10]);
         }
-        text[at.composite] = text::composite(at, &text);
+        if let Some(place) = at.composite {
+            text[place] = text::composite(at, &text);
+        }
         text
     }
 
@@ -301,10 +311,34 @@ impl Trials<ReadText> {
         }
     }
 
+    /// Sound and damaged visas of both kinds, a thousand of each.
+    fn visas(&mut self) {
+        for (form, wrong) in Form::VISAS.into_iter().flat_map(|form| Wrong::ALL.map(|wrong| (form, wrong))) {
+            for _ in 0..1_000 {
+                let text = visa(&mut self.seeds, form, wrong);
+                self.case(&text);
+            }
+        }
+    }
+
+    /// V and every octet, and every octet and a filler, in the texts of every form.
+    fn visa_codes(&mut self) {
+        for form in Form::ALL {
+            self.together(|trials| {
+                for octet in 0..=255 {
+                    trials.replaced(form, form.layout().code.clone(), &[b'V', octet]);
+                    trials.replaced(form, form.layout().code.clone(), &[octet, FILLER]);
+                }
+            });
+        }
+    }
+
     fn random(&mut self) {
         for _ in 0..500 {
             let length = self.seeds.pick(&[72, 88, 90]);
-            let text: Vec<u8> = (0..length).map(|_| self.seeds.pick(ALPHABET)).collect();
+            let mut text: Vec<u8> = (0..length).map(|_| self.seeds.pick(ALPHABET)).collect();
+            self.case(&text);
+            text[0] = b'V';
             self.case(&text);
             let octets = self.seeds.octets(length);
             self.case(&octets);
