@@ -22,8 +22,9 @@
  *   - A stored run needs a check of its own: of the single bits of an entry about half can be turned
  *     over and give another entry.
  *
- * What is covered: SHA-256 as digest, LDS version 0107, security object version 0. Other digests,
- * 0108 and version 1 are refused, 13, 11 and 12.
+ * What is covered: texts of TD1, TD2 and TD3, alone and in group 1, and of the visas MRV-A and MRV-B,
+ * alone; SHA-256 as digest, LDS version 0107, security object version 0. Other digests, 0108 and
+ * version 1 are refused, 13, 11 and 12.
  */
 #ifndef LAMPHUDET_H
 #define LAMPHUDET_H
@@ -111,12 +112,14 @@ LAMPHUDET_ASSERT_SIZE(lamphudet_stretch, 16);
 enum lamphudet_form {
     LAMPHUDET_TD1 = 0,
     LAMPHUDET_TD2 = 1,
-    LAMPHUDET_TD3 = 2
+    LAMPHUDET_TD3 = 2,
+    LAMPHUDET_MRV_A = 3,
+    LAMPHUDET_MRV_B = 4
 };
 
 #define LAMPHUDET_HOUSE_MAX 32767 /* the greatest house; the least is 1 */
-#define LAMPHUDET_NUMBER_MAX 22   /* characters of the longest document number, of TD1; TD2 14, TD3 9 */
-#define LAMPHUDET_NAME_MAX 39     /* characters of the longest name, of TD3; TD1 30, TD2 31 */
+#define LAMPHUDET_NUMBER_MAX 22   /* characters of the longest document number, of TD1; TD2 14, the others 9 */
+#define LAMPHUDET_NAME_MAX 39     /* characters of the longest name, of TD3 and MRV-A; TD1 30, TD2 and MRV-B 31 */
 
 /*
  * What an entry holds. The fields are characters, A-Z, 0-9 and the filler <, and no zero ends them:
@@ -125,7 +128,7 @@ enum lamphudet_form {
 typedef struct lamphudet_record {
     uint32_t number; /* LAMPHUDET_NOT_REFUSED, or 18 */
     uint32_t house;
-    uint8_t form; /* LAMPHUDET_TD1, LAMPHUDET_TD2 or LAMPHUDET_TD3 */
+    uint8_t form; /* of enum lamphudet_form */
     uint8_t sex;  /* F, M or < */
     uint8_t document_number_len, name_len;
     uint8_t code[2], state[3], nationality[3], birth[6], expiry[6];
@@ -282,12 +285,18 @@ static inline const char *lamphudet_long_number_at(const uint8_t *text, uint64_t
     return place == end - 1 ? "check digit of the document number" : "document number, further characters";
 }
 
-/* The same of every text that is long enough. TD3 has no long numbers. */
+/* The same of every text that is long enough and no visa. TD3 has no long numbers. */
 static inline const char *lamphudet_long_number(const uint8_t *text, size_t text_len, uint64_t place)
 {
     return text_len == 90 ? lamphudet_long_number_at(text, 14, 15, 15, place)
          : text_len == 72 ? lamphudet_long_number_at(text, 45, 64, 7, place)
                           : NULL;
+}
+
+/* Whether a text that stands alone is a visa, MRV-A or MRV-B: 88 or 72 characters that begin with V and a letter or <. */
+static inline int lamphudet_is_visa(const uint8_t *text, size_t text_len)
+{
+    return (text_len == 88 || text_len == 72) && text[0] == 'V' && (text[1] == '<' || (text[1] >= 'A' && text[1] <= 'Z'));
 }
 
 /*
@@ -297,6 +306,10 @@ static inline const char *lamphudet_long_number(const uint8_t *text, size_t text
  *
  * Of a presentation that was refused by 2 to 9, the text is the file of group 1 (lamphudet_group_file) from its sixth octet
  * on, and its places count from there.
+ *
+ * Of 88 or 72 characters that begin with V and a letter or < the fields are a visa's, as of a text alone. In group 1 and in
+ * a seal no visa may stand: there such a text is read as TD3 or TD2, and the places behind the check digit of the expiry are
+ * TD3's or TD2's, and not optional data to the end as told here.
  */
 static inline const char *lamphudet_field(const uint8_t *text, size_t text_len, uint64_t place)
 {
@@ -318,8 +331,22 @@ static inline const char *lamphudet_field(const uint8_t *text, size_t text_len, 
         { 1, "sex" }, { 6, "expiry" }, { 1, "check digit of the expiry" }, { 14, "personal number" },
         { 1, "check digit of the personal number" }, { 1, "composite check digit" }, { 0, "not in a text" },
     };
-    const char *of_long_number = lamphudet_long_number(text, text_len, place);
+    static const lamphudet_part mrva[] = {
+        { 2, "document code" }, { 3, "issuing state" }, { 39, "name" }, { 9, "document number" },
+        { 1, "check digit of the document number" }, { 3, "nationality" }, { 6, "birth" }, { 1, "check digit of the birth" },
+        { 1, "sex" }, { 6, "expiry" }, { 1, "check digit of the expiry" }, { 16, "optional data" }, { 0, "not in a text" },
+    };
+    static const lamphudet_part mrvb[] = {
+        { 2, "document code" }, { 3, "issuing state" }, { 31, "name" }, { 9, "document number" },
+        { 1, "check digit of the document number" }, { 3, "nationality" }, { 6, "birth" }, { 1, "check digit of the birth" },
+        { 1, "sex" }, { 6, "expiry" }, { 1, "check digit of the expiry" }, { 8, "optional data" }, { 0, "not in a text" },
+    };
+    const char *of_long_number;
 
+    if (lamphudet_is_visa(text, text_len)) {
+        return lamphudet_part_at(text_len == 88 ? mrva : mrvb, place);
+    }
+    of_long_number = lamphudet_long_number(text, text_len, place);
     if (of_long_number != NULL) {
         return of_long_number;
     }
@@ -344,14 +371,15 @@ static inline const char *lamphudet_field(const uint8_t *text, size_t text_len, 
  * alone.
  *
  * What it holds is told by lamphudet_open_entry. The bits, the most significant first: house 15,
- * form 3 (TD1 0, TD2 1, TD3 2), state 18, number 132 (filled up with <), birth 36, expiry 36, which
- * is the key; then code 12, nationality 18, sex 2 (< 0, F 1, M 2), name length 6, name, and zero
- * bits to the next octet. A character is 6 bits: < 0, digits 1 to 10, letters 11 to 36.
+ * form 3 (TD1 0, TD2 1, TD3 2, MRV-A 3, MRV-B 4), state 18, number 132 (filled up with <), birth 36,
+ * expiry 36, which is the key; then code 12, nationality 18, sex 2 (< 0, F 1, M 2), name length 6,
+ * name, and zero bits to the next octet. A character is 6 bits: < 0, digits 1 to 10, letters 11 to
+ * 36.
  */
 #define LAMPHUDET_ENTRY_MIN 36 /* octets of the shortest entry */
 #define LAMPHUDET_ENTRY_MAX 64 /* octets of the longest entry */
 #define LAMPHUDET_KEY 30       /* octets of an entry's key */
-#define LAMPHUDET_TEXT_MAX 90  /* characters of the longest text: TD1; TD2 has 72, TD3 88 */
+#define LAMPHUDET_TEXT_MAX 90  /* characters of the longest text: TD1; TD2 and MRV-B have 72, TD3 and MRV-A 88 */
 #define LAMPHUDET_DIGEST 32    /* octets of a digest */
 
 /*
@@ -364,6 +392,10 @@ static inline const char *lamphudet_field(const uint8_t *text, size_t text_len, 
  * Reads the text of a machine readable zone, its lines joined without line ends, and writes the
  * entry of the house and the text's record to the first octets of entry. Answers 0 and how many
  * these are: LAMPHUDET_ENTRY_MIN to LAMPHUDET_ENTRY_MAX.
+ *
+ * 90 characters are TD1. 72 and 88 that begin with V and a letter or < are the visas MRV-B and MRV-A;
+ * all others are TD2 and TD3. A visa's expiry is its valid-until. It has no composite check digit, and
+ * no long document number: a < for the number's check digit is a wrong one.
  *
  * Refuses, in this order:
  *   1   at 0: the text has not 72, 88 or 90 characters
@@ -391,8 +423,8 @@ lamphudet_answer lamphudet_read_text(uint32_t house, const uint8_t *text, size_t
  *
  * What is accepted: every lent group is listed in EF.COM, is lent once, and has an entry in the
  * security object with the SHA-256 digest of its whole file; group 1 is lent, and holds exactly a
- * text that lamphudet_read_text accepts. Signatures over the security object and the inside of
- * other groups are not looked at.
+ * text of TD1, TD2 or TD3 that lamphudet_read_text accepts. Signatures over the security object and
+ * the inside of other groups are not looked at.
  *
  * Refuses, in the order of the stages, and in a stage from left to right: an element's encoding,
  * then its content, then what follows it. Encoding is the tag named, the length in its one shortest
@@ -423,7 +455,8 @@ lamphudet_answer lamphudet_read_text(uint32_t house, const uint8_t *text, size_t
  *   14  at presentation_len: there is none
  *   10  the text (5F1F), and nothing more
  *   1 to 9, as lamphudet_read_text does, each at its place in the text, counted from the
- *   presentation's start; 9 with the digit that was expected
+ *   presentation's start; 9 with the digit that was expected; but a visa is read as TD3 or TD2, and
+ *   so is 2 where a character is not A-Z, 0-9 or <, else 3 at the start of the text
  *   Then:
  *   17  at 0: the house is not 1 to 32,767
  *   16  at 0: entry has fewer octets than this entry needs
@@ -446,10 +479,10 @@ lamphudet_stretch lamphudet_group_file(const uint8_t *presentation, size_t prese
 
 /*
  * Writes the text of an entry's record to the first octets of text, lines joined, and answers 0 and
- * how many these are: 90 for TD1, 72 for TD2, 88 for TD3. The house stands in no text. Optional
- * places that a long number does not need are fillers, and TD3's personal check is 0, also where <
- * stood for it: a text that was read comes back as it was, but for optional data and the checks over
- * them.
+ * how many these are: 90 for TD1, 72 for TD2 and MRV-B, 88 for TD3 and MRV-A. The house stands in no
+ * text. Optional places that a long number does not need are fillers, and TD3's personal check is 0,
+ * also where < stood for it: a text that was read comes back as it was, but for optional data and the
+ * checks over them.
  *
  * Refuses, in this order:
  *   18  at 0: entry is not exactly one entry; none at all, a part of one, or one with anything

@@ -98,8 +98,8 @@ LAMPHUDET_ASSERT_SIZE(lamphudet_seal, 312);
  *   26  at the tag of feature 02: it is not C40 of 72 characters
  *   27  at FF: its length is wrongly coded, the signature is cut off, or anything stands behind it;
  *       at seal_len: there is no FF
- *   3 to 9, as lamphudet_read_text does, but at the tag of feature 02; a text that begins with V is
- *       3 there; 9 with the digit that was expected in the text
+ *   3 to 9, as lamphudet_read_text does, but at the tag of feature 02; a text that begins with V,
+ *       also that of a visa, is 3 there; 9 with the digit that was expected in the text
  *   17  at 0: the house is not 1 to 32,767
  *   16  at 0: entry has fewer octets than this entry needs
  *

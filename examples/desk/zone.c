@@ -20,7 +20,7 @@ size_t line_width(size_t len)
     }
 }
 
-/* The width of a line in TD1, TD2 or TD3. */
+/* The width of a line in TD1, in TD2 and MRV-B, or in TD3 and MRV-A. */
 static int is_width(size_t characters)
 {
     return characters == 30 || characters == 36 || characters == 44;

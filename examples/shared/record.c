@@ -13,6 +13,8 @@ static const char *form_name(uint8_t form)
     case LAMPHUDET_TD1: return "TD1";
     case LAMPHUDET_TD2: return "TD2";
     case LAMPHUDET_TD3: return "TD3";
+    case LAMPHUDET_MRV_A: return "MRV-A";
+    case LAMPHUDET_MRV_B: return "MRV-B";
     default: return "?";
     }
 }
@@ -34,13 +36,13 @@ void show_record(const lamphudet_record *record)
 /* Columns of one width each, but for the name, which is last. */
 void show_heading(void)
 {
-    printf("  %6s  %5s  %-4s  %-4s  %-5s  %-22s  %-6s  %-6s  %-3s  %-6s  %s\n", "offset", "house", "form", "code", "state",
+    printf("  %6s  %5s  %-5s  %-4s  %-5s  %-22s  %-6s  %-6s  %-3s  %-6s  %s\n", "offset", "house", "form", "code", "state",
            "number", "nation", "birth", "sex", "expiry", "name");
 }
 
 void show_row(uint64_t offset, const lamphudet_record *record)
 {
-    printf("  %6" PRIu64 "  %5" PRIu32 "  %-4s", offset, record->house, form_name(record->form));
+    printf("  %6" PRIu64 "  %5" PRIu32 "  %-5s", offset, record->house, form_name(record->form));
     printf("  %-4.*s  %-5.*s", WHOLE(record->code), WHOLE(record->state));
     printf("  %-22.*s", UP_TO(record->document_number, record->document_number_len));
     printf("  %-6.*s  %-6.*s", WHOLE(record->nationality), WHOLE(record->birth));

@@ -32,7 +32,7 @@ holds 'an empty group 1' 1 "$expected/presentation-group-1-empty" presentation "
 holds 'an empty text in group 1' 1 "$expected/presentation-text-empty" presentation "$(with_group_1 61035f1f00)"
 
 # The texts of refused.text with a wrong check digit, in group 1: what is expected is told there too, at the place in the
-# presentation, where the text stands from 123 + 5 on.
+# presentation, where the text stands from 123 + 5 on. Visas are apart.
 in_group_1() {
     printf '61%02x5f1f%02x' $((${#1} + 3)) ${#1}
     od -An -v -tx1 <<< "$1" | tr -d ' \n' | sed 's/0a$//'
@@ -44,8 +44,22 @@ while read -r place digit text; do
         grep -qx "  refused, 9 at place $((128 + place)): check digit, expected $digit" "$folder/output"
     digits=$((digits + 1))
 done < <(sed -nE '/^# 9 at/,/^$/ { s/^# 9 at ([0-9]+), expected ([0-9]):.*/\1 \2/; p }' $samples/refused.text |
-    awk -v RS= '{ print $1, $2, $3 $4 $5 }')
+    awk -v RS= '!/\nV/ { print $1, $2, $3 $4 $5 }')
 try 'nine texts have a wrong digit' [ "$digits" -eq 9 ]
+
+# The visas of both samples, accepted or refused alone: in group 1 none may stand, so that each is 3 where its text begins.
+visas=0
+while read -r text; do
+    "$folder/desk" presentation "$(with_group_1 "$(in_group_1 "$text")")" > "$folder/output"
+    try "a visa in group 1, $text" grep -qx '  refused, 3 at place 128: document code' "$folder/output"
+    visas=$((visas + 1))
+done < <(cat $samples/specimens.text <(echo) $samples/refused.text | sed '/^#/d' | awk -v RS= '/^V/ { print $1 $2 }')
+try 'five texts begin with V' [ "$visas" -eq 5 ]
+mrv_a='V<UTOERIKSSON<<ANNA<MARIA<<<<<<<<<<<<<<<<<<<L8988901C4XXX4009078F96121096ZE184226B<<<<<<'
+holds 'a visa in group 1' 1 "$expected/presentation-visa" presentation "$(with_group_1 "$(in_group_1 "$mrv_a")")"
+# A character that is none of the alphabet goes before the code.
+"$folder/desk" presentation "$(with_group_1 "$(in_group_1 "${mrv_a/MARIA/MARIa}")")" > "$folder/output"
+try 'a visa in group 1 with a lower case letter' grep -qx '  refused, 2 at place 152: character not A-Z, 0-9, <' "$folder/output"
 
 # T3 with a filler for the check of its personal number, which is all fillers: in all that is shown, the sample.
 holds 'a presentation that leaves the personal check out' 0 "$folder/presentation" \

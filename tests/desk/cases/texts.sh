@@ -15,10 +15,18 @@ specimen() {
 }
 specimen 2 > "$folder/td1"
 specimen 3 > "$folder/td2"
+# The visas' lines are as wide as those of TD3 and TD2.
+specimen 5 > "$folder/mrv-a"
+specimen 6 > "$folder/mrv-b"
 holds 'TD1 in one line' 0 "$folder/td1" text \
     'I<UTOD231458907<<<<<<<<<<<<<<< 7408122F1204159UTO<<<<<<<<<<<6 ERIKSSON<<ANNA<MARIA<<<<<<<<<<'
 holds 'TD2 in one line' 0 "$folder/td2" text \
     'I<UTOERIKSSON<<ANNA<MARIA<<<<<<<<<<< D231458907UTO7408122F1204159<<<<<<<6'
+
+holds 'MRV-A in one line' 0 "$folder/mrv-a" text \
+    'V<UTOERIKSSON<<ANNA<MARIA<<<<<<<<<<<<<<<<<<< L8988901C4XXX4009078F96121096ZE184226B<<<<<<'
+holds 'MRV-B in one line' 0 "$folder/mrv-b" text \
+    'V<UTOERIKSSON<<ANNA<MARIA<<<<<<<<<<< L8988901C4XXX4009078F9612109<<<<<<<<'
 
 # A text that is lent otherwise is shown as it was lent, and refused there.
 holds 'a blank within a line' 1 "$expected/blank-kept" text "P<UTO NORD<<ELIN<<<<<<<<<<<<<<<<<<<<<<<<<<<< $second"

@@ -1,6 +1,6 @@
 /*
- * A host of the installed header: lamphudet_field names every place of every form as document 01 lays the texts out, and
- * answers for every length and place. Below each text stands its picture, a letter for each place, written from the paper's
+ * A host of the installed header: lamphudet_field names every place of every form as documents 01 and 02 lay the texts out,
+ * and answers for every length and place. Below each text stands its picture, a letter for each place, written from the paper's
  * widths. Exit status 0 where every place has the words of its letter.
  */
 #include <lamphudet.h>
@@ -67,6 +67,24 @@ static const struct {
     /* in TD3 a filler at the number's check place is a wrong digit */
     { "P<UTONORD<<ELIN<<<<<<<<<<<<<<<<<<<<<<<<<<<<<" "K7<<<<<<<<UTO9001158F3006302ABC3<<<<<<<<<<00",
       "ccsssaaaaaaaaaaaaaaaaaaaaaaaaaaaaaaaaaaaaaaa" "nnnnnnnnnNtttbbbbbbBxeeeeeeEppppppppppppppPC" },
+    /* MRV-A: code 2, state 3, name 39; number 9, check, nationality 3, birth 6, check, sex, valid-until 6, check, optional 16 */
+    { "V<UTOERIKSSON<<ANNA<MARIA<<<<<<<<<<<<<<<<<<<" "L8988901C4XXX4009078F96121096ZE184226B<<<<<<",
+      "ccsssaaaaaaaaaaaaaaaaaaaaaaaaaaaaaaaaaaaaaaa" "nnnnnnnnnNtttbbbbbbBxeeeeeeEoooooooooooooooo" },
+    /* MRV-B: name 31, optional 8 */
+    { "VZUTOERIKSSON<<ANNA<MARIA<<<<<<<<<<<" "L8988901C4XXX4009078F9612109<<<<<<<<",
+      "cc" "sss" "aaaaaaaaaaaaaaaaaaaaaaaaaaaaaaa" "nnnnnnnnnNtttbbbbbbBxeeeeeeEoooooooo" },
+    /* in a visa a filler at the number's check place is a wrong digit, and nothing behind it a number */
+    { "VAUTOERIKSSON<<ANNA<MARIA<<<<<<<<<<<" "L8988901C<XXX4009078F96121097349<<<<",
+      "cc" "sss" "aaaaaaaaaaaaaaaaaaaaaaaaaaaaaaa" "nnnnnnnnnNtttbbbbbbBxeeeeeeEoooooooo" },
+    { "VAUTOERIKSSON<<ANNA<MARIA<<<<<<<<<<<<<<<<<<<" "L8988901C<XXX4009078F96121097349<<<<<<<<<<<<",
+      "ccsssaaaaaaaaaaaaaaaaaaaaaaaaaaaaaaaaaaaaaaa" "nnnnnnnnnNtttbbbbbbBxeeeeeeEoooooooooooooooo" },
+    /* V and a digit, or what is none of the alphabet, selects no visa: TD2 with a long number, and TD3; V in TD1 neither */
+    { "V0UTOERIKSSON<<ANNA<MARIA<<<<<<<<<<<" "D23145890<UTO7408122F1204159ABCDE3<6",
+      "cc" "sss" "aaaaaaaaaaaaaaaaaaaaaaaaaaaaaaa" "nnnnnnnnn-tttbbbbbbBxeeeeeeEfffffN.C" },
+    { "V[UTONORD<<ELIN<<<<<<<<<<<<<<<<<<<<<<<<<<<<<" "K7<<<<<<<1UTO9001158F3006302<<<<<<<<<<<<<<00",
+      "ccsssaaaaaaaaaaaaaaaaaaaaaaaaaaaaaaaaaaaaaaa" "nnnnnnnnnNtttbbbbbbBxeeeeeeEppppppppppppppPC" },
+    { "V<UTOD231458907<<<<<<<<<<<<<<<" "7408122F1204159UTO<<<<<<<<<<<6" "ERIKSSON<<ANNA<MARIA<<<<<<<<<<",
+      "ccsssnnnnnnnnnNooooooooooooooo" "bbbbbbBxeeeeeeEtttqqqqqqqqqqqC" "aaaaaaaaaaaaaaaaaaaaaaaaaaaaaa" },
 };
 
 static const char *meaning(char letter)

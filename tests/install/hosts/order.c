@@ -17,6 +17,8 @@ static const struct {
     { 1, "I<UTOERIKSSON<<ANNA<MARIA<<<<<<<<<<<" "D231458907UTO7408122F1204159<<<<<<<6" },
     { 1, "P<UTONORD<<ELIN<<<<<<<<<<<<<<<<<<<<<<<<<<<<<" "K7<<<<<<<1UTO9001158F3006302<<<<<<<<<<<<<<00" },
     { 1, "P<UTOERIKSSON<<ANNA<MARIA<<<<<<<<<<<<<<<<<<<" "L898902C36UTO7408122F1204159ZE184226B<<<<<10" },
+    { 1, "V<UTOERIKSSON<<ANNA<MARIA<<<<<<<<<<<<<<<<<<<" "L8988901C4XXX4009078F96121096ZE184226B<<<<<<" },
+    { 1, "V<UTOERIKSSON<<ANNA<MARIA<<<<<<<<<<<" "L8988901C4XXX4009078F9612109<<<<<<<<" },
     { 256, "I<UTOD231458907<<<<<<<<<<<<<<<" "7408122F1204159UTO<<<<<<<<<<<6" "ERIKSSON<<ANNA<MARIA<<<<<<<<<<" },
     { 256, "I<UTOD23145890<7349<<<<<<<<<<<" "3407127M9507122UTO<<<<<<<<<<<2" "STEVENSON<<PETER<JOHN<<<<<<<<<" },
     { LAMPHUDET_HOUSE_MAX,

@@ -2,7 +2,8 @@
  * A host of the installed library: T3 of document 01 is read to an entry of 43 octets that begins as the paper says, is
  * found again as the only entry of a run, is opened to the fields that the text has, and is written back; with a filler for
  * the check of its personal number it has the same entry; what is refused opens to the blank record; a wrong check digit is
- * told with the one that was expected; and every refusal has words of its own. Exit status 0 where all of that is so.
+ * told with the one that was expected; the visas that Doc 9303-7 prints are read to entries with forms of their own, opened
+ * and written back; and every refusal has words of its own. Exit status 0 where all of that is so.
  */
 #include "holds.h"
 
@@ -120,6 +121,70 @@ static int expected(void)
     return 1;
 }
 
+/* The specimens of Doc 9303-7, and how many characters stand before their optional data. */
+static const struct {
+    const char *text;
+    uint8_t form;
+    size_t before;
+} visas[] = {
+    { "V<UTOERIKSSON<<ANNA<MARIA<<<<<<<<<<<<<<<<<<<" "L8988901C4XXX4009078F96121096ZE184226B<<<<<<", LAMPHUDET_MRV_A, 72 },
+    { "V<UTOERIKSSON<<ANNA<MARIA<<<<<<<<<<<" "L8988901C4XXX4009078F9612109<<<<<<<<", LAMPHUDET_MRV_B, 64 },
+};
+
+static int is_visa(lamphudet_record record, uint8_t form)
+{
+    return record.number == 0 && record.house == 1 && record.form == form && record.sex == 'F'
+        && holds(record.code, sizeof record.code, "V") && holds(record.state, sizeof record.state, "UTO")
+        && holds(record.nationality, sizeof record.nationality, "XXX")
+        && holds(record.birth, sizeof record.birth, "400907") && holds(record.expiry, sizeof record.expiry, "961210")
+        && record.document_number_len == 9
+        && holds(record.document_number, sizeof record.document_number, "L8988901C")
+        && record.name_len == 20 && holds(record.name, sizeof record.name, "ERIKSSON<<ANNA<MARIA");
+}
+
+/* 278 + 6 * 20 bits are 50 octets. Written back with fillers for the optional data, of which a text is as long as before. */
+static int visa_kept(const char *given, uint8_t form, size_t before)
+{
+    uint8_t entry[LAMPHUDET_ENTRY_MAX];
+    uint8_t text[LAMPHUDET_TEXT_MAX];
+    size_t len = strlen(given);
+
+    return is(lamphudet_read_text(1, (const uint8_t *)given, len, entry, sizeof entry), 0, 50)
+        && (entry[1] & 1) == form >> 2 && entry[2] >> 6 == (form & 3)
+        && is_visa(lamphudet_open_entry(entry, 50), form)
+        && is(lamphudet_write_text(entry, 50, text, sizeof text), 0, len)
+        && memcmp(text, given, before) == 0 && holds(text + before, len - before, "");
+}
+
+/* A filler for the number's check digit, which is 4, is a wrong one; V and a digit is no document code. */
+static int visa_refused(const char *given)
+{
+    uint8_t entry[LAMPHUDET_ENTRY_MAX];
+    uint8_t text[LAMPHUDET_TEXT_MAX];
+    size_t len = strlen(given);
+    size_t check = len / 2 + 9;
+    lamphudet_answer answer;
+
+    memcpy(text, given, len);
+    text[check] = '<';
+    answer = lamphudet_read_text(1, text, len, entry, sizeof entry);
+    text[1] = '0';
+    return answer.number == LAMPHUDET_REFUSED_DIGIT && answer.expected == 4 && answer.value == check
+        && is(lamphudet_read_text(1, text, len, entry, sizeof entry), LAMPHUDET_REFUSED_CODE, 0);
+}
+
+static int of_visas(void)
+{
+    size_t at;
+
+    for (at = 0; at < sizeof visas / sizeof visas[0]; at++) {
+        if (!visa_kept(visas[at].text, visas[at].form, visas[at].before) || !visa_refused(visas[at].text)) {
+            return 0;
+        }
+    }
+    return 1;
+}
+
 /* The words of each number are apart from each other, but for numbers that are none, which all have the same. */
 static int in_words(void)
 {
@@ -142,9 +207,10 @@ int main(void)
 {
     int kept = accepted() && left_out();
     int kept_out = refused() && expected();
+    int visas_too = of_visas();
     int told = in_words();
 
-    printf("T3 %s, refusals %s, words %s\n", kept ? "kept" : "NOT kept", kept_out ? "right" : "WRONG",
-           told ? "right" : "WRONG");
-    return !(kept && kept_out && told);
+    printf("T3 %s, refusals %s, visas %s, words %s\n", kept ? "kept" : "NOT kept", kept_out ? "right" : "WRONG",
+           visas_too ? "right" : "WRONG", told ? "right" : "WRONG");
+    return !(kept && kept_out && visas_too && told);
 }

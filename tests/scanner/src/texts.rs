@@ -2,7 +2,7 @@
 
 use crate::lines::{other, printed, text, text_of, zone, Element, Lines};
 use crate::{sample, Sample};
-use paper::specimens::{ERIKSSON_TD2, LONG_TD2};
+use paper::specimens::{ERIKSSON_MRV_B, ERIKSSON_TD2, LONG_TD2};
 
 /// The last of its 24 pairs.
 const LAST: usize = 23;
@@ -103,6 +103,11 @@ fn spoilt(name: &'static str, remark: &'static str, place: usize, characters: &s
 pub fn fields() -> Vec<Sample> {
     vec![
         spoilt("3-visa", "3 at 18: the text begins with V. It is told where feature 02 begins.", 0, "V"),
+        sample(
+            "3-visa-alone",
+            "3 at 18: the visa MRV-B that Doc 9303-7 prints, which is accepted as a text alone and not in a seal.",
+            Lines::of(&printed(), &[text_of(ERIKSSON_MRV_B), zone()]),
+        ),
         spoilt("3-passport", "3 at 18: the text begins with P, as only TD3 does.", 0, "P"),
         spoilt("4-state", "4 at 18: the issuing state is U O, with a space between.", 2, "U<O"),
         spoilt("4-nationality", "4 at 18: the nationality has a digit.", 46, "UT0"),
