@@ -1,6 +1,7 @@
 //! What is measured, and work on it.
 
 use crate::records::{MIXED, RECORDS};
+use paper::form::Form;
 use paper::refusal::LONGEST;
 use shared::grouped::grouped;
 use shared::worst::Worst;
@@ -14,6 +15,8 @@ pub enum Job {
     Digest(usize),
     /// One text read, and its entry written.
     ReadText,
+    /// One text of this form read, and its entry written.
+    ReadForm(Form),
     /// One text read that may be damaged, and its entry written or it refused.
     ReadMixed,
     /// One entry of a run read.
@@ -39,7 +42,16 @@ pub enum Job {
 impl Job {
     /// One block, two sizes between, and the longest input.
     pub const DIGESTS: [Job; 4] = [Job::Digest(64), Job::Digest(1_024), Job::Digest(16_384), Job::Digest(65_535)];
-    pub const RECORDS: [Job; 5] = [Job::ReadText, Job::ReadMixed, Job::NextEntry, Job::OpenEntry, Job::WriteText];
+    pub const RECORDS: [Job; 8] = [
+        Job::ReadText,
+        Job::ReadMixed,
+        Job::ReadForm(Form::Td3),
+        Job::ReadForm(Form::MrvA),
+        Job::ReadForm(Form::MrvB),
+        Job::NextEntry,
+        Job::OpenEntry,
+        Job::WriteText,
+    ];
     /// 2, 16 and 60 KB.
     pub const PRESENTATIONS: [Job; 3] =
         [Job::ReadPresentation(2_048), Job::ReadPresentation(16_384), Job::ReadPresentation(61_440)];
@@ -58,6 +70,7 @@ impl Job {
         let kind = match self {
             Job::Digest(_) => "digest",
             Job::ReadText => "read_text",
+            Job::ReadForm(form) => return format!("read_{form:?}"),
             Job::ReadMixed => "read_mixed",
             Job::NextEntry => "next_entry",
             Job::OpenEntry => "open_entry",
@@ -77,6 +90,7 @@ impl Job {
         match self {
             Job::Digest(size) | Job::ReadPresentation(size) | Job::DigestFiles(size) => grouped(size as u64),
             Job::ReadText => "texts read, entries written".into(),
+            Job::ReadForm(form) => format!("texts of {} read, entries written", named(form)),
             Job::ReadMixed => "texts read, half of them refused".into(),
             Job::NextEntry => "entries read".into(),
             Job::OpenEntry => "entries opened".into(),
@@ -113,6 +127,16 @@ impl Job {
         let mut jobs = octets.chain(Job::RECORDS).chain(Job::SEALS);
         let found = jobs.find(|job| job.kind() == kind && job.size() == size);
         found.expect("the name of a job")
+    }
+}
+
+fn named(form: Form) -> &'static str {
+    match form {
+        Form::Td1 => "TD1",
+        Form::Td2 => "TD2",
+        Form::Td3 => "TD3",
+        Form::MrvA => "MRV-A",
+        Form::MrvB => "MRV-B",
     }
 }
 

@@ -1,12 +1,15 @@
-//! The work on texts and entries: sound records of all forms, taken in turn, as a server meets them, and texts of which half
-//! are refused.
+//! The work on texts and entries: sound records of TD1, TD2 and TD3, taken in turn, as a server meets them, texts of which half
+//! are refused, and the same records as passports and as visas.
 
 use crate::border;
 use crate::contender::Contender;
 use crate::job::{Job, Work};
 use crate::whole::whole;
 use paper::answer::Answer;
+use paper::field::trimmed;
+use paper::form::Form;
 use paper::opened::Opened;
+use paper::record::Record;
 use paper::{calls, entry, text};
 use shared::records::{self, until, ALPHABET};
 use shared::seeds::Seeds;
@@ -18,11 +21,15 @@ pub const MIXED: usize = 4_000;
 pub fn of(contender: Contender, job: Job) -> Option<Work> {
     match (contender, job) {
         (Contender::Library, Job::ReadText) => Some(over(texts(), |text, room| border::read_text(1, text, room))),
+        (Contender::Library, Job::ReadForm(form)) => {
+            Some(over(texts_of(form), |text, room| border::read_text(1, text, room)))
+        }
         (Contender::Library, Job::ReadMixed) => Some(mixed(|text, room| border::read_text(1, text, room))),
         (Contender::Library, Job::WriteText) => Some(over(entries(), border::write_text)),
         (Contender::Library, Job::OpenEntry) => Some(opening(border::open_entry)),
         (Contender::Library, Job::NextEntry) => Some(along(border::next_entry)),
         (Contender::Rust, Job::ReadText) => Some(over(texts(), read_text)),
+        (Contender::Rust, Job::ReadForm(form)) => Some(over(texts_of(form), read_text)),
         (Contender::Rust, Job::ReadMixed) => Some(mixed(read_text)),
         (Contender::Rust, Job::WriteText) => Some(over(entries(), |entry, room| {
             let outcome = calls::write_text(entry, room.len());
@@ -42,21 +49,40 @@ pub fn read_text(text: &[u8], room: &mut [u8]) -> Answer {
     outcome.answer
 }
 
+/// Of the forms that a chip can have: the records that were measured before there were visas.
+fn sound(seeds: &mut Seeds) -> Record {
+    records::sound_among(seeds, &Form::IN_GROUP_1)
+}
+
 fn entries() -> Vec<Vec<u8>> {
     let mut seeds = Seeds::new(9303);
-    (0..RECORDS).map(|_| entry::write(1, &records::sound(&mut seeds))).collect()
+    (0..RECORDS).map(|_| entry::write(1, &sound(&mut seeds))).collect()
 }
 
 fn texts() -> Vec<Vec<u8>> {
     let mut seeds = Seeds::new(9303);
-    (0..RECORDS).map(|_| text::write(&records::sound(&mut seeds))).collect()
+    (0..RECORDS).map(|_| text::write(&sound(&mut seeds))).collect()
+}
+
+/// The same passports for every form, so that one form's work can be held to another's.
+fn texts_of(form: Form) -> Vec<Vec<u8>> {
+    let mut seeds = Seeds::new(9303);
+    (0..RECORDS).map(|_| text::write(&turned(form, records::sound_of(&mut seeds, Form::Td3)))).collect()
+}
+
+/// A passport's record as one of a visa, or as it is: another first letter, and a name that is cut where it does not fit.
+fn turned(form: Form, passport: Record) -> Record {
+    let first = if form.is_visa() { b'V' } else { passport.code[0] };
+    let longest = passport.name.len().min(form.longest_name());
+    let name = trimmed(&passport.name[..longest]).to_vec();
+    Record { form, code: [first, passport.code[1]], name, ..passport }
 }
 
 /// Sound texts, and in the place of every other one a text that is refused.
 fn mixed_texts() -> Vec<Vec<u8>> {
     let mut seeds = Seeds::new(9303);
     let text = |turn: usize| match turn % 2 {
-        0 => text::write(&records::sound(&mut seeds)),
+        0 => text::write(&sound(&mut seeds)),
         _ => until(&mut seeds, damaged, |text| number_of(text) != 0),
     };
     (0..MIXED).map(text).collect()
@@ -69,7 +95,7 @@ fn number_of(text: &[u8]) -> u32 {
 
 /// A text of which one character is another: one of the alphabet, or now and then any octet.
 fn damaged(seeds: &mut Seeds) -> Vec<u8> {
-    let mut text = text::write(&records::sound(seeds));
+    let mut text = text::write(&sound(seeds));
     let place = seeds.below(text.len());
     let any = seeds.number() as u8;
     text[place] = if seeds.below(8) == 0 { any } else { seeds.pick(ALPHABET) };
@@ -119,6 +145,23 @@ fn along(call: impl Fn(&[u8], u64) -> Answer + 'static) -> Work {
 mod tests {
     use super::*;
     use std::collections::BTreeSet;
+
+    /// Each is accepted as its form, and the records are the same but for form, code and a long name's end.
+    #[test]
+    fn texts_of_each_form() {
+        let read = |form: Form| -> Vec<Record> {
+            texts_of(form).iter().map(|text| text::read(text).expect("a sound text")).collect()
+        };
+        let passports = read(Form::Td3);
+        for form in Form::VISAS {
+            for (visa, passport) in read(form).into_iter().zip(&passports) {
+                assert_eq!((visa.form, visa.code[0]), (form, b'V'));
+                assert!(passport.name.starts_with(&visa.name));
+                let (code, name) = (passport.code, passport.name.clone());
+                assert_eq!(&Record { form: Form::Td3, code, name, ..visa }, passport);
+            }
+        }
+    }
 
     /// Half are accepted, and the others are refused by every rule of a text but its length.
     #[test]

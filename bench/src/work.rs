@@ -8,9 +8,8 @@ use crate::{digests, presentations, records, seals, worst};
 pub fn of(contender: Contender, job: Job) -> Option<Work> {
     match job {
         Job::Digest(size) => digests::of(contender, size),
-        Job::ReadText | Job::ReadMixed | Job::NextEntry | Job::OpenEntry | Job::WriteText => {
-            records::of(contender, job)
-        }
+        Job::ReadText | Job::ReadForm(_) | Job::ReadMixed => records::of(contender, job),
+        Job::NextEntry | Job::OpenEntry | Job::WriteText => records::of(contender, job),
         Job::ReadPresentation(_) | Job::DigestFiles(_) => presentations::of(contender, job),
         Job::ReadWorst(_) | Job::FindInWorst(_) => worst::of(contender, job),
         Job::ReadSeal | Job::ReadSealText => seals::of(contender, job),

@@ -19,9 +19,10 @@ pub fn sound_among(seeds: &mut Seeds, forms: &[Form]) -> Record {
 }
 
 pub fn sound_of(seeds: &mut Seeds, form: Form) -> Record {
+    let first: &[u8] = if form.is_visa() { b"V" } else { b"PACI" };
     Record {
         form,
-        code: until(seeds, |seeds| [seeds.pick(b"PACIV"), seeds.pick(ALPHABET)], |code| is_code(form, code)),
+        code: until(seeds, |seeds| [seeds.pick(first), seeds.pick(ALPHABET)], |code| is_code(form, code)),
         state: state(seeds),
         number: number(seeds, form),
         nationality: state(seeds),
