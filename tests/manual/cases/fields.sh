@@ -33,17 +33,27 @@ total_of() {
 told() {
     grep -q "^    case $(total_of "$1"): return lamphudet_part_at(${1,,}, place);$" include/lamphudet.h
 }
+# A visa's text is told by its length and its code.
+told_visas() {
+    local a b
+    a=$(total_of MrvA) b=$(total_of MrvB)
+    grep -q "return lamphudet_part_at(text_len == $a ? mrva : mrvb, place);$" include/lamphudet.h \
+        && grep -q "return (text_len == $a || text_len == $b) && text\[0\] == 'V' " include/lamphudet.h
+}
 # A long number, in the forms that have one: with the check place, the optional field and its width.
 long_number() {
     local at
     at="$(start_of "$1" numberCheck), $(start_of "$1" optional), $(width_of "$1" optional)"
     grep -q "text_len == $(total_of "$1") ? lamphudet_long_number_at(text, $at, place)" include/lamphudet.h
 }
-for form in Td1 Td2 Td3; do
+for form in Td1 Td2 Td3 MrvA MrvB; do
     try "the definition has parts of $form" [ "$(layout_of $form | wc -l)" -gt 10 ]
     try "the header has the parts of $form" diff <(layout_of $form | in_words) <(table_of ${form,,})
+done
+for form in Td1 Td2 Td3; do
     try "the header tells $form by its length" told $form
 done
+try 'the header tells visas by length and code' told_visas
 for form in Td1 Td2; do
     try "the header has where a long number of $form stands" long_number $form
 done
