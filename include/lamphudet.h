@@ -50,8 +50,8 @@ extern "C" {
  *     0 it has the first two, from 1 on the first alone. As long as it is the same a host need not be
  *     compiled again, and entries that were kept are entries.
  */
-#define LAMPHUDET_VERSION "0.2.0"
-#define LAMPHUDET_VERSION_NUMBER 200
+#define LAMPHUDET_VERSION "0.2.1"
+#define LAMPHUDET_VERSION_NUMBER 201
 
 /* The compiler warns where a call's answer is thrown away, if it knows how. */
 #if defined(__GNUC__)
