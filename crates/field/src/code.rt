@@ -1,10 +1,10 @@
 // The document code: two characters, by the kind of document that the form is of.
 ghost use mathlib.Core.Path.{_≡_};
-ghost use Rattle.zone.specs.Form.{isVisaCode};
 ghost use Rattle.field.specs.Code.{codeRule, cardRule, passportRule, isCardLetter};
 use crate::letters::is_letter_or_filler;
 use zone::form::Form;
 use zone::form::Kind;
+use zone::form::selects_visa;
 
 // What a card's code may begin with.
 fn is_card_letter(a: u8) -> bool
@@ -25,12 +25,6 @@ fn is_passport(a: u8, b: u8) -> bool
     (a == b'P') & is_letter_or_filler(b)
 }
 
-fn is_visa(a: u8, b: u8) -> bool
-    ensures { λ r. ⌜ r ≡ isVisaCode a b ⌝ }
-{
-    (a == b'V') & is_letter_or_filler(b)
-}
-
 pub fn is_code(form: Form, s: &[u8]) -> bool
     ensures { λ r. ⌜ r ≡ codeRule form (now (s .entry)) ⌝ }
 {
@@ -39,6 +33,6 @@ pub fn is_code(form: Form, s: &[u8]) -> bool
     match form.kind() {
         Kind::Card => is_card(a, b),
         Kind::Passport => is_passport(a, b),
-        Kind::Visa => is_visa(a, b),
+        Kind::Visa => selects_visa(a, b),
     }
 }

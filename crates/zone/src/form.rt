@@ -232,7 +232,7 @@ impl Form {
 }
 
 // The first two characters of a visa.
-fn selects_visa(a: u8, b: u8) -> bool
+pub fn selects_visa(a: u8, b: u8) -> bool
     ensures { λ r. ⌜ r ≡ isVisaCode a b ⌝ }
 {
     (a == b'V') & (is_letter(b) | (b == FILLER))

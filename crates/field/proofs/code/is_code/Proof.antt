@@ -33,7 +33,7 @@ is-code-spec =
       ← c .before .before .before .before .before .octet .ensures,
     ))
     (λ c. simp (
-      ← c .is-visa .ensures,
+      ← c .selects-visa .ensures,
       ← c .before .before .before .kind .ensures,
       c .before .enum-told3 .given .1,
       ← c .before .before .before .before .octet2 .ensures,
