@@ -5,7 +5,7 @@ use mathlib.Core.List.{List, _++_, append-assoc, [], _∷_}
 use native.Mathlib.Omega.{arith}
 use lib.ListN.{length, take, drop, length-take, length-drop, length-append, take-append-drop, set}
 use lib.Seq.{take-all, length-take-le, take-append-le, drop-append-le, drop-append-add, drop-drop, drop-at, take-append-add}
-use lib.Seq.{drop-cons, set-at}
+use lib.Seq.{drop-cons, set-at, take-at}
 use native.Mathlib.Numerals.{add-one}
 use Rattle.lent.specs.Copied.{copiedAt, copied}
 
@@ -71,3 +71,26 @@ set-behind t b s c h =
     )
     (ap (λ l. set l (b + length s) c) (sym (append-assoc (take b t) s _)) ∙ set-at p _ (drop (suc (b + length s)) t) c
     (b + length s) n)
+
+pub copied-both : (t : List ℕ) (b : ℕ) (s u : List ℕ) → b + (length s + length u) ≤ length t
+    → copiedAt (copiedAt t b s) (b + length s) u ≡ copiedAt t b (s ++ u)
+copied-both t b s u h =
+    let p = take b t ++ s in
+    let n : length p ≡ b + length s = rw (length-append, length-take-le b t (omega arith)) in
+    let whole : copiedAt t b s ≡ p ++ drop (b + length s) t =
+    copied-there t b s (omega arith) ∙ sym (append-assoc (take b t) s (drop (b + length s) t)) in
+    let long : length (p ++ drop (b + length s) t) ≡ length t = rw (← whole) (length-copied t b s (omega arith)) in
+    let m : length (s ++ u) ≡ length s + length u = length-append s u in
+    let both : b + length s + length u ≡ b + length (s ++ u) = omega (arith, m) in
+    let behind : drop (b + length s + length u) (p ++ drop (b + length s) t) ≡ drop (b + length (s ++ u)) t =
+    ap (λ k. drop (k + length u) (p ++ drop (b + length s) t)) (sym n) ∙ drop-append-add p (drop (b + length s) t) (length u)
+    ∙ drop-drop (length u) (b + length s) t ∙ ap (λ k. drop k t) both in
+    rw (
+      whole,
+      copied-there (p ++ drop (b + length s) t) (b + length s) u (rw long (omega arith)),
+      take-at p (drop (b + length s) t) (b + length s) n,
+      behind,
+      copied-there t b (s ++ u) (rw m (omega arith)),
+    )
+    (append-assoc (take b t) s (u ++ drop (b + length (s ++ u)) t)
+    ∙ ap (λ l. take b t ++ l) (sym (append-assoc s u (drop (b + length (s ++ u)) t))))
