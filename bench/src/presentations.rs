@@ -4,15 +4,16 @@ use crate::border;
 use crate::contender::Contender;
 use crate::job::{Job, Work};
 use paper::calls;
+use paper::entry::LONGEST;
 use paper::presentation::{write, write_file};
 use paper::sha256::sha256;
-use shared::files::group_1;
+use shared::files::bare_group_1;
 use shared::seeds::Seeds;
 
 pub fn of(contender: Contender, job: Job) -> Option<Work> {
     let files = files(job.size());
     let lent = write(&files);
-    let mut room = [0; 64];
+    let mut room = [0; LONGEST];
     match (contender, job) {
         (Contender::Library, Job::ReadPresentation(_)) => Some(Box::new(move || {
             // A refusal would be quicker than the work, so none may come.
@@ -40,7 +41,7 @@ pub fn lent(size: usize) -> Vec<u8> {
 fn files(size: usize) -> Vec<(u8, Vec<u8>)> {
     let mut seeds = Seeds::new(9303);
     let mut files =
-        vec![(1, group_1(&mut seeds)), (2, seeds.octets(300)), (11, seeds.octets(200)), (14, seeds.octets(150))];
+        vec![(1, bare_group_1(&mut seeds)), (2, seeds.octets(300)), (11, seeds.octets(200)), (14, seeds.octets(150))];
     let face = size - (write(&files).len() - 300);
     files[1].1 = seeds.octets(face);
     files

@@ -49,9 +49,10 @@ pub fn read_text(text: &[u8], room: &mut [u8]) -> Answer {
     outcome.answer
 }
 
-/// Of the forms that a chip can have: the records that were measured before there were visas.
+/// Of the forms that a chip can have, without the issuer's data: the records that were measured before there were visas and
+/// before a record held data.
 fn sound(seeds: &mut Seeds) -> Record {
-    records::sound_among(seeds, &Form::IN_GROUP_1)
+    records::bare_among(seeds, &Form::IN_GROUP_1)
 }
 
 fn entries() -> Vec<Vec<u8>> {
@@ -67,7 +68,7 @@ fn texts() -> Vec<Vec<u8>> {
 /// The same passports for every form, so that one form's work can be held to another's.
 fn texts_of(form: Form) -> Vec<Vec<u8>> {
     let mut seeds = Seeds::new(9303);
-    (0..RECORDS).map(|_| text::write(&turned(form, records::sound_of(&mut seeds, Form::Td3)))).collect()
+    (0..RECORDS).map(|_| text::write(&turned(form, records::bare_of(&mut seeds, Form::Td3)))).collect()
 }
 
 /// A passport's record as one of a visa, or as it is: another first letter, and a name that is cut where it does not fit.

@@ -7,6 +7,7 @@ use crate::records;
 use crate::whole::whole;
 use paper::answer::Answer;
 use paper::calls;
+use paper::entry::LONGEST;
 use paper::seal::answer::SealAnswer;
 use paper::seal::printed;
 use paper::specimens::ERIKSSON_TD2;
@@ -28,7 +29,7 @@ pub fn of(contender: Contender, job: Job) -> Option<Work> {
 /// With every field of the answer, which the compiler must not leave out. A refusal would be quicker than the work, so none
 /// may come.
 fn sealed(call: impl Fn(&[u8], &mut [u8]) -> SealAnswer + 'static) -> Work {
-    let (lent, mut room) = (printed::signed(), [0; 64]);
+    let (lent, mut room) = (printed::signed(), [0; LONGEST]);
     Box::new(move || {
         let answer = call(&lent, &mut room);
         whole(&answer);
@@ -38,7 +39,7 @@ fn sealed(call: impl Fn(&[u8], &mut [u8]) -> SealAnswer + 'static) -> Work {
 
 /// As for the seal.
 fn text(call: impl Fn(&[u8], &mut [u8]) -> Answer + 'static) -> Work {
-    let mut room = [0; 64];
+    let mut room = [0; LONGEST];
     Box::new(move || {
         let answer = call(ERIKSSON_TD2.as_bytes(), &mut room);
         whole(&answer);

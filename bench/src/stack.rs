@@ -4,6 +4,7 @@ use crate::job::Job;
 use crate::painted::Call;
 use crate::presentations;
 use crate::table::Table;
+use paper::entry::LONGEST;
 use shared::grouped::grouped;
 use shared::header;
 
@@ -28,7 +29,7 @@ fn digest(size: usize) -> usize {
 }
 
 fn read_presentation(size: usize) -> usize {
-    let (lent, mut room) = (presentations::lent(size), [0_u8; 64]);
+    let (lent, mut room) = (presentations::lent(size), [0_u8; LONGEST]);
     let arguments = [1, lent.as_ptr() as usize, lent.len(), room.as_mut_ptr() as usize, room.len()];
     // As for the digest.
     unsafe { Call { function: header::lamphudet_read_presentation as *const (), arguments }.stack() }

@@ -6,6 +6,7 @@ use crate::job::{Job, Work};
 use crate::pair;
 use crate::table::Table;
 use crate::worker::Worker;
+use paper::entry::LONGEST;
 
 /// No file has it: group 6 is reserved.
 const NO_GROUP: u32 = 6;
@@ -14,7 +15,7 @@ const NO_GROUP: u32 = 6;
 pub fn of(contender: Contender, job: Job) -> Option<Work> {
     match (contender, job) {
         (Contender::Library, Job::ReadWorst(worst)) => {
-            let (lent, mut room) = (worst.octets(), [0; 64]);
+            let (lent, mut room) = (worst.octets(), [0; LONGEST]);
             Some(Box::new(move || assert_ne!(border::read_presentation(1, &lent, &mut room).number, 0)))
         }
         (Contender::Library, Job::FindInWorst(worst)) => {

@@ -75,19 +75,28 @@ pub fn next_entry(run: &[u8], offset: u64) -> Answer {
 #[cfg(test)]
 mod tests {
     use super::*;
-    use crate::specimens::T3;
+    use crate::specimens::{ERIKSSON_MRV_A, ERIKSSON_TD3, T3};
 
     #[test]
     fn t3_opened() {
-        let kept = read_text(258, T3.as_bytes(), 64).written;
+        let kept = read_text(258, T3.as_bytes(), entry::LONGEST).written;
         let opened = open_entry(&kept);
         assert_eq!((opened.number, opened.house, opened.form, opened.sex), (0, 258, 2, b'F'));
         assert_eq!((&opened.code, &opened.state, &opened.nationality), (b"P<", b"UTO", b"UTO"));
         assert_eq!((&opened.birth, &opened.expiry), (b"900115", b"300630"));
         assert_eq!((opened.document_number_len, &opened.document_number), (2, b"K7<<<<<<<<<<<<<<<<<<<<"));
         assert_eq!((opened.name_len, &opened.name), (10, b"NORD<<ELIN<<<<<<<<<<<<<<<<<<<<<<<<<<<<<"));
+        assert_eq!((opened.data_len, &opened.data), (0, &[b'<'; 16]));
         assert_eq!(open_entry(&[]), Opened::REFUSED);
         assert_eq!(open_entry(&kept[1..]), Opened::REFUSED);
         assert_eq!(open_entry(&[&kept[..], &kept].concat()), Opened::REFUSED);
+    }
+
+    #[test]
+    fn data_opened() {
+        let opened = |text: &str| open_entry(&read_text(1, text.as_bytes(), entry::LONGEST).written);
+        let (passport, visa) = (opened(ERIKSSON_TD3), opened(ERIKSSON_MRV_A));
+        assert_eq!((passport.data_len, &passport.data), (9, b"ZE184226B<<<<<<<"));
+        assert_eq!((visa.data_len, &visa.data), (10, b"6ZE184226B<<<<<<"));
     }
 }

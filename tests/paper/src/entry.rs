@@ -1,5 +1,6 @@
-//! The entry and the run, from document 01, "The entry, most significant bit first", and document 02, request 2026-05:
-//! "entries with form 3 and 4".
+//! The entry and the run, from document 01, "The entry, most significant bit first", and document 02, request 2026-05,
+//! "entries with form 3 and 4", and request 2026-06: "The entry puts a 5-bit length and its m characters before the name
+//! length, so it has 283 + 6(n + m) bits rounded up, at most 77 bytes."
 
 use crate::field::{trimmed, FILLER};
 use crate::form::Form;
@@ -14,7 +15,7 @@ pub fn is_house(house: u32) -> bool {
 }
 
 /// The octets of the longest entry.
-const LONGEST: usize = 64;
+pub const LONGEST: usize = 77;
 
 /// Bits joined to octets, the most significant first.
 struct Joined {
@@ -65,6 +66,8 @@ pub fn write(house: u32, record: &Record) -> Vec<u8> {
     bits.put_characters(&record.code);
     bits.put_characters(&record.nationality);
     bits.put(SEXES.iter().position(|sex| *sex == record.sex).unwrap_or(3) as u64, 2);
+    bits.put(record.data.len() as u64, 5);
+    bits.put_characters(&record.data);
     bits.put(record.name.len() as u64, 6);
     bits.put_characters(&record.name);
     bits.end()
@@ -122,11 +125,13 @@ pub fn read(octets: &[u8]) -> Option<(u32, Record, usize)> {
     let (birth, expiry) = (bits.take_array()?, bits.take_array()?);
     let (code, nationality) = (bits.take_array()?, bits.take_array()?);
     let sex = *SEXES.get(bits.take(2)? as usize)?;
+    let length = bits.take(5)? as usize;
+    let data = bits.take_characters(length)?;
     let length = bits.take(6)? as usize;
     let name = bits.take_characters(length)?;
     let spare = bits.take(bits.count)?;
     let number = trimmed(&number).to_vec();
-    let record = Record { form, code, state, number, nationality, birth, sex, expiry, name };
+    let record = Record { form, code, state, number, nationality, birth, sex, expiry, name, data };
     (spare == 0 && is_house(house) && record.is_sound()).then_some((house, record, bits.used))
 }
 
@@ -154,7 +159,7 @@ mod tests {
             let record = text::read(text.as_bytes()).unwrap();
             let entry = write(1, &record);
             assert_eq!((entry[1] & 1, entry[2] >> 6), (code >> 2, code & 3));
-            assert_eq!(entry.len(), (278 + 6 * 20 + 7) / 8);
+            assert_eq!(entry.len(), (283 + 6 * (20 + record.data.len()) + 7) / 8);
             assert_eq!(read(&entry), Some((1, record.clone(), entry.len())));
             let long = Record { number: b"L8988901C4".to_vec(), ..record.clone() };
             assert!(read(&write(1, &long)).is_none());
@@ -169,11 +174,40 @@ mod tests {
         }
     }
 
+    /// The shortest has a name of one character and no data, the longest MRV-A's 39 and 16.
     #[test]
     fn lengths() {
-        let length = |name: usize| write(1, &Record { name: vec![b'N'; name], ..t3() }).len();
-        assert_eq!((length(1), length(39)), (36, 64));
-        assert!((1..=39).all(|name| length(name) == (278 + 6 * name + 7) / 8));
+        let visa = text::read(specimens::ERIKSSON_MRV_A.as_bytes()).unwrap();
+        let of = |name: usize, data: usize| Record { name: vec![b'N'; name], data: vec![b'0'; data], ..visa.clone() };
+        let length = |name: usize, data: usize| write(1, &of(name, data)).len();
+        assert_eq!((length(1, 0), length(39, 0), length(39, 16)), (37, 65, LONGEST));
+        for (name, data) in (1..=39).flat_map(|name| (0..=16).map(move |data| (name, data))) {
+            assert_eq!(length(name, data), (283 + 6 * (name + data) + 7) / 8);
+            assert_eq!(read(&write(1, &of(name, data))), Some((1, of(name, data), length(name, data))));
+        }
+    }
+
+    /// Behind the key, code, nationality and sex, 272 bits in all: 5 bits of length and then the data.
+    #[test]
+    fn the_data_before_the_name() {
+        let record = Record { data: b"<Z".to_vec(), name: b"N".to_vec(), ..t3() };
+        let entry = write(1, &record);
+        // 00010, 000000, 100100; then 000001, 011000; and three bits to the next octet.
+        assert_eq!(entry[34..], [0b00010_000, 0b000_10010, 0b0_000001_0, 0b11000_000]);
+        assert_eq!(entry[..34], write(1, &Record { data: Vec::new(), ..record })[..34]);
+    }
+
+    /// "Old entries need no reading", and not every one of them is refused. This one, of T3 with the name BDFHJLNBLNPRTV and
+    /// house 1, has 001110, 14, for its name's length; read now, that is 00111, 7, for the data's, and a first bit of the data.
+    #[test]
+    fn an_old_entry_that_reads_as_a_new_one() {
+        let mut bits = Joined { octets: write(1, &t3())[..34].to_vec(), waiting: 0, count: 0 };
+        bits.put(14, 6);
+        bits.put_characters(b"BDFHJLNBLNPRTV");
+        let old = bits.end();
+        let (house, record, length) = read(&old).unwrap();
+        assert_eq!((house, length), (1, 46));
+        assert_eq!(record, Record { data: b"56789AB".to_vec(), name: b"ABCDEF".to_vec(), ..t3() });
     }
 
     #[test]
@@ -199,6 +233,8 @@ mod tests {
         assert!(read(&write(1, &Record { name: Vec::new(), ..t3.clone() })).is_none());
         assert!(read(&write(1, &Record { name: vec![b'N'; 40], ..t3.clone() })).is_none());
         assert!(read(&write(1, &Record { number: b"K777777777".to_vec(), ..t3.clone() })).is_none());
+        assert!(read(&write(1, &Record { data: b"0<".to_vec(), ..t3.clone() })).is_none());
+        assert!(read(&write(1, &Record { data: vec![b'0'; 15], ..t3.clone() })).is_none());
         let td1 = text::read(specimens::ERIKSSON_TD1.as_bytes()).unwrap();
         assert!(read(&write(1, &Record { number: b"K77777777<7".to_vec(), ..td1.clone() })).is_none());
         assert!(read(&write(1, &Record { number: b"K7777777<77".to_vec(), ..td1 })).is_some());

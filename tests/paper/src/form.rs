@@ -1,5 +1,5 @@
-//! The five forms and where each has its fields, from document 01, "The text", and document 02, request 2026-05. Offsets are
-//! from 0 in the joined lines.
+//! The five forms and where each has its fields, from document 01, "The text", and document 02, requests 2026-05 and 2026-06.
+//! Offsets are from 0 in the joined lines.
 
 use crate::field::selects_visa;
 use std::ops::Range;
@@ -33,6 +33,9 @@ pub struct Layout {
     pub personal: Option<Range<usize>>,
     /// The fields whose content is the issuer's own: the optional ones, or the personal number.
     pub free: &'static [Range<usize>],
+    /// The one of them that a record keeps: "TD3's fourteen characters, TD2's and the visas' optional field, TD1's field in
+    /// the second line".
+    pub data: Range<usize>,
     /// The visas have "no composite".
     pub composite: Option<usize>,
     /// What the composite check digit runs over, in its order.
@@ -55,6 +58,7 @@ static TD1: Layout = Layout {
     name: 60..90,
     personal: None,
     free: &[15..30, 48..59],
+    data: 48..59,
     composite: Some(59),
     covered: &[5..30, 30..37, 38..45, 48..59],
 };
@@ -75,6 +79,7 @@ static TD2: Layout = Layout {
     further: Some(64..71),
     personal: None,
     free: &[64..71],
+    data: 64..71,
     composite: Some(71),
     covered: &[36..46, 49..56, 57..71],
 };
@@ -95,6 +100,7 @@ static TD3: Layout = Layout {
     further: None,
     personal: Some(72..86),
     free: &[72..86],
+    data: 72..86,
     composite: Some(87),
     covered: &[44..54, 57..64, 65..87],
 };
@@ -115,6 +121,7 @@ static MRV_A: Layout = Layout {
     further: None,
     personal: None,
     free: &[72..88],
+    data: 72..88,
     composite: None,
     covered: &[],
 };
@@ -135,6 +142,7 @@ static MRV_B: Layout = Layout {
     further: None,
     personal: None,
     free: &[64..72],
+    data: 64..72,
     composite: None,
     covered: &[],
 };
@@ -260,5 +268,13 @@ mod tests {
     fn the_longest_of_each() {
         assert_eq!(Form::ALL.map(Form::longest_number), [22, 14, 9, 9, 9]);
         assert_eq!(Form::ALL.map(Form::longest_name), [30, 31, 39, 39, 31]);
+    }
+
+    #[test]
+    fn the_data_is_the_last_of_what_is_the_issuers_own() {
+        for form in Form::ALL.map(Form::layout) {
+            assert_eq!(form.free.last(), Some(&form.data));
+        }
+        assert_eq!(Form::ALL.map(|form| form.layout().data.len()), [11, 7, 14, 16, 8]);
     }
 }

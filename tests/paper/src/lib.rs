@@ -1,7 +1,7 @@
 //! What the papers say, in plain Rust and for reading rather than for proving. Nothing here is taken from the proved
 //! sources, and nothing here knows of the archive.
 //!
-//! From below: `refusal` and `answer`; `form`, `field`, `record`, `personal` and `text`; `entry` and `opened`; `sha256`;
+//! From below: `refusal` and `answer`; `form`, `field`, `data`, `record`, `personal` and `text`; `entry` and `opened`; `sha256`;
 //! `tlv`, `group`, `com`, `object` and `presentation`; `c40`, `day` and `seal`; `calls` on top. `specimens` and `published`
 //! are what the papers print.
 
@@ -9,6 +9,7 @@ pub mod answer;
 pub mod c40;
 pub mod calls;
 pub mod com;
+pub mod data;
 pub mod day;
 pub mod entry;
 pub mod field;

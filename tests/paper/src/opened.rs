@@ -1,6 +1,6 @@
 //! What an entry holds, field by field, as it passes to C. Document 01 has the blank record of a refusal (TD1, fillers,
 //! lengths 0), and the numbers of the forms in an entry (TD1 0, TD2 1, TD3 2); document 02, request 2026-05, has those of the
-//! visas, "form 3 and 4".
+//! visas, "form 3 and 4", and request 2026-06 the issuer's data, of which the longest are MRV-A's sixteen characters.
 
 use crate::field::FILLER;
 use crate::record::Record;
@@ -23,6 +23,8 @@ pub struct Opened {
     pub expiry: [u8; 6],
     pub document_number: [u8; 22],
     pub name: [u8; 39],
+    pub data_len: u8,
+    pub data: [u8; 16],
 }
 
 impl Opened {
@@ -40,9 +42,11 @@ impl Opened {
         expiry: [FILLER; 6],
         document_number: [FILLER; 22],
         name: [FILLER; 39],
+        data_len: 0,
+        data: [FILLER; 16],
     };
 
-    /// Of a sound record, whose number and name fit.
+    /// Of a sound record, whose number, name and data fit.
     pub fn of(house: u32, record: &Record) -> Opened {
         Opened {
             number: 0,
@@ -58,6 +62,8 @@ impl Opened {
             expiry: record.expiry,
             document_number: filled(&record.number),
             name: filled(&record.name),
+            data_len: record.data.len() as u8,
+            data: filled(&record.data),
         }
     }
 }
@@ -77,6 +83,23 @@ impl fmt::Display for Opened {
         write!(to, ", document number {}, its length {}", shown(&self.document_number), self.document_number_len)?;
         write!(to, ", nationality {}", shown(&self.nationality))?;
         write!(to, ", birth {}, expiry {}", shown(&self.birth), shown(&self.expiry))?;
-        write!(to, ", name {}, its length {}", shown(&self.name), self.name_len)
+        write!(to, ", name {}, its length {}", shown(&self.name), self.name_len)?;
+        write!(to, ", data {}, its length {}", shown(&self.data), self.data_len)
+    }
+}
+
+#[cfg(test)]
+mod tests {
+    use super::*;
+    use std::ptr::addr_of;
+
+    /// What was there before stands where it stood; 110 octets, and then to the next multiple of 4.
+    #[test]
+    fn as_large_as_in_c() {
+        let opened = Opened::REFUSED;
+        let fields =
+            [addr_of!(opened.name) as usize, addr_of!(opened.data_len) as usize, addr_of!(opened.data) as usize];
+        assert_eq!(fields.map(|field| field - addr_of!(opened) as usize), [54, 93, 94]);
+        assert_eq!((std::mem::size_of::<Opened>(), std::mem::align_of::<Opened>()), (112, 4));
     }
 }

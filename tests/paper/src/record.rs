@@ -1,6 +1,7 @@
-//! The record, and what makes one sound, from document 01, "The text". Number and name are kept without the fillers at
-//! their ends, so that what the paper says of the places past a length holds by itself.
+//! The record, and what makes one sound, from document 01, "The text", and document 02, request 2026-06. Number, name and
+//! data are kept without the fillers at their ends, so that what the papers say of the places past a length holds by itself.
 
+use crate::data;
 use crate::field::{self, FILLER};
 use crate::form::Form;
 
@@ -15,6 +16,8 @@ pub struct Record {
     pub sex: u8,
     pub expiry: [u8; 6],
     pub name: Vec<u8>,
+    /// What the issuer has put into its own field: a personal number, or optional data.
+    pub data: Vec<u8>,
 }
 
 impl Record {
@@ -29,6 +32,7 @@ impl Record {
             && field::is_name(&self.name)
             && self.name.len() <= self.form.longest_name()
             && self.name.last() != Some(&FILLER)
+            && data::is_data(self.form, self.number.len(), &self.data)
     }
 }
 

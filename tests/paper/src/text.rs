@@ -1,5 +1,6 @@
-//! Reading and writing a text, from document 01, "The text", and document 02, requests 2026-02 and 2026-05.
+//! Reading and writing a text, from document 01, "The text", and document 02, requests 2026-02, 2026-05 and 2026-06.
 
+use crate::data;
 use crate::field::{self, trimmed, Check, FILLER};
 use crate::form::{Form, Layout};
 use crate::personal::is_left_out;
@@ -97,6 +98,7 @@ fn record(form: Form, text: &[u8], further: &Range<usize>) -> Record {
         sex: text[at.sex],
         expiry: array(text, &at.expiry),
         name: trimmed(&text[at.name.clone()]).to_vec(),
+        data: trimmed(&text[data::place(at, further.len())]).to_vec(),
     }
 }
 
@@ -123,6 +125,7 @@ pub fn write(record: &Record) -> Vec<u8> {
     if let Some(optional) = &at.further {
         put(optional.start, beyond);
     }
+    put(data::place(at, beyond.len()).start, &record.data);
     repair(record.form, &mut text, beyond.len());
     text
 }
@@ -161,6 +164,7 @@ mod tests {
         assert_eq!((record.form, &record.code, &record.state), (Form::Td3, b"P<", b"UTO"));
         assert_eq!((&record.number[..], &record.nationality, record.sex), (&b"K7"[..], b"UTO", b'F'));
         assert_eq!((&record.birth, &record.expiry, &record.name[..]), (b"900115", b"300630", &b"NORD<<ELIN"[..]));
+        assert_eq!(record.data, b"");
         assert_eq!(write(&record), specimens::T3.as_bytes());
     }
 
@@ -169,9 +173,8 @@ mod tests {
         for text in specimens::ALL {
             let record = read(text.as_bytes()).unwrap();
             assert!(record.is_sound());
-            // A text without optional data is written as it was printed.
-            let has_data = [specimens::ERIKSSON_TD3, specimens::ERIKSSON_MRV_A].contains(&text);
-            assert_eq!(write(&record) == text.as_bytes(), !has_data);
+            // Each is written as it was printed: none has anything in the field that is not kept, TD1's in the first line.
+            assert_eq!(write(&record), text.as_bytes());
         }
         for text in [specimens::LONG_TD1, specimens::LONG_TD2] {
             assert_eq!(read(text.as_bytes()).unwrap().number, b"D23145890734");
@@ -271,19 +274,13 @@ mod tests {
 
     #[test]
     fn the_visas_are_accepted() {
-        let visas = [(specimens::ERIKSSON_MRV_A, Form::MrvA), (specimens::ERIKSSON_MRV_B, Form::MrvB)];
-        for (text, form) in visas {
+        let (a, b) = (specimens::ERIKSSON_MRV_A, specimens::ERIKSSON_MRV_B);
+        for (text, form, data) in [(a, Form::MrvA, &b"6ZE184226B"[..]), (b, Form::MrvB, b"")] {
             let record = read(text.as_bytes()).unwrap();
             assert_eq!((record.form, &record.code, &record.state), (form, b"V<", b"UTO"));
             assert_eq!((&record.number[..], &record.nationality, record.sex), (&b"L8988901C"[..], b"XXX", b'F'));
             assert_eq!((&record.birth, &record.expiry), (b"400907", b"961210"));
-            assert_eq!(record.name, b"ERIKSSON<<ANNA<MARIA");
-            // Fillers in the optional data, and no check over them.
-            let optional = form.layout().free[0].clone();
-            let written = write(&record);
-            assert_eq!(written[..optional.start], text.as_bytes()[..optional.start]);
-            assert!(written[optional].iter().all(|character| *character == FILLER));
-            assert_eq!(read(&written), Ok(record));
+            assert_eq!((&record.name[..], &record.data[..]), (&b"ERIKSSON<<ANNA<MARIA"[..], data));
         }
     }
 
@@ -319,14 +316,17 @@ mod tests {
         }
     }
 
-    /// Whatever stands in the optional data is accepted, to the last place: there is no composite.
+    /// Whatever stands in the optional data is accepted, to the last place, and kept: there is no composite.
     #[test]
     fn the_optional_data_of_visas() {
         for text in [specimens::ERIKSSON_MRV_A, specimens::ERIKSSON_MRV_B] {
             let record = read(text.as_bytes()).unwrap();
-            for place in record.form.layout().free[0].clone() {
+            let optional = record.form.layout().free[0].clone();
+            for place in optional.clone() {
                 for character in (b'0'..=b'9').chain(b'A'..=b'Z').map(|character| char::from(character).to_string()) {
-                    assert_eq!(read(with(text, place, &character).as_bytes()), Ok(record.clone()));
+                    let other = with(text, place, &character);
+                    let data = trimmed(other[optional.clone()].as_bytes()).to_vec();
+                    assert_eq!(read(other.as_bytes()), Ok(Record { data, ..record.clone() }));
                 }
                 assert_eq!(refused(&with(text, place, " ")), (2, place));
             }

@@ -24,3 +24,8 @@ pub fn files(seeds: &mut Seeds, groups: usize) -> Vec<(u8, Vec<u8>)> {
 pub fn group_1(seeds: &mut Seeds) -> Vec<u8> {
     write_text_element(&text::write(&records::sound_among(seeds, &Form::IN_GROUP_1)))
 }
+
+/// The same, of a record without the issuer's data.
+pub fn bare_group_1(seeds: &mut Seeds) -> Vec<u8> {
+    write_text_element(&text::write(&records::bare_among(seeds, &Form::IN_GROUP_1)))
+}

@@ -1,6 +1,7 @@
 //! Sound records made from a seed.
 
 use crate::seeds::Seeds;
+use paper::data;
 use paper::field::{is_birth, is_code, is_expiry, FILLER};
 use paper::form::Form;
 use paper::record::Record;
@@ -19,6 +20,17 @@ pub fn sound_among(seeds: &mut Seeds, forms: &[Form]) -> Record {
 }
 
 pub fn sound_of(seeds: &mut Seeds, form: Form) -> Record {
+    let bare = bare_of(seeds, form);
+    Record { data: data(seeds, data::longest(form, bare.number.len())), ..bare }
+}
+
+/// As `sound_among`, without the issuer's data.
+pub fn bare_among(seeds: &mut Seeds, forms: &[Form]) -> Record {
+    let form = seeds.pick(forms);
+    bare_of(seeds, form)
+}
+
+pub fn bare_of(seeds: &mut Seeds, form: Form) -> Record {
     let first: &[u8] = if form.is_visa() { b"V" } else { b"PACI" };
     Record {
         form,
@@ -30,6 +42,7 @@ pub fn sound_of(seeds: &mut Seeds, form: Form) -> Record {
         sex: seeds.pick(b"MF<"),
         expiry: until(seeds, date, |date| is_expiry(date)),
         name: name(seeds, form.longest_name()),
+        data: Vec::new(),
     }
 }
 
@@ -75,6 +88,25 @@ pub fn name(seeds: &mut Seeds, longest: usize) -> Vec<u8> {
     (0..length).map(character).collect()
 }
 
+/// None, some, or as many as there is room for; some with fillers before and between.
+fn data(seeds: &mut Seeds, longest: usize) -> Vec<u8> {
+    let any = seeds.below(longest + 1);
+    let length = seeds.pick(&[0, longest, any, any, any]);
+    data_of(seeds, length)
+}
+
+/// Of so many characters.
+pub fn data_of(seeds: &mut Seeds, length: usize) -> Vec<u8> {
+    let often = seeds.pick(&[0, 0, 1, 3]);
+    let character = |at: usize| {
+        if at + 1 < length && seeds.below(4) < often {
+            return FILLER;
+        }
+        seeds.pick(&ALPHABET[1..])
+    };
+    (0..length).map(character).collect()
+}
+
 /// Six characters that are often a date: in pairs, the last days of a month among them.
 pub fn date(seeds: &mut Seeds) -> [u8; 6] {
     let pair = |number: usize| [b'0' + (number / 10) as u8, b'0' + (number % 10) as u8];
@@ -93,6 +125,7 @@ pub fn date(seeds: &mut Seeds) -> [u8; 6] {
 mod tests {
     use super::*;
     use paper::{entry, text};
+    use std::collections::BTreeSet;
 
     #[test]
     fn they_come_back_from_their_texts() {
@@ -114,5 +147,24 @@ mod tests {
             assert_eq!(entry::read(&[&entry[..], b"more"].concat()), Some((house, record, length)));
             assert!((0..length).all(|cut| entry::read(&entry[..cut]).is_none()));
         }
+    }
+
+    /// Data of every length that there is room for in every form, also behind a TD2 number of every length; some that begins
+    /// with a filler, and some with one inside.
+    #[test]
+    fn every_length_of_data_is_drawn() {
+        let mut seeds = Seeds::new(1);
+        let drawn: Vec<Record> = (0..50_000).map(|_| sound(&mut seeds)).collect();
+        let kind = |form: Form, number: usize| (form as u8, if form == Form::Td2 { number.max(9) } else { 0 });
+        let lengths = drawn.iter().map(|record| (kind(record.form, record.number.len()), record.data.len()));
+        let every =
+            Form::ALL.into_iter().flat_map(|form| (9..=form.longest_number()).map(move |number| (form, number)));
+        let every = every.flat_map(|(form, number)| {
+            (0..=data::longest(form, number)).map(move |length| (kind(form, number), length))
+        });
+        assert_eq!(lengths.collect::<BTreeSet<_>>(), every.collect());
+        let filled = |inside: fn(&[u8]) -> bool| drawn.iter().filter(|record| inside(&record.data)).count();
+        assert!(filled(|data| data.first() == Some(&FILLER)) > 1_000);
+        assert!(filled(|data| data.first() != Some(&FILLER) && data.contains(&FILLER)) > 1_000);
     }
 }

@@ -3,7 +3,7 @@
 //! What document 01 looks at once for every file is the outer walk, for every entry stage 4, for every tag of the list stage
 //! 3. Stage 5 ends at the first file of a group that was lent before, so that it has fifteen files to look at, and no more.
 
-use crate::files::group_1;
+use crate::files::bare_group_1;
 use crate::seeds::Seeds;
 use paper::object::{self, Entry};
 use paper::presentation::{write, write_file};
@@ -47,7 +47,7 @@ fn any_tag(seeds: &mut Seeds) -> u8 {
 
 /// A presentation of every group: all that stage 5 will look at.
 fn sound(seeds: &mut Seeds) -> Vec<u8> {
-    let first = (1, group_1(seeds));
+    let first = (1, bare_group_1(seeds));
     let others = group::ALL[1..].iter().map(|group| (*group, Vec::new()));
     write(&[first].into_iter().chain(others).collect::<Vec<_>>())
 }

@@ -30,7 +30,7 @@ pub fn kinds() -> impl Iterator<Item = Kind> {
 
 /// A passport of a kind, whose last digit fits what stands there before it is damaged.
 pub fn passport(seeds: &mut Seeds, kind: Kind) -> Vec<u8> {
-    let mut text = text::write(&records::sound_of(seeds, Form::Td3));
+    let mut text = text::write(&records::bare_of(seeds, Form::Td3));
     if !kind.empty {
         number(seeds, &mut text[NUMBER]);
     }

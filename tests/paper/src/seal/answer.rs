@@ -121,7 +121,7 @@ mod tests {
     fn the_seal_of_the_papers() {
         let (sample, entry) = (printed::signed(), sample_entry());
         let done = calls::read_seal(1, &sample, entry.len());
-        assert_eq!(done, calls::read_seal(1, &sample, 64));
+        assert_eq!(done, calls::read_seal(1, &sample, entry::LONGEST));
         assert_eq!(done.written, entry);
         let answer = done.answer;
         assert_eq!((answer.number, answer.expected, answer.value), (0, 255, entry.len() as u64));
