@@ -27,6 +27,8 @@ recordInC number house r = record {
   expiry = r .expiry;
   «document_number» = r .number;
   name = r .name;
+  «own_len» = r .«own_len»;
+  own = r .own;
 }
 
 -- 18 (at 0, also for none or anything after it), with house 0 and the blank record; else 0

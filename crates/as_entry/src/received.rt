@@ -17,4 +17,7 @@ pub struct RecordInC {
     pub expiry: [u8; Form::DATE],
     pub document_number: [u8; Form::NUMBER],
     pub name: [u8; Form::NAME],
+    // The issuer's own data, which C has as data.
+    pub own_len: u8,
+    pub own: [u8; Form::OWN],
 }

@@ -8,7 +8,7 @@ use zone::record::Record;
 
 // The lengths of a record that the run reader hands out fit an octet.
 pub(crate) fn record_in_c(number: u32, house: u32, kept: Record) -> RecordInC
-    requires { ⌜ (kept .«number_len» < 256) × (kept .«name_len» < 256) ⌝ }
+    requires { ⌜ (kept .«number_len» < 256) × (kept .«name_len» < 256) × (kept .«own_len» < 256) ⌝ }
     ensures { λ r. ⌜ r ≡ recordInC number house kept ⌝ }
 {
     let form = kept.form;
@@ -19,6 +19,7 @@ pub(crate) fn record_in_c(number: u32, house: u32, kept: Record) -> RecordInC
     let expiry = kept.expiry;
     let document_number = kept.number;
     let name = kept.name;
+    let own = kept.own;
     RecordInC {
         number,
         house,
@@ -33,5 +34,7 @@ pub(crate) fn record_in_c(number: u32, house: u32, kept: Record) -> RecordInC
         expiry,
         document_number,
         name,
+        own_len: kept.own_len as u8,
+        own,
     }
 }

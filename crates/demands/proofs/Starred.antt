@@ -7,7 +7,7 @@ use Rattle.zone.specs.declared.form.Source.the-variants.{Alone, GroupOne, Seal}
 use Rattle.zone.specs.Alphabet.{isDigit, isLetter, isFiller, isCharacter, isForeign, every, first, firstForeign}
 use Rattle.zone.specs.Form.{row, forms, partOf, parts, start, startIn, width, widthIn}
 use Rattle.zone.specs.Form.{firstForm, isVisa, isAlone, isVisaCode, mayStand, isOf}
-use Rattle.zone.specs.Form.{formOf, field, pieceOf}
+use Rattle.zone.specs.Form.{formOf, field, beforeOwn, pieceOf}
 use Rattle.zone.specs.Form.{pieces, cut, joinedCuts, covered}
 use Rattle.zone.specs.Record.{trimmed, trimmedLength, padded, heldRows, holding}
 use Rattle.zone.specs.Codes.{codeOf}
@@ -21,7 +21,7 @@ use Rattle.text_digits.specs.Digits.{digitAt, numberDigit, furtherDigit, isLeft
 use Rattle.text.specs.Order.{characters, fieldRows}
 use Rattle.text_digits.specs.Digits.{inOrder}
 use Rattle.text.specs.Order.{verdictBy}
-use Rattle.text.specs.Read.{recordBy, inText, answered, readBy, readText}
+use Rattle.text.specs.Read.{recordBy, ownIn, inText, answered, readBy, readText}
 use Rattle.cells.specs.Bits.{put, gathered}
 use Rattle.cells.specs.Bits as bits
 use Rattle.entry.specs.Codes.{sexCode}
@@ -40,7 +40,7 @@ unfolding allRight examples isRight isPassed isDigitAt T3 octets checkOf sumFrom
     isAlone isVisaCode isOf formOf verdictBy characters firstForeign first isForeign isCharacter inOrder parts partOf
     fieldRows codeRule kindRule stateRule numberRule spanRule sexRule nameRule isNameCharacter every expiryRule digitRows
     numberDigit furtherDigit personalDigit isLeftOut digitAt digitOf checkedBy passportRule isSecond lettersThenFillers
-    isKnown
+    isKnown ownIn beforeOwn
 starred = refl
 
 -- and by itself: T3 is accepted

@@ -15,7 +15,7 @@ use Rattle.zone.specs.Codes.{codeOf}
 use Rattle.zone.specs.Part as text
 use Rattle.zone.specs.Record.{trimmed, padded, plain, heldRows}
 use Rattle.field.specs.Rules.{ruleRows}
-use Rattle.zone.specs.Rooms.{nameRoom}
+use Rattle.zone.specs.Rooms.{ownRoom, nameRoom}
 use Rattle.zone.specs.declared.record.Record.{Record}
 use Rattle.zone.proofs.Every.{every-append, every-replicate}
 use Rattle.zone.proofs.Padded.{padded-trimmed, padded-exact, padded-spare}
@@ -32,15 +32,15 @@ use Rattle.entry.specs.Codes.{formCode, sexCode}
 use Rattle.entry.specs.Row.{row, cells}
 use Rattle.entry.specs.Entry.{said, values, entryOf, size, isHouse}
 use Rattle.packing.specs.Packed.{on, packed, packedOver, packedOnOver}
-use Rattle.entry.specs.Inner.Units.{frontOctets, frontFours, frontUnits, allUnits, allOctets, restFours}
-use Rattle.entry.specs.Inner.Units.{before, front, rest, unitsOf}
+use Rattle.entry.specs.Inner.Units.{frontOctets, frontFours, frontUnits, restUnits, allUnits, allOctets, restFours, sizeBy}
+use Rattle.entry.specs.Inner.Units.{before, front, spare, rest, unitsOf}
 use Rattle.entry.proofs.Coded.{codes-held}
 use Rattle.zone.proofs.FormTold.{entered-tells}
 use Rattle.entry.proofs.Sexes.{sex-tells}
 use Rattle.packing.proofs.Packing.{length-packed, pack-room, pack-on-room}
 use Rattle.entry.proofs.Placing.{sound-before}
-use Rattle.packing.proofs.UnitBits.{put-more, octets-packed}
-use Rattle.entry.proofs.Values.{house-range, name-taken, name-coded}
+use Rattle.packing.proofs.UnitBits.{put-more, unit-left, octets-packed}
+use Rattle.entry.proofs.Values.{house-range, own-coded, own-pure, name-taken, name-coded}
 
 -- ---- house and form, and the sex
 
@@ -71,12 +71,15 @@ opening house r t =
     putAll 6 ((head house r / 4096) ∷ (head house r / 64 % 64) ∷ (head house r % 64) ∷ map codeOf (before r))
     (put 2 (sexCode (r .sex)) t)
 
--- the name's codes, and its bits
+-- the codes of data and name, and their bits
+abbrev owned : Record → List ℕ
+owned r = map codeOf (take (r .«own_len») (r .own))
+
 abbrev named : Record → List ℕ
 named r = map codeOf (take (r .«name_len») (r .name))
 
-abbrev namedBits : Record → List ℕ
-namedBits r = put 6 (length (named r)) (putAll 6 (named r) [])
+abbrev restBits : Record → List ℕ
+restBits r = put 5 (length (owned r)) (putAll 6 (owned r) (put 6 (length (named r)) (putAll 6 (named r) [])))
 
 characters-put : (r : Record) (t : List ℕ)
     → putAll 6 (map codeOf (before r)) t
@@ -85,10 +88,10 @@ characters-put : (r : Record) (t : List ℕ)
 unfolding before
 characters-put r t = simp (map-append, all-append)
 
-entry-opened : (house : ℕ) (r : Record) → putRow (cells row) (values row house r) [] ≡ opening house r (namedBits r)
+entry-opened : (house : ℕ) (r : Record) → putRow (cells row) (values row house r) [] ≡ opening house r (restBits r)
 unfolding putRow putCell putAll said heldRows
 entry-opened house r =
-    let t = put 2 (sexCode (r .sex)) (namedBits r) in
+    let t = put 2 (sexCode (r .sex)) (restBits r) in
     head-units house (formCode (r .form)) _ (entered-tells (r .form) .1)
     ∙ ap (λ (l : List ℕ). put 6 (head house r / 4096) (put 6 (head house r / 64 % 64) (put 6 (head house r % 64) l)))
     (sym (characters-put r t))
@@ -114,6 +117,18 @@ fillers-put (suc m) =
     let e : 6 * suc m ≡ suc (suc (suc (suc (suc (suc (6 * m)))))) = omega arith in
     ap (put 6 0) (fillers-put m) ∙ put-zeros 6 (replicate (6 * m) 0) ∙ sym (ap (λ (k : ℕ). replicate k 0) e)
 
+-- ---- how many characters data and name have, and the size by them
+
+abbrev both : Record → ℕ
+both r = r .«own_len» + r .«name_len»
+
+pub both-most : (r : Record) → Sound r → both r ≤ ownRoom + nameRoom
+both-most r s = omega (arith, s .own-most, s .name-most)
+
+pub size-by : (r : Record) → sizeBy (both r) ≡ size r
+unfolding size
+size-by r = omega arith
+
 -- ---- two lists put one behind the other over a third
 
 front-and-rest : (z p r : List ℕ) (n q : ℕ) → n ≤ length p → length p ≤ length z → n + length r ≤ length z → q ≤ length r
@@ -134,13 +149,14 @@ front-and-rest z p r n q a b c d =
     ∙ rw (take-at (take n p) (r ++ t) n f, drop-at (take n p) (r ++ t) n f, take-append-le q r t d)
 
 -- the rest is packed to the part behind the front's octets, which has room for it
-pub units-packed : (octets units first back : List ℕ) (n : ℕ) → n ≤ nameRoom → length units ≡ allUnits → length octets ≡ allOctets
+pub units-packed : (octets units first back : List ℕ) (k : ℕ) → k ≤ ownRoom + nameRoom → length units ≡ allUnits
+    → length octets ≡ allOctets
     → first ≡ packedOver frontFours octets units
-    → back ≡ packedOnOver (restFours n) (take (length first - frontOctets) (drop frontOctets first))
+    → back ≡ packedOnOver (restFours k) (take (length first - frontOctets) (drop frontOctets first))
     (take (length units - frontUnits) (drop frontUnits units))
     → take frontOctets first ++ (back ++ drop (length first - frontOctets) (drop frontOctets first))
-    ≡ copiedAt (copied octets (packed 0 frontFours units)) frontOctets (packed on (restFours n) (drop frontUnits units))
-units-packed octets units first back n h u o e f =
+    ≡ copiedAt (copied octets (packed 0 frontFours units)) frontOctets (packed on (restFours k) (drop frontUnits units))
+units-packed octets units first back k h u o e f =
     let p = packed 0 frontFours units in
     let one : first ≡ copied octets p = e ∙ pack-room frontFours octets units (omega arith) (omega arith) in
     let x = take (length octets) p in
@@ -151,10 +167,10 @@ units-packed octets units first back n h u o e f =
     let to = take (length first - frontOctets) (drop frontOctets first) in
     let room : length to ≡ allOctets - frontOctets =
     ap length (rest-all first frontOctets) ∙ length-drop frontOctets first ∙ omega arith in
-    let two : back ≡ copied to (packed on (restFours n) (drop frontUnits units)) = (rw all at f)
-    ∙ pack-on-room (restFours n) to (drop frontUnits units) (omega (arith, length-drop frontUnits units)) (omega arith) in
-    copy-into first frontOctets (packed on (restFours n) (drop frontUnits units)) back two
-    ∙ ap (λ (l : List ℕ). copiedAt l frontOctets (packed on (restFours n) (drop frontUnits units))) one
+    let two : back ≡ copied to (packed on (restFours k) (drop frontUnits units)) = (rw all at f)
+    ∙ pack-on-room (restFours k) to (drop frontUnits units) (omega (arith, length-drop frontUnits units)) (omega arith) in
+    copy-into first frontOctets (packed on (restFours k) (drop frontUnits units)) back two
+    ∙ ap (λ (l : List ℕ). copiedAt l frontOctets (packed on (restFours k) (drop frontUnits units))) one
 
 module _ (house : ℕ) (r : Record) (housed : isHouse house ≡ true) (s : Sound r) where
   length-opening : length (opening house r []) ≡ 8 * frontOctets
@@ -177,14 +193,18 @@ module _ (house : ℕ) (r : Record) (housed : isHouse house ≡ true) (s : Sound
       let x = sexCode (r .sex) * 16 ∷ 0 ∷ 0 ∷ [] in
       omega (arith, length-append (map codeOf (before r)) x, length-map (before r) codeOf, sound-before r s)
 
-  length-rest : length (rest r) ≡ frontUnits
+  length-rest : length (rest r) ≡ restUnits
   unfolding rest
   length-rest =
-      let x = r .name ++ replicate (frontUnits - nameRoom - 1) filler in
+      let x = r .name ++ replicate (spare r) filler in
       omega (
         arith,
+        length-append (owned r) (r .«name_len» ∷ map codeOf x),
+        own-coded r s,
+        s .own-most,
         length-map x codeOf,
-        length-append (r .name) (replicate (frontUnits - nameRoom - 1) filler),
+        length-append (r .name) (replicate (spare r) filler),
+        length-replicate (spare r) filler,
         s .name-places,
       )
 
@@ -195,10 +215,11 @@ module _ (house : ℕ) (r : Record) (housed : isHouse house ≡ true) (s : Sound
   rest-held : every (isHeld 6) (rest r) ≡ true
   unfolding rest every isHeld isCharacter isFiller isDigit isLetter
   rest-held =
-      rw (lt-ltb (r .«name_len») 64 (omega (arith, s .name-most)))
-      (codes-held (r .name ++ replicate (frontUnits - nameRoom - 1) filler)
-      (every-append isCharacter (r .name) _ (s .name-characters)
-      (every-replicate isCharacter (frontUnits - nameRoom - 1) filler refl)))
+      rw (lt-ltb (r .«own_len») 64 (omega (arith, s .own-most)))
+      (every-append (isHeld 6) (owned r) _ (codes-held (take (r .«own_len») (r .own)) (own-pure r s))
+      (rw (lt-ltb (r .«name_len») 64 (omega (arith, s .name-most)))
+      (codes-held (r .name ++ replicate (spare r) filler)
+      (every-append isCharacter (r .name) _ (s .name-characters) (every-replicate isCharacter (spare r) filler refl)))))
 
   units-held : every (isHeld 6) (unitsOf house r) ≡ true
   unfolding unitsOf front before every isHeld heldRows plain ruleRows
@@ -237,60 +258,85 @@ module _ (house : ℕ) (r : Record) (housed : isHouse house ≡ true) (s : Sound
       sym (take-append-le frontOctets p more (omega (arith, length-packed 0 frontFours u))) ∙ ap (take frontOctets) both
       ∙ take-at o (octets t) frontOctets long
 
-  -- ---- the name, with fillers to the end of the units
+  -- ---- data and name, with fillers to the end of the units
 
   abbrev over : ℕ
-  over = frontUnits - 1 - r .«name_len»
+  over = restUnits - 2 - r .«own_len» - r .«name_len»
 
-  name-filled : r .name ++ replicate (frontUnits - nameRoom - 1) filler ≡ take (r .«name_len») (r .name) ++ replicate over filler
+  name-filled : r .name ++ replicate (spare r) filler ≡ take (r .«name_len») (r .name) ++ replicate over filler
   unfolding trimmed
   name-filled =
       let n = r .«name_len» in
       let most = s .name-most in
       let x = take n (r .name) in
       let k = nameRoom - n in
-      let all : k + (frontUnits - nameRoom - 1) ≡ over = omega arith in
+      let all : k + spare r ≡ over = omega (arith, s .own-most) in
       let held : padded nameRoom x ≡ padded nameRoom (r .name) = rw (s .name-ends) at (padded-trimmed nameRoom (r .name)) in
       let name : r .name ≡ x ++ replicate k filler =
       sym (padded-exact nameRoom (r .name) (s .name-places)) ∙ sym held
       ∙ (rw (name-taken r s) at (padded-spare nameRoom x (omega (arith, name-taken r s)))) in
-      ap (λ (l : List ℕ). l ++ replicate (frontUnits - nameRoom - 1) filler) name
-      ∙ (append-assoc x (replicate k filler) (replicate (frontUnits - nameRoom - 1) filler)
-      ∙ ap (λ (l : List ℕ). x ++ l) (replicate-append-replicate k (frontUnits - nameRoom - 1) filler
+      ap (λ (l : List ℕ). l ++ replicate (spare r) filler) name
+      ∙ (append-assoc x (replicate k filler) (replicate (spare r) filler)
+      ∙ ap (λ (l : List ℕ). x ++ l) (replicate-append-replicate k (spare r) filler
       ∙ ap (λ (i : ℕ). replicate i filler) all))
 
-  rest-filled : putAll 6 (rest r) [] ≡ namedBits r ++ replicate (6 * over) 0
+  name-bits : putAll 6 (map codeOf (r .name ++ replicate (spare r) filler)) [] ≡ putAll 6 (named r) (replicate (6 * over) 0)
+  name-bits =
+      ap (λ (l : List ℕ). putAll 6 (map codeOf l) []) name-filled
+      ∙ ap (λ (l : List ℕ). putAll 6 l []) (map-append codeOf (take (r .«name_len») (r .name)) (replicate over filler))
+      ∙ all-append 6 (named r) (map codeOf (replicate over filler)) [] ∙ ap (putAll 6 (named r)) (fillers-put over)
+
+  -- what follows the rest's bits
+  rest-followed : (z : List ℕ) → restBits r ++ z
+      ≡ put 5 (length (owned r)) (putAll 6 (owned r) (put 6 (length (named r)) (putAll 6 (named r) z)))
+  rest-followed z =
+      put-followed 5 (length (owned r)) _ z
+      ∙ ap (put 5 (length (owned r))) (all-followed 6 (owned r) _ z
+      ∙ ap (putAll 6 (owned r)) (put-followed 6 (length (named r)) _ z
+      ∙ ap (put 6 (length (named r))) (all-followed 6 (named r) [] z)))
+
+  -- the first unit's first bit is left out
+  rest-filled : drop on (putAll 6 (rest r) []) ≡ restBits r ++ replicate (6 * over) 0
   unfolding rest putAll
   rest-filled =
       let n = r .«name_len» in
-      let x = take n (r .name) in
-      let z : List ℕ = replicate (6 * over) 0 in
-      ap (λ (l : List ℕ). put 6 n (putAll 6 (map codeOf l) [])) name-filled
-      ∙ ap (λ (l : List ℕ). put 6 n (putAll 6 l [])) (map-append codeOf x (replicate over filler))
-      ∙ ap (put 6 n) (all-append 6 (named r) (map codeOf (replicate over filler)) [] ∙ ap (putAll 6 (named r)) (fillers-put over))
-      ∙ ap (λ (m : ℕ). put 6 m (putAll 6 (named r) z)) (sym (name-coded r s))
-      ∙ sym (put-followed 6 (length (named r)) (putAll 6 (named r) []) z
-      ∙ ap (put 6 (length (named r))) (all-followed 6 (named r) [] z))
+      let x = map codeOf (r .name ++ replicate (spare r) filler) in
+      unit-left 1 (r .«own_len») (putAll 6 (owned r ++ (n ∷ x)) []) (omega arith)
+      ∙ ap (put 5 (r .«own_len»)) (all-append 6 (owned r) (n ∷ x) []
+      ∙ ap (λ (l : List ℕ). putAll 6 (owned r) (put 6 n l)) name-bits)
+      ∙ sym (rest-followed (replicate (6 * over) 0) ∙ rw (own-coded r s, name-coded r s))
 
-  length-named : length (namedBits r) ≡ 6 + 6 * r .«name_len»
-  length-named =
-      length-put 6 (length (named r)) (putAll 6 (named r) []) ∙ omega (arith, length-all 6 (named r) [], name-coded r s)
+  length-bits : length (restBits r) ≡ 11 + 6 * (r .«own_len» + r .«name_len»)
+  length-bits =
+      let y = put 6 (length (named r)) (putAll 6 (named r) []) in
+      length-put 5 (length (owned r)) (putAll 6 (owned r) y)
+      ∙ omega (
+        arith,
+        length-all 6 (owned r) y,
+        own-coded r s,
+        length-put 6 (length (named r)) (putAll 6 (named r) []),
+        length-all 6 (named r) [],
+        name-coded r s,
+      )
 
-  rest-packed : take (roundedUp (length (namedBits r))) (packed on (restFours (r .«name_len»)) (rest r)) ≡ octets (namedBits r)
+  rest-bits : every isBit (restBits r) ≡ true
+  rest-bits =
+      put-bits 5 (length (owned r)) _ (all-bits 6 (owned r) _ (put-bits 6 (length (named r)) _ (all-bits 6 (named r) [] no-bits)))
+
+  rest-packed : take (roundedUp (length (restBits r))) (packed on (restFours (both r)) (rest r)) ≡ octets (restBits r)
   rest-packed =
-      let b = namedBits r in
-      let k = restFours (r .«name_len») in
+      let b = restBits r in
+      let k = restFours (both r) in
       let q = roundedUp (length b) in
       let p = packed on k (rest r) in
-      let more = octets (putAll 6 (drop (4 * k) (rest r)) []) in
-      let most = s .name-most in
-      let long = length-named in
-      let both : p ++ more ≡ octets (b ++ replicate (6 * over) 0) =
-      sym (octets-packed on (omega arith) k (rest r) [] rest-held (omega (arith, length-rest)) (λ i. omega (arith, i)))
+      let more = octets (drop on (putAll 6 (drop (4 * k) (rest r)) [])) in
+      let most = both-most r s in
+      let long = length-bits in
+      let whole : p ++ more ≡ octets (b ++ replicate (6 * over) 0) =
+      sym (octets-packed on (omega arith) k (rest r) [] rest-held (omega (arith, length-rest)) (λ i. omega (arith, length-rest)))
       ∙ ap octets rest-filled in
-      sym (take-append-le q p more (omega (arith, length-packed on k (rest r)))) ∙ ap (take q) both
-      ∙ octets-cut b (6 * over) (put-bits 6 (length (named r)) _ (all-bits 6 (named r) [] no-bits))
-      (omega (arith, whole-octets (length b)))
+      sym (take-append-le q p more (omega (arith, length-packed on k (rest r)))) ∙ ap (take q) whole
+      ∙ octets-cut b (6 * over) rest-bits (omega (arith, whole-octets (length b)))
 
   -- ---- the whole
 
@@ -298,17 +344,17 @@ module _ (house : ℕ) (r : Record) (housed : isHouse house ≡ true) (s : Sound
   abbrev pub entryOctets : List ℕ
   entryOctets =
       copiedAt (copied (replicate allOctets 0) (packed 0 frontFours (unitsOf house r))) frontOctets
-      (packed on (restFours (r .«name_len»)) (drop frontUnits (unitsOf house r)))
+      (packed on (restFours (both r)) (drop frontUnits (unitsOf house r)))
 
   pub entry-packed : take (size r) entryOctets ≡ entryOf house r
   unfolding entryOf octetsOf size unitsOf
   entry-packed =
       let u = unitsOf house r in
-      let k = restFours (r .«name_len») in
-      let q = roundedUp (length (namedBits r)) in
+      let k = restFours (both r) in
+      let q = roundedUp (length (restBits r)) in
       let p = packed 0 frontFours u in
-      let most = s .name-most in
-      let long = length-named in
+      let most = both-most r s in
+      let long = length-bits in
       let n : size r ≡ frontOctets + q = omega arith in
       let back : drop frontUnits u ≡ rest r = drop-at (front house r) (rest r) frontUnits length-front in
       rw (n, back)
@@ -317,4 +363,4 @@ module _ (house : ℕ) (r : Record) (housed : isHouse house ≡ true) (s : Sound
       (omega (arith, length-packed 0 frontFours u, length-replicate {A = ℕ} allOctets 0))
       (omega (arith, length-packed on k (rest r), length-replicate {A = ℕ} allOctets 0))
       (omega (arith, length-packed on k (rest r)))
-      ∙ rw (front-packed, rest-packed) (sym (ap octets (entry-opened house r) ∙ octets-opened (namedBits r))))
+      ∙ rw (front-packed, rest-packed) (sym (ap octets (entry-opened house r) ∙ octets-opened (restBits r))))

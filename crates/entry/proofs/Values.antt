@@ -49,6 +49,18 @@ module _ (r : Record) (s : Sound r) where
   pub name-taken : length (take (r .«name_len») (r .name)) ≡ r .«name_len»
   name-taken = length-take-le (r .«name_len») (r .name) (omega (arith, s .name-most, s .name-places))
 
+  pub own-taken : length (take (r .«own_len») (r .own)) ≡ r .«own_len»
+  own-taken = length-take-le (r .«own_len») (r .own) (omega (arith, s .own-most, s .own-places))
+
+  pub own-coded : length (map codeOf (take (r .«own_len») (r .own))) ≡ r .«own_len»
+  own-coded = length-map (take (r .«own_len») (r .own)) codeOf ∙ own-taken
+
+  pub own-pure : every isCharacter (take (r .«own_len») (r .own)) ≡ true
+  own-pure = every-take isCharacter (r .«own_len») (r .own) (s .own-characters)
+
+  own-fits : FitsCell (counted 5 6) (map codeOf (take (r .«own_len») (r .own)))
+  own-fits = (rw own-coded (omega (arith, s .own-most)), codes-held (take (r .«own_len») (r .own)) own-pure)
+
   pub name-coded : length (map codeOf (take (r .«name_len») (r .name))) ≡ r .«name_len»
   name-coded = length-map (take (r .«name_len») (r .name)) codeOf ∙ name-taken
 
@@ -62,7 +74,7 @@ module _ (r : Record) (s : Sound r) where
   unfolding said heldRows plain ruleRows
   rest-fits h =
       let sex-fits = one-held 2 (sexCode (r .sex)) (sex-tells (r .sex) (s .kept sex refl) .1) in
-      (plain-coded code refl, (plain-coded nationality refl, ((refl, sex-fits), (name-fits, tt))))
+      (plain-coded code refl, (plain-coded nationality refl, ((refl, sex-fits), (own-fits, (name-fits, tt)))))
 
   module _ (h : ℕ) (house : isHouse h ≡ true) where
     pub key-fits : Fits (cells key) (values key h r)
@@ -103,9 +115,9 @@ module _ (r : Record) (s : Sound r) where
       sized-append (cells key) (cells afterKey) (values key h r) (values afterKey h r) (key-sized h)
       (fits-sized (cells afterKey) (values afterKey h r) (rest-fits h))
 
-  -- 278 + 6n bits rounded up to bytes
+  -- 283 + 6(n + m) bits rounded up to bytes
   pub length-entry : (h : ℕ) → length (entryOf h r) ≡ size r
   unfolding entryOf size said heldRows
   length-entry h =
       length-octets-of (cells row) (values row h r) (values-sized h)
-      ∙ ap (λ (n : ℕ). roundedUp (rowBits (cells row) (n ∷ []))) name-coded
+      ∙ rw (own-coded, name-coded)

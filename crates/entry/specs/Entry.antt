@@ -34,9 +34,9 @@ entryOf h r = octetsOf (cells row) (values row h r)
 
 -- the lengths of the counted cells, in the row's order
 abbrev pub lengths : Record → List ℕ
-lengths r = r .«name_len» ∷ []
+lengths r = r .«own_len» ∷ r .«name_len» ∷ []
 
--- with a name of n characters 278 + 6n bits rounded up to bytes
+-- with a name of n characters and data of m "283 + 6(n + m) bits rounded up" to bytes
 unfoldable pub size : Record → ℕ
 size r = roundedUp (rowBits (cells row) (lengths r))
 

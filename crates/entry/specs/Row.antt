@@ -1,10 +1,11 @@
--- The row of an entry: document 01, "The entry, most significant bit first". Every place and every length follows from it.
+-- The row of an entry: document 01, "The entry, most significant bit first", and document 02, request 2026-06. Every place and
+-- every length follows from it.
 use Prim.Native.Nat.{ℕ, suc, _+_, _*_}
 use mathlib.Core.Bool.{cond}
 use mathlib.Core.List.{List, [], _∷_, _++_}
 use lib.Dec.{eqb}
 use Rattle.zone.specs.Part as text
-use Rattle.zone.specs.Part.{code, state, number, nationality, birth, sex, expiry, name}
+use Rattle.zone.specs.Part.{code, state, number, nationality, birth, sex, expiry, name, own}
 use Rattle.cells.specs.Cells.{Cell, fixed, counted}
 
 -- what a cell is for: the house, the form, or a field of the record, which is a part of a text
@@ -29,9 +30,11 @@ key =
     house of fixed 1 15 ∷ form of fixed 1 3 ∷ field state of fixed 3 6 ∷ field number of fixed 22 6 ∷ field birth of fixed 6 6
     ∷ field expiry of fixed 6 6 ∷ []
 
--- "then code 12, nationality 18, sex 2, name length 6, name"
+-- "then code 12, nationality 18, sex 2, name length 6, name", with "a 5-bit length and its m characters before the name length"
 abbrev pub afterKey : List Place
-afterKey = field code of fixed 2 6 ∷ field nationality of fixed 3 6 ∷ field sex of fixed 1 2 ∷ field name of counted 6 6 ∷ []
+afterKey =
+    field code of fixed 2 6 ∷ field nationality of fixed 3 6 ∷ field sex of fixed 1 2 ∷ field own of counted 5 6
+    ∷ field name of counted 6 6 ∷ []
 
 abbrev pub row : List Place
 row = key ++ afterKey

@@ -28,21 +28,29 @@ pub const SEX: usize = NATIONALITY + CHARACTER * Form::STATE;
 
 pub const SEX_BITS: usize = 2;
 
-pub const NAME_LENGTH: usize = SEX + SEX_BITS;
+pub const OWN_LENGTH: usize = SEX + SEX_BITS;
 
+pub const OWN_LENGTH_BITS: usize = 5;
+
+pub const OWN: usize = OWN_LENGTH + OWN_LENGTH_BITS;
+
+// Of the name the place is told by the data before it.
 pub const NAME_LENGTH_BITS: usize = 6;
 
-pub const NAME: usize = NAME_LENGTH + NAME_LENGTH_BITS;
+// The bits of an entry but for the characters of data and name.
+pub const BARE: usize = OWN + NAME_LENGTH_BITS;
 
-// What stands before the length of the name, the front, is whole octets, of which the fours of units hold two more.
-pub const FRONT: usize = NAME_LENGTH / 8;
+// What stands before the length of the data, the front, is whole octets, of which the fours of units hold two more.
+pub const FRONT: usize = OWN_LENGTH / 8;
 
 pub const FRONT_FOURS: usize = FRONT / 3 + 1;
 
 pub const FRONT_UNITS: usize = 4 * FRONT_FOURS;
 
-// As many units as the front has are enough for the rest, with one behind it.
-pub const UNITS: usize = 2 * FRONT_UNITS;
+// Two lengths, data and name: enough for the longest, with one four behind it.
+pub const REST_UNITS: usize = 4 * ((Form::OWN + Form::NAME + 5) / 4 + 1);
+
+pub const UNITS: usize = FRONT_UNITS + REST_UNITS;
 
 // Room for the octets of the longest entry, to whole fours.
 pub const OCTETS: usize = UNITS / 4 * 3;
@@ -61,4 +69,7 @@ pub const NATIONALITY_UNIT: usize = NATIONALITY / CHARACTER;
 
 pub const SEX_UNIT: usize = SEX / CHARACTER;
 
-pub const NAME_UNIT: usize = FRONT_UNITS + 1;
+// The length of the data is a unit, of which the first bit is left out; that of the name stands behind them, and then the name.
+pub const OWN_UNIT: usize = FRONT_UNITS + 1;
+
+pub const NAME_UNIT: usize = OWN_UNIT + 1;

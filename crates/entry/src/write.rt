@@ -2,15 +2,15 @@
 ghost use mathlib.Core.Path.{_≡_};
 ghost use mathlib.Core.Bool.{true};
 ghost use mathlib.Core.List.{_++_};
-ghost use Prim.Native.Nat.{_≤_};
+ghost use Prim.Native.Nat.{_+_, _≤_};
 ghost use lib.ListN.{length, drop};
 ghost use Rattle.lent.specs.Copied.{copied, copiedAt};
-ghost use Rattle.zone.specs.Rooms.{nameRoom};
+ghost use Rattle.zone.specs.Rooms.{ownRoom, nameRoom};
 ghost use Rattle.sound.specs.Sound.{isSound};
 ghost use Rattle.packing.specs.Packed.{on, packed};
 ghost use Rattle.entry.specs.Entry as E;
-ghost use Rattle.entry.specs.Inner.Units.{allUnits, allOctets, frontFours, frontOctets, frontUnits, placed, restFours};
-ghost use Rattle.entry.specs.Inner.Units.{sizeBy, unitsOf};
+ghost use Rattle.entry.specs.Inner.Units.{allUnits, allOctets, frontFours, frontOctets, frontUnits, placed, placedKey};
+ghost use Rattle.entry.specs.Inner.Units.{placedAfterKey, placedRest, restFours, sizeBy, unitsOf};
 use crate::codes;
 use crate::places;
 use packing::pack::pack;
@@ -27,30 +27,55 @@ pub fn is_house(house: u32) -> bool
     (1 <= house) & (house <= 32767)
 }
 
-// The octets of an entry whose name has n characters.
-fn size(n: usize) -> usize
-    requires { ⌜ n ≤ nameRoom ⌝ }
-    ensures { λ r. ⌜ r ≡ sizeBy n ⌝ }
+// The octets of an entry with so many characters of data and name.
+fn size(characters: usize) -> usize
+    requires { ⌜ characters ≤ ownRoom + nameRoom ⌝ }
+    ensures { λ r. ⌜ r ≡ sizeBy characters ⌝ }
 {
-    (places::NAME + places::CHARACTER * n + 7) / 8
+    (places::BARE + places::CHARACTER * characters + 7) / 8
+}
+
+// The characters of the key, each at its unit.
+fn put_key(units: &mut [u8], r: Record)
+    ensures { λ _. ⌜ now (units .exit) ≡ placedKey r (now (units .entry)) ⌝ }
+{
+    lent::copy_at(units, places::STATE_UNIT, &r.state);
+    lent::copy_at(units, places::NUMBER_UNIT, &r.number);
+    lent::copy_at(units, places::BIRTH_UNIT, &r.birth);
+    lent::copy_at(units, places::EXPIRY_UNIT, &r.expiry);
+}
+
+// Those between the key and the sex.
+fn put_after_key(units: &mut [u8], r: Record)
+    ensures { λ _. ⌜ now (units .exit) ≡ placedAfterKey r (now (units .entry)) ⌝ }
+{
+    lent::copy_at(units, places::CODE_UNIT, &r.code);
+    lent::copy_at(units, places::NATIONALITY_UNIT, &r.nationality);
+}
+
+// Those of data and name.
+fn put_rest(units: &mut [u8], r: Record)
+    requires { ⌜ isSound r ≡ true ⌝ }
+    ensures { λ _. ⌜ now (units .exit) ≡ placedRest r (now (units .entry)) ⌝ }
+{
+    let m = r.own_len;
+    lent::copy_at(units, places::OWN_UNIT, lent::part(&r.own, 0, m));
+    lent::copy_at(units, places::NAME_UNIT + m, &r.name);
 }
 
 // The characters of a record, each at its unit, and fillers where numbers go.
 fn characters_of(r: Record) -> [u8; places::UNITS]
+    requires { ⌜ isSound r ≡ true ⌝ }
     ensures { λ s. ⌜ s ≡ placed r ⌝ }
 {
     let mut units = [FILLER; places::UNITS];
-    lent::copy_at(&mut units, places::STATE_UNIT, &r.state);
-    lent::copy_at(&mut units, places::NUMBER_UNIT, &r.number);
-    lent::copy_at(&mut units, places::BIRTH_UNIT, &r.birth);
-    lent::copy_at(&mut units, places::EXPIRY_UNIT, &r.expiry);
-    lent::copy_at(&mut units, places::CODE_UNIT, &r.code);
-    lent::copy_at(&mut units, places::NATIONALITY_UNIT, &r.nationality);
-    lent::copy_at(&mut units, places::NAME_UNIT, &r.name);
+    put_key(&mut units, r);
+    put_after_key(&mut units, r);
+    put_rest(&mut units, r);
     units
 }
 
-// Their codes, and the numbers: house and form in three units, the sex in the first bits of one, the length of the name.
+// Their codes, and the numbers: house and form in three units, the sex in the first bits of one, the lengths of data and name.
 fn units_of(house: u32, r: Record) -> [u8; places::UNITS]
     requires { ⌜ (house ≤ 32767) × (isSound r ≡ true) ⌝ }
     ensures { λ s. ⌜ s ≡ unitsOf house r ⌝ }
@@ -64,21 +89,22 @@ fn units_of(house: u32, r: Record) -> [u8; places::UNITS]
     units[1] = (head / 64 % 64) as u8;
     units[2] = (head % 64) as u8;
     units[places::SEX_UNIT] = sex * 16;
-    units[places::FRONT_UNITS] = r.name_len as u8;
+    units[places::FRONT_UNITS] = r.own_len as u8;
+    units[places::OWN_UNIT + r.own_len] = r.name_len as u8;
     units
 }
 
 // The front, and the rest behind it, over the octets that the front's fours have too many.
-fn pack_units(octets: &mut [u8], units: &[u8], n: usize)
-    requires { ⌜ (n ≤ nameRoom) × (length (now units) ≡ allUnits) × (length (now octets) ≡ allOctets) ⌝ }
+fn pack_units(octets: &mut [u8], units: &[u8], characters: usize)
+    requires { ⌜ (characters ≤ ownRoom + nameRoom) × (length (now units) ≡ allUnits) × (length (now octets) ≡ allOctets) ⌝ }
     ensures { λ _. ⌜ now (octets .exit) ≡ copiedAt (copied (now (octets .entry)) (packed 0 frontFours (now (units .entry))))
-        frontOctets (packed on (restFours n) (drop frontUnits (now (units .entry)))) ⌝ }
+        frontOctets (packed on (restFours characters) (drop frontUnits (now (units .entry)))) ⌝ }
 {
     pack(octets, units, places::FRONT_FOURS);
     pack_on(
         &mut octets[places::FRONT..],
         &units[places::FRONT_UNITS..],
-        (n + 4) / 4,
+        (characters + 5) / 4,
     );
 }
 
@@ -89,9 +115,9 @@ fn write_octets(house: u32, r: Record, out: &mut [u8])
 {
     let units = units_of(house, r);
     let mut octets = [0; places::OCTETS];
-    let n = r.name_len;
-    pack_units(&mut octets, &units, n);
-    lent::copy(out, lent::part(&octets, 0, size(n)));
+    let characters = r.own_len + r.name_len;
+    pack_units(&mut octets, &units, characters);
+    lent::copy(out, lent::part(&octets, 0, size(characters)));
 }
 
 // The entry of a record: 17 for a house or a record that is not sound, then 16 for an output that is too short.
@@ -99,7 +125,7 @@ pub fn write(house: u32, r: Record, out: &mut [u8]) -> Written
     ensures { λ w. ⌜ E.Writes house r (now (out .entry)) (now (out .exit)) w ⌝ }
 {
     if is_house(house) & sound::is_sound(r) {
-        let octets = size(r.name_len);
+        let octets = size(r.own_len + r.name_len);
         if octets <= out.len() {
             write_octets(house, r, out);
             Written::Octets(octets)

@@ -46,7 +46,7 @@ drop-first j w v t = ap (drop j) (put-split j w v t) ∙ drop-put j (v / 2 ^ w) 
 
 -- ---- j bits on
 
-unit-left : (j e : ℕ) (t : List ℕ) → j ≤ 6 → drop j (put 6 e t) ≡ put (6 - j) e t
+pub unit-left : (j e : ℕ) (t : List ℕ) → j ≤ 6 → drop j (put 6 e t) ≡ put (6 - j) e t
 unit-left j e t h = let same : j + (6 - j) ≡ 6 = omega arith in rw same at (drop-first j (6 - j) e t)
 
 module _ (j : ℕ) (few : j ≤ 6) where

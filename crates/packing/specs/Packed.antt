@@ -23,9 +23,9 @@ packed j zero s = []
 packed j (suc k) s =
     (fourOn j s 0 / 65536 % 256) ∷ (fourOn j s 0 / 256 % 256) ∷ (fourOn j s 0 % 256) ∷ packed j k (drop 4 s)
 
--- how many bits the rest of an entry is on: those of a unit that its first number does not have
+-- how many bits the rest of an entry is on: those of a unit that its first number, a length of five bits, does not have
 abbrev pub on : ℕ
-on = 0
+on = 1
 
 -- what a range holds afterwards; where there is no room, what it held
 unfoldable pub packedOver : (k : ℕ) (out s : List ℕ) → List ℕ

@@ -30,7 +30,7 @@ fn four_at(s: &[u8], at: usize) -> u32
 }
 
 // How many times what is some bits on is doubled: once for each bit.
-const DOUBLED: u32 = 1;
+const DOUBLED: u32 = 2;
 
 // The number that they say some bits on, with the first bits of the next unit behind them.
 fn four_on(s: &[u8], at: usize) -> u32

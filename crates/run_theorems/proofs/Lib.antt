@@ -10,7 +10,9 @@ pub mod ListReadBack
 pub mod OneAnswer
 -- DEMAND 3: any octets are read up to their end or to the first place where no entry stands (`read-any`)
 pub mod AnyRun
--- DEMAND 3: 278 + 6n bits rounded up (`entry-length`, `entry-formula`)
+-- DEMAND 3: records that agree but for the data have one key and two entries (`data-apart`, `data-told`)
+pub mod OtherData
+-- DEMAND 3: 283 + 6(n + m) bits rounded up (`entry-length`, `entry-formula`)
 pub mod EntryLengths
 -- the expected digit where what was read is entered (`entered-told`)
 pub mod Expected

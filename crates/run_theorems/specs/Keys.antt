@@ -4,7 +4,10 @@ use Prim.Native.Nat.{ℕ}
 use mathlib.Core.Path.{_≡_}
 use mathlib.Core.List.{List}
 use lib.ListN.{take}
+use mathlib.Core.Bool.{false}
 use Rattle.zone.specs.declared.record.Record.{Record}
+use Rattle.zone.specs.Part.{Part, own, same}
+use Rattle.zone.specs.Record.{held}
 use Rattle.entry.specs.Entry.{entryOf}
 
 -- the thirty bytes with which an entry begins
@@ -23,3 +26,9 @@ pub record SameKey (h : ℕ) (r : Record) (k : ℕ) (q : Record) : Type 0 where
   pub same-number : wholeNumber r ≡ wholeNumber q
   pub same-birth : r .birth ≡ q .birth
   pub same-expiry : r .expiry ≡ q .expiry
+
+-- two records that agree in all that they hold but in the issuer's own data (document 02, request 2026-06)
+pub record ButForData (r q : Record) : Type 0 where
+  pub alike-form : r .form ≡ q .form
+  pub alike-held : (x : Part) → same x own ≡ false → held r x ≡ held q x
+  pub other-data : held r own ≡ held q own → ⊥

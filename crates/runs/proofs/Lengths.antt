@@ -1,4 +1,4 @@
--- The lengths of a record that is read, be it an entry's or the blank one: the number's room, and what six bits say.
+-- The lengths of a record that is read, be it an entry's or the blank one: the number's room, and what six bits and five say.
 use Prim.Native.Nat.{ℕ, _+_, _<_, _≤_}
 use mathlib.Core.List.{List}
 use native.Mathlib.Omega.{arith}
@@ -16,17 +16,18 @@ use Rattle.zone.proofs.Padded.{trimmed-le, trimmed-length}
 use Rattle.cells.proofs.Shifts.{bits-below}
 use Rattle.entry.specs.Row.{start}
 use Rattle.units.specs.Unpacked.{charactersAt}
-use Rattle.runs.specs.Inner.Units.{nameLength}
+use Rattle.runs.specs.Inner.Units.{ownLength, nameAt, nameLength}
 use Rattle.runs.specs.Run.{Standing, saidOf, recordOf, recordIn, formIn, isEntry, noEntry, entryBy, readEntry}
 use Rattle.units.proofs.Reading.{length-characters}
 
 pub record Short (r : Record) : Type 0 where
   pub number-short : r .«number_len» ≤ numberRoom
   pub name-short : r .«name_len» < 64
+  pub own-short : r .«own_len» < 32
 
 blank-short : Short blank
 unfolding blank holding
-blank-short = record { number-short = omega arith; name-short = omega arith }
+blank-short = record { number-short = omega arith; name-short = omega arith; own-short = omega arith }
 
 entry-short : (f : Form) (s : List ℕ) → Short (recordIn f s)
 unfolding recordIn recordOf holding saidOf
@@ -34,7 +35,8 @@ entry-short f s =
     let number = charactersAt s (start text.number) numberRoom in
     record {
       number-short = rw (trimmed-length number) (rw (length-characters s (start text.number) numberRoom) at (trimmed-le number));
-      name-short = rw (length-characters s (start text.name + 6) (nameLength s)) (bits-below s (start text.name) 6);
+      name-short = rw (length-characters s (nameAt (ownLength s) + 6) (nameLength s)) (bits-below s (nameAt (ownLength s)) 6);
+      own-short = rw (length-characters s (start text.own + 5) (ownLength s)) (bits-below s (start text.own) 5);
     }
 
 -- of what stands at an offset

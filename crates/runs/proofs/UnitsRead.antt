@@ -1,5 +1,5 @@
 -- What is read of an entry whose octets stand alone, with zeros behind them: unit by unit the characters that its bits say, and
--- fillers behind its name.
+-- fillers behind its name. Data and name have n characters.
 use Prim.Native.Nat.{ℕ, zero, suc, _+_, _-_, _*_, _/_, _%_, _^_, _≤_, _<_}
 use mathlib.Core.Path.{_≡_, refl, ap, sym, _∙_}
 use mathlib.Core.Bool.{Bool, true, false}
@@ -18,8 +18,7 @@ use Rattle.zone.specs.Alphabet.{filler}
 use Rattle.zone.specs.Codes.{characterOf}
 use Rattle.zone.specs.Record.{padded}
 use Rattle.zone.specs.Rooms.{nameRoom}
-use Rattle.zone.proofs.Padded.{copied-padded, padded-spare, padded-exact, padded-full, padded-append, padded-nil, padded-zero}
-use Rattle.zone.proofs.Padded.{padded-cons, length-padded}
+use Rattle.zone.proofs.Padded.{copied-padded, padded-spare, padded-append, padded-nil, padded-zero, padded-cons, padded-cut}
 use Rattle.cells.specs.Bits.{bit, bitsAt}
 use Rattle.cells.specs.Cells.{numbersAt}
 use Rattle.cells.proofs.Alike.{bit-alike, numbers-alike, none-each, Unset, numbers-none, numbers-parted}
@@ -27,7 +26,8 @@ use Rattle.cells.proofs.RowOctets.{whole-octets}
 use Rattle.entry.specs.Row.{start}
 use Rattle.entry.specs.Inner.Units.{frontFours, frontUnits, unitOf, restFours}
 use Rattle.units.specs.Unpacked.{charactersAt}
-use Rattle.runs.specs.Inner.Units.{endBy, sizeBy, spareBy, mostFours, allUnits, allOctets, held, unitsOver, unitsIn}
+use Rattle.runs.specs.Inner.Units.{nameAt, restStart, endBy, sizeBy, spareBy, mostFours, allUnits, allOctets, held}
+use Rattle.runs.specs.Inner.Units.{unitsOver, unitsIn}
 use Rattle.units.specs.Unpacked.{unpackedOver}
 use Rattle.units.proofs.Reading.{length-characters, unpack-room}
 
@@ -60,14 +60,14 @@ cut a b c r at m p q =
     ∙ ap (take m) (append-assoc b c r) ∙ take-at b (c ++ r) m q
 
 -- the rest is unpacked to the part behind the front's units, which has room for it
-pub units-unpacked : (to octets first back : List ℕ) (n : ℕ) → n < 64 → length to ≡ allUnits → length octets ≡ allOctets
+pub units-unpacked : (to octets first back : List ℕ) (n : ℕ) → n < 95 → length to ≡ allUnits → length octets ≡ allOctets
     → first ≡ unpackedOver 0 frontFours to octets
-    → back ≡ unpackedOver (start text.name) (restFours n) (take (length first - frontUnits) (drop frontUnits first)) octets
+    → back ≡ unpackedOver restStart (restFours n) (take (length first - frontUnits) (drop frontUnits first)) octets
     → take frontUnits first ++ (back ++ drop (length first - frontUnits) (drop frontUnits first)) ≡ unitsOver to octets n
 unfolding unitsOver
 units-unpacked to octets first back n h u o e f =
     let p = charactersAt octets 0 frontUnits in
-    let q = charactersAt octets (start text.name) (4 * restFours n) in
+    let q = charactersAt octets restStart (4 * restFours n) in
     let one : first ≡ copied to p = e ∙ unpack-room 0 frontFours to octets (omega arith) (omega arith) in
     let x = take (length to) p in
     let y = drop (length p) to in
@@ -77,10 +77,10 @@ units-unpacked to octets first back n h u o e f =
     let room : length part-of ≡ allUnits - frontUnits =
     ap length (rest-all first frontUnits) ∙ length-drop frontUnits first ∙ omega arith in
     let two : back ≡ copied part-of q = f
-    ∙ unpack-room (start text.name) (restFours n) part-of octets (omega arith) (omega arith) in
+    ∙ unpack-room restStart (restFours n) part-of octets (omega arith) (omega arith) in
     copy-into first frontUnits q back two ∙ ap (λ (l : List ℕ). copiedAt l frontUnits q) one
 
-module _ (s : List ℕ) (n : ℕ) (h : sizeBy n ≤ length s) (g : n < 64) where
+module _ (s : List ℕ) (n : ℕ) (h : sizeBy n ≤ length s) (g : n < 95) where
   -- ---- the octets
 
   abbrev octets : List ℕ
@@ -131,7 +131,7 @@ module _ (s : List ℕ) (n : ℕ) (h : sizeBy n ≤ length s) (g : n < 64) where
   first = charactersAt (held s n) 0 frontUnits
 
   abbrev second : List ℕ
-  second = charactersAt (held s n) (start text.name) (4 * restFours n)
+  second = charactersAt (held s n) restStart (4 * restFours n)
 
   first-long : length first ≡ frontUnits
   first-long = length-characters (held s n) 0 frontUnits
@@ -161,54 +161,93 @@ module _ (s : List ℕ) (n : ℕ) (h : sizeBy n ≤ length s) (g : n < 64) where
       ∙ cut a b c (padded (4 * mostFours) second) at m (length-characters x 0 at) (length-characters x (6 * at) m)
       ∙ ap (map characterOf) (numbers-alike x s (sizeBy n) held-alike (6 * at) m 6 (omega arith))
 
-  -- the length of the name, its characters and fillers
-  second-parts : bitsAt s (endBy n) (spareBy n) ≡ 0
-      → second ≡ charactersAt (held s n) (start text.name) 1
-      ++ (charactersAt s (start text.name + 6) n ++ replicate (4 * restFours n - 1 - n) filler)
-  second-parts z =
-      let x = held s n in
-      let d = 4 * restFours n - 1 - n in
-      let e : 4 * restFours n ≡ 1 + (n + d) = omega arith in
-      let none : numbersAt x (endBy n) d 6 ≡ replicate d 0 = numbers-none x (endBy n) d 6 (held-unset z) in
-      let same : charactersAt x (start text.name + 6) n ≡ charactersAt s (start text.name + 6) n =
-      ap (map characterOf) (numbers-alike x s (sizeBy n) held-alike (start text.name + 6) n 6 (omega arith)) in
-      let rest : charactersAt x (start text.name + 6) (n + d) ≡ charactersAt s (start text.name + 6) n ++ replicate d filler =
-      characters-parted x (start text.name + 6) n d ∙ rw (same, none, fillers-of d) in
-      ap (charactersAt x (start text.name)) e ∙ characters-parted x (start text.name) 1 (n + d)
-      ∙ ap (λ (l : List ℕ). charactersAt x (start text.name) 1 ++ l) rest
+  -- of characters that the octets have
+  alike-read : (at k : ℕ) → at + 6 * k ≤ endBy n → charactersAt (held s n) at k ≡ charactersAt s at k
+  alike-read at k l = ap (map characterOf) (numbers-alike (held s n) s (sizeBy n) held-alike at k 6 (omega arith))
 
-  name-read : bitsAt s (endBy n) (spareBy n) ≡ 0
-      → take nameRoom (drop (frontUnits + 1) (unitsIn s n)) ≡ padded nameRoom (charactersAt s (start text.name + 6) n)
-  name-read z =
-      let one = charactersAt (held s n) (start text.name) 1 in
-      let name = charactersAt s (start text.name + 6) n in
-      let d = 4 * restFours n - 1 - n in
-      let j = 4 * mostFours - 4 * restFours n in
-      let r : List ℕ = replicate d filler in
-      let u : List ℕ = replicate j filler in
-      let w : List ℕ = replicate (d + j) filler in
-      let long : length second ≡ 4 * restFours n = length-characters (held s n) (start text.name) (4 * restFours n) in
-      let all : padded (4 * mostFours) second ≡ second ++ u = rw long at (padded-spare (4 * mostFours) second (omega arith)) in
-      let parts : padded (4 * mostFours) second ≡ one ++ (name ++ w) =
-      all ∙ ap (λ (l : List ℕ). l ++ u) (second-parts z) ∙ simp append-assoc
-      (ap (λ (l : List ℕ). one ++ (name ++ l)) (replicate-append-replicate d j filler)) in
-      let behind : drop (frontUnits + 1) (unitsIn s n) ≡ name ++ w =
-      ap (drop (frontUnits + 1)) units-parts
-      ∙ (rw first-long at (drop-append-add first (padded (4 * mostFours) second) 1)) ∙ ap (drop 1) parts
-      ∙ drop-at one (name ++ w) 1 (length-characters (held s n) (start text.name) 1) in
-      let enough : nameRoom ≤ length (name ++ w) = rw (length-append name w)
-      (omega (arith, length-characters s (start text.name + 6) n, length-replicate {A = ℕ} (d + j) filler)) in
-      ap (take nameRoom) behind ∙ sym (padded-full nameRoom (name ++ w) enough) ∙ fillers-behind nameRoom (d + j) name
+  module _ (z : bitsAt s (endBy n) (spareBy n) ≡ 0) (m l : ℕ) (both : m + l ≡ n) where
+    abbrev own : List ℕ
+    own = charactersAt s (start text.own + 5) m
 
-  -- ---- each in its room
+    abbrev name : List ℕ
+    name = charactersAt s (nameAt m + 6) l
+
+    -- the units that hold the lengths
+    abbrev one : List ℕ
+    one = charactersAt (held s n) restStart 1
+
+    abbrev two : List ℕ
+    two = charactersAt (held s n) (nameAt m) 1
+
+    -- how many units the fours have behind the name, and how many there are behind the fours
+    abbrev left : ℕ
+    left = 4 * restFours n - 2 - n
+
+    abbrev more : ℕ
+    more = 4 * mostFours - 4 * restFours n
+
+    -- length and characters of the data, length and characters of the name, and fillers
+    second-parts : second ≡ one ++ (own ++ (two ++ (name ++ replicate left filler)))
+    second-parts =
+        let x = held s n in
+        let e : 4 * restFours n ≡ 1 + (m + (1 + (l + left))) = omega arith in
+        let at-two : start text.own + 5 + 6 * m ≡ nameAt m = omega arith in
+        let at-end : nameAt m + 6 + 6 * l ≡ endBy n = omega arith in
+        let none : numbersAt x (endBy n) left 6 ≡ replicate left 0 = numbers-none x (endBy n) left 6 (held-unset z) in
+        let last : charactersAt x (nameAt m + 6) (l + left) ≡ name ++ replicate left filler =
+        characters-parted x (nameAt m + 6) l left
+        ∙ rw (at-end, none, fillers-of left, alike-read (nameAt m + 6) l (omega arith)) in
+        let third : charactersAt x (nameAt m) (1 + (l + left)) ≡ two ++ (name ++ replicate left filler) =
+        characters-parted x (nameAt m) 1 (l + left) ∙ ap (λ (t : List ℕ). two ++ t) last in
+        let data-at : charactersAt x (start text.own + 5) (m + (1 + (l + left)))
+        ≡ own ++ (two ++ (name ++ replicate left filler)) =
+        characters-parted x (start text.own + 5) m (1 + (l + left))
+        ∙ rw (alike-read (start text.own + 5) m (omega arith)) (ap (λ (t : List ℕ). own ++ t) third) in
+        ap (charactersAt x restStart) e ∙ characters-parted x restStart 1 (m + (1 + (l + left)))
+        ∙ ap (λ (t : List ℕ). one ++ t) data-at
+
+    rest-parts : padded (4 * mostFours) second ≡ one ++ (own ++ (two ++ (name ++ replicate (left + more) filler)))
+    rest-parts =
+        let long : length second ≡ 4 * restFours n = length-characters (held s n) restStart (4 * restFours n) in
+        let u : List ℕ = replicate more filler in
+        (rw long at (padded-spare (4 * mostFours) second (omega arith)))
+        ∙ ap (λ (t : List ℕ). t ++ u) second-parts ∙ simp append-assoc
+        (ap (λ (t : List ℕ). one ++ (own ++ (two ++ (name ++ t)))) (replicate-append-replicate left more filler))
+
+    behind : (k : ℕ) → drop (frontUnits + k) (unitsIn s n) ≡ drop k (padded (4 * mostFours) second)
+    behind k =
+        ap (drop (frontUnits + k)) units-parts ∙ (rw first-long at (drop-append-add first (padded (4 * mostFours) second) k))
+
+    pub own-read : take m (drop (frontUnits + 1) (unitsIn s n)) ≡ own
+    own-read =
+        let t = two ++ (name ++ replicate (left + more) filler) in
+        ap (take m) (behind 1 ∙ ap (drop 1) rest-parts
+        ∙ drop-at one (own ++ t) 1 (length-characters (held s n) restStart 1))
+        ∙ take-at own t m (length-characters s (start text.own + 5) m)
+
+    -- behind the name stand fillers alone, perhaps fewer than its room has places
+    pub padded-name : padded nameRoom (take nameRoom (drop (frontUnits + 2 + m) (unitsIn s n))) ≡ padded nameRoom name
+    padded-name =
+        let w : List ℕ = replicate (left + more) filler in
+        let a = one ++ (own ++ two) in
+        let e : frontUnits + 2 + m ≡ frontUnits + (2 + m) = omega arith in
+        let a-long : length a ≡ 2 + m =
+        length-append one (own ++ two) ∙ omega (
+          arith,
+          length-append own two,
+          length-characters (held s n) restStart 1,
+          length-characters s (start text.own + 5) m,
+          length-characters (held s n) (nameAt m) 1,
+        ) in
+        let parts : padded (4 * mostFours) second ≡ a ++ (name ++ w) = rest-parts ∙ sym (simp append-assoc) in
+        let there : drop (frontUnits + 2 + m) (unitsIn s n) ≡ name ++ w =
+        ap (λ (k : ℕ). drop k (unitsIn s n)) e ∙ behind (2 + m) ∙ ap (drop (2 + m)) parts
+        ∙ drop-at a (name ++ w) (2 + m) a-long in
+        ap (λ (t : List ℕ). padded nameRoom (take nameRoom t)) there ∙ padded-cut nameRoom (name ++ w)
+        ∙ fillers-behind nameRoom (left + more) name
+
+  -- ---- a field of the front in its room
 
   pub padded-field : (at m : ℕ) → at + m ≤ unitOf text.sex
       → padded m (take m (drop at (unitsIn s n))) ≡ padded m (charactersAt s (6 * at) m)
   padded-field at m k = ap (padded m) (field-read at m k)
-
-  pub padded-name : bitsAt s (endBy n) (spareBy n) ≡ 0
-      → padded nameRoom (take nameRoom (drop (frontUnits + 1) (unitsIn s n)))
-      ≡ padded nameRoom (charactersAt s (start text.name + 6) n)
-  padded-name z =
-      let x = charactersAt s (start text.name + 6) n in
-      ap (padded nameRoom) (name-read z) ∙ padded-exact nameRoom (padded nameRoom x) (length-padded nameRoom x)

@@ -8,9 +8,9 @@ use lib.ListN.{length, take, length-map}
 use lib.Seq.{take-all}
 use Rattle.zone.specs.Alphabet.{isCharacter, every}
 use Rattle.zone.specs.Codes.{codeOf, characterOf}
-use Rattle.zone.specs.Part.{Part, code, state, number, nationality, birth, sex, expiry, name}
+use Rattle.zone.specs.Part.{Part, code, state, number, nationality, birth, sex, expiry, name, own}
 use Rattle.zone.specs.Record.{trimmed, padded, plain, plainRoom, isPlain, heldRows, held, holding}
-use Rattle.zone.specs.Rooms.{stateRoom, numberRoom, nameRoom}
+use Rattle.zone.specs.Rooms.{stateRoom, numberRoom, nameRoom, ownRoom}
 use Rattle.zone.specs.declared.form.Form.{Form}
 use Rattle.zone.specs.declared.form.Recognised.the-variants.{As}
 use Rattle.zone.specs.declared.record.Record.{Record}
@@ -30,7 +30,7 @@ use Rattle.entry.specs.Row.{row, startIn, start}
 use Rattle.entry.proofs.Coded.{codes-tell, characters-tell}
 use Rattle.entry.proofs.Sexes.{sex-tells, tells-sex}
 use Rattle.runs.specs.Run.{saidOf, recordOf, recordIn, houseIn, formIn, valuesIn}
-use Rattle.runs.specs.Inner.Units.{nameLength}
+use Rattle.runs.specs.Inner.Units.{ownLength, nameAt, nameLength}
 
 -- the values of a sound record say that record
 pub record-back : (house : ℕ) (r : Record) → Sound r → recordOf (r .form) (values row house r) ≡ r
@@ -42,7 +42,7 @@ record-back house r s =
     same-holding (r .form) (saidOf (values row house r)) (held r)
     (each-plain (λ x n. saidOf (values row house r) x ≡ held r x) (tell code) (tell state) (tell nationality) (tell birth) one
     (tell expiry))
-    whole (tell name)
+    whole (tell name) (tell own)
     ∙ s .again
 
 -- and the values that bits say are those of the record that they say, where it is sound
@@ -70,11 +70,19 @@ module _ (f : Form) (s : List ℕ) (told : formIn s ≡ As f) (o : Sound (record
       ∙ padded-exact numberRoom c (length-map v characterOf ∙ length-numbers s (start number) numberRoom 6) in
       ap (map codeOf) here ∙ characters-tell v (ap (every isCharacter) (sym here) ∙ o .number-characters)
 
-  -- the name, as long as its length says
-  name-back : map codeOf (held (recordIn f s) name) ≡ numbersAt s (start name + 6) (nameLength s) 6
+  -- data and name, as long as their lengths say
+  own-back : map codeOf (held (recordIn f s) own) ≡ numbersAt s (start own + 5) (ownLength s) 6
+  unfolding recordIn recordOf holding saidOf heldRows
+  own-back =
+      let v = numbersAt s (start own + 5) (ownLength s) 6 in
+      let c = map characterOf v in
+      let here = take-padded ownRoom c ∙ take-all ownRoom c (omega (arith, o .own-most)) in
+      ap (map codeOf) here ∙ characters-tell v (ap (every isCharacter) (sym here) ∙ held-pure (recordIn f s) o own)
+
+  name-back : map codeOf (held (recordIn f s) name) ≡ numbersAt s (nameAt (ownLength s) + 6) (nameLength s) 6
   unfolding recordIn recordOf holding saidOf heldRows
   name-back =
-      let v = numbersAt s (start name + 6) (nameLength s) 6 in
+      let v = numbersAt s (nameAt (ownLength s) + 6) (nameLength s) 6 in
       let c = map characterOf v in
       let here = take-padded nameRoom c ∙ take-all nameRoom c (omega (arith, o .name-most)) in
       ap (map codeOf) here ∙ characters-tell v (ap (every isCharacter) (sym here) ∙ held-pure (recordIn f s) o name)
@@ -93,5 +101,6 @@ module _ (f : Form) (s : List ℕ) (told : formIn s ≡ As f) (o : Sound (record
         plain-back code refl refl,
         plain-back nationality refl refl,
         sex-back,
+        own-back,
         name-back,
       )

@@ -2,7 +2,7 @@
 ghost use mathlib.Core.Path.{_≡_};
 ghost use lib.ListN.{take, drop};
 ghost use Rattle.zone.specs.Record.{padded};
-ghost use Rattle.zone.specs.Rooms.{numberRoom, nameRoom};
+ghost use Rattle.zone.specs.Rooms.{numberRoom, nameRoom, ownRoom};
 ghost use Rattle.entry.specs.Codes.{sexBy};
 use zone::alphabet::FILLER;
 use zone::form::Form;
@@ -19,7 +19,7 @@ pub(crate) fn sex_by(code: u32) -> u8
     }
 }
 
-// The number and the name of a record, from its characters in their units.
+// The number, the name and the issuer's own data of a record, from its characters in their units.
 pub(crate) fn number_at(units: &[u8], at: usize) -> [u8; Form::NUMBER]
     ensures { λ r. ⌜ r ≡ padded numberRoom (take numberRoom (drop at (now (units .entry)))) ⌝ }
 {
@@ -33,5 +33,13 @@ pub(crate) fn name_at(units: &[u8], at: usize) -> [u8; Form::NAME]
 {
     let mut room = [FILLER; Form::NAME];
     lent::copy(&mut room, lent::part(units, at, Form::NAME));
+    room
+}
+
+pub(crate) fn own_at(units: &[u8], at: usize, n: usize) -> [u8; Form::OWN]
+    ensures { λ r. ⌜ r ≡ padded ownRoom (take n (drop at (now (units .entry)))) ⌝ }
+{
+    let mut room = [FILLER; Form::OWN];
+    lent::copy(&mut room, lent::part(units, at, n));
     room
 }

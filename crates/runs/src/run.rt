@@ -9,6 +9,7 @@ ghost use Rattle.runs.specs.Inner.Units as U;
 ghost use Rattle.runs.specs.Run as R;
 use crate::record::is_whole;
 use crate::record::name_length;
+use crate::record::own_length;
 use crate::record::record_in;
 use crate::record::size;
 use entry::places;
@@ -46,15 +47,15 @@ fn no_entry(at: usize) -> Standing
 }
 
 // What has a house and is whole is an entry where the record is sound.
-fn sound_entry(form: Form, s: &[u8], at: usize, house: u32, n: usize) -> Standing
-    requires { ⌜ (n < 64) × (n ≡ U.nameLength (now s)) × (at + length (now s) < 2 ^ 63) ⌝ }
+fn sound_entry(form: Form, s: &[u8], at: usize, house: u32, m: usize, n: usize) -> Standing
+    requires { ⌜ U.Told (now s) m n × (at + length (now s) < 2 ^ 63) ⌝ }
     requires { ⌜ (house ≡ R.houseIn (now s)) × (E.isHouse house && R.isWhole (now s) ≡ true) ⌝ }
     ensures { λ r. ⌜ R.standingOf r ≡ R.entryBy (As form) (now (s .entry)) at ⌝ }
 {
-    let kept = record_in(form, s, n);
+    let kept = record_in(form, s, m, n);
     if sound::is_sound(kept) {
         Standing {
-            step: Step::Next(at + size(n)),
+            step: Step::Next(at + size(m + n)),
             house,
             kept,
         }
@@ -69,9 +70,10 @@ fn entry_as(form: Form, s: &[u8], at: usize) -> Standing
     ensures { λ r. ⌜ R.standingOf r ≡ R.entryBy (As form) (now (s .entry)) at ⌝ }
 {
     let house = bits(s, places::HOUSE, places::HOUSE_BITS);
-    let n = name_length(s);
-    if is_house(house) & is_whole(s, n) {
-        sound_entry(form, s, at, house, n)
+    let m = own_length(s);
+    let n = name_length(s, m);
+    if is_house(house) & is_whole(s, m, n) {
+        sound_entry(form, s, at, house, m, n)
     } else {
         no_entry(at)
     }

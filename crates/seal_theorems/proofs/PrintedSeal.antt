@@ -10,7 +10,7 @@ use Rattle.zone.specs.declared.form.Source.the-variants.{Seal}
 use Rattle.zone.specs.Alphabet.{isDigit, isLetter, isFiller, isCharacter, isForeign, every, first, firstForeign}
 use Rattle.zone.specs.Form.{row, forms, partOf, parts, start, startIn, width, widthIn}
 use Rattle.zone.specs.Form.{firstForm, isVisa, isAlone, isVisaCode, mayStand, isOf}
-use Rattle.zone.specs.Form.{formOf, field, pieceOf, pieces, cut, joinedCuts, covered}
+use Rattle.zone.specs.Form.{formOf, field, beforeOwn, pieceOf, pieces, cut, joinedCuts, covered}
 use Rattle.zone.specs.Record.{trimmed, trimmedLength, padded, holding}
 use Rattle.digit.specs.Check.{value, weight, sumFrom, checkOf, digitOf}
 use Rattle.field.specs.Date.{pairOf, yearOf, monthOf, dayOf, isLeap, isShort, daysIn, yearRule, monthRule, dayRule, birthRule}
@@ -20,7 +20,7 @@ use Rattle.field.specs.Letters.{lettersThenFillers, stateRule, sexRule, nameRul
 use Rattle.text_digits.specs.Number.{isLong, spanOf, spanRule, numberRule, numberBy, checkedBy}
 use Rattle.text_digits.specs.Digits.{digitAt, numberDigit, furtherDigit, isLeftOut, personalDigit, digitRows, inOrder}
 use Rattle.text.specs.Order.{characters, fieldRows, verdictBy}
-use Rattle.text.specs.Read.{Answer, recordBy, inText, answered, readBy, readText}
+use Rattle.text.specs.Read.{Answer, recordBy, ownIn, inText, answered, readBy, readText}
 use Rattle.tlv.specs.Element.{tagOctets, lengthOctets, tlv}
 use Rattle.c40.specs.Values.{valueOf}
 use Rattle.c40.specs.Image.{packed, pair, imageOf}
@@ -40,7 +40,7 @@ unfolding printedText printedRecord octets readText readBy answered mayStand isV
     numberRule spanRule sexRule nameRule isNameCharacter every birthRule expiryRule isKnown pairOf yearOf monthOf dayOf isLeap
     isShort daysIn yearRule monthRule dayRule spanOf isLong digitRows numberDigit furtherDigit personalDigit isLeftOut digitAt
     digitOf checkedBy checkOf sumFrom value weight covered pieceOf pieces cut joinedCuts recordBy holding inText numberBy
-    trimmed trimmedLength padded
+    trimmed trimmedLength padded ownIn beforeOwn
 printed-text = refl
 
 printed-wide : length (octets printedText) ≡ 72

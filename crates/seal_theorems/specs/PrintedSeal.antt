@@ -4,13 +4,13 @@
 use Prim.Native.Nat.{ℕ}
 use Prim.Native.Char.{code}
 use Prim.Native.String.{String}
-use mathlib.Core.List.{List, _∷_}
+use mathlib.Core.List.{List, [], _∷_}
 use Rattle.lent.specs.Octets.{octets}
 use Rattle.refusal.specs.Outcome.{passed}
 use Rattle.zone.specs.declared.form.Form.the-variants.{Td2}
 use Rattle.zone.specs.declared.record.Record.{Record}
 use Rattle.zone.specs.Record.{padded}
-use Rattle.zone.specs.Rooms.{numberRoom, nameRoom}
+use Rattle.zone.specs.Rooms.{numberRoom, nameRoom, ownRoom}
 use Rattle.seal_header.specs.declared.header.Header.{Header}
 use Rattle.seal.specs.Seal.{SealAnswer}
 
@@ -60,6 +60,8 @@ printedRecord = record {
   expiry = octets "120415";
   name = padded nameRoom (octets "ERIKSSON<<ANNA<MARIA");
   «name_len» = 20;
+  own = padded ownRoom [];
+  «own_len» = 0;
 }
 
 -- the signature is the 64 octets behind 70

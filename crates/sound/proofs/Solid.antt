@@ -7,11 +7,11 @@ use mathlib.Core.List.{List, [], _∷_, _++_}
 use native.Mathlib.Omega.{arith}
 use lib.Dec.{eqb, eqb·suc-zero}
 use lib.ListN.{length, take}
-use Rattle.zone.specs.Alphabet.{isFiller, first, firstFiller, every}
+use Rattle.zone.specs.Alphabet.{filler, isFiller, first, firstFiller, every}
 use Rattle.sound.specs.Sound.{isSolid}
 use Rattle.lent.proofs.Bools.{and-both}
 use Rattle.zone.specs.Record.{trimmedLength, padded}
-use Rattle.zone.proofs.Padded.{padded-cons, padded-nil}
+use Rattle.zone.proofs.Padded.{padded-cons}
 
 pub solid : (c : ℕ) → isSolid c ≡ true → isFiller c ≡ false
 unfolding isSolid
@@ -52,10 +52,12 @@ solid-before (suc n) (c ∷ s) h = go (isFiller c) refl h (solid-before n s)
     go true e k rest = absurd (omega arith)
     go false e k rest = rw (e, rest (omega arith))
 
-pub first-padded : (n : ℕ) (s : List ℕ) → every isSolid s ≡ true → length s < n → firstFiller (padded n s) ≡ length s
+-- the first filler stands behind characters that are none
+pub first-behind : (n : ℕ) (s u : List ℕ) → every isSolid s ≡ true → length s < n
+    → firstFiller (padded n (s ++ (filler ∷ u))) ≡ length s
 unfolding every firstFiller first isFiller
-first-padded zero s e h = absurd (omega arith)
-first-padded (suc n) [] e h = rw (padded-nil (suc n))
-first-padded (suc n) (c ∷ s) e h =
+first-behind zero s u e h = absurd (omega arith)
+first-behind (suc n) [] u e h = rw (padded-cons n filler u)
+first-behind (suc n) (c ∷ s) u e h =
     let both = and-both (isSolid c) (every isSolid s) e in
-    rw (padded-cons n c s, solid c (both .0), first-padded n s (both .1) (omega arith))
+    rw (padded-cons n c (s ++ (filler ∷ u)), solid c (both .0), first-behind n s u (both .1) (omega arith))

@@ -1,7 +1,7 @@
 // The rules of the text, asked of a record's fields.
 ghost use mathlib.Core.Path.{_≡_};
 ghost use Rattle.zone.specs.Alphabet.{every};
-ghost use Rattle.sound.specs.Sound.{keepsRules, isHeld, isSolid, isNumber, isNumbered, isNamed};
+ghost use Rattle.sound.specs.Sound.{keepsRules, isHeld, isSolid, isNumber, isNumbered, isNamed, isOwned};
 use field::code::is_code;
 use field::date::is_birth;
 use field::date::is_expiry;
@@ -10,15 +10,16 @@ use field::letters::is_sex;
 use field::letters::is_state;
 use zone::alphabet::FILLER;
 use zone::alphabet::all_characters;
+use zone::alphabet::all_fillers;
 use zone::form::Form;
 use zone::record::Record;
 use zone::record::trimmed_length;
 
-// n characters, not none and at most so many, and fillers past them.
-fn is_held(most: usize, s: &[u8], n: usize) -> bool
-    ensures { λ r. ⌜ r ≡ isHeld most (now (s .entry)) n ⌝ }
+// n characters, from so many to so many, and fillers past them.
+fn is_held(least: usize, most: usize, s: &[u8], n: usize) -> bool
+    ensures { λ r. ⌜ r ≡ isHeld least most (now (s .entry)) n ⌝ }
 {
-    (1 <= n) & ((n <= most) & (trimmed_length(s) == n))
+    (least <= n) & ((n <= most) & (trimmed_length(s) == n))
 }
 
 // No filler among them.
@@ -47,7 +48,7 @@ pub fn is_numbered(r: Record) -> bool
     let form = r.form;
     let number = r.number;
     let n = r.number_len;
-    is_held(form.longest_number(), &number, n) & is_number(&number, n)
+    is_held(1, form.longest_number(), &number, n) & is_number(&number, n)
 }
 
 pub fn is_named(r: Record) -> bool
@@ -55,7 +56,20 @@ pub fn is_named(r: Record) -> bool
 {
     let form = r.form;
     let name = r.name;
-    is_held(form.name_width(), &name, r.name_len) & is_name(&name)
+    is_held(1, form.name_width(), &name, r.name_len) & is_name(&name)
+}
+
+// What the form and the number leave room for. Most records have none, for which one look at every place is enough.
+pub fn is_owned(r: Record) -> bool
+    ensures { λ b. ⌜ b ≡ isOwned r ⌝ }
+{
+    let form = r.form;
+    let own = r.own;
+    if r.own_len == 0 {
+        all_fillers(&own)
+    } else {
+        is_held(0, form.own_place(r.number_len), &own, r.own_len) & all_characters(&own)
+    }
 }
 
 // Code, state, nationality, birth, sex and expiry.

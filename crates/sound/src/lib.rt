@@ -9,5 +9,5 @@ mod fields;
 pub fn is_sound(r: Record) -> bool
     ensures { λ b. ⌜ b ≡ isSound r ⌝ }
 {
-    fields::keeps_rules(r) & (fields::is_numbered(r) & fields::is_named(r))
+    fields::keeps_rules(r) & (fields::is_numbered(r) & (fields::is_named(r) & fields::is_owned(r)))
 }

@@ -1,11 +1,12 @@
 -- What reading a text answers, for every list of octets: document 01, "The text" and "Refusal numbers".
 use Prim.Native.Nat.{ℕ}
 use mathlib.Core.List.{List, [], _∷_}
+use lib.ListN.{length, drop}
 use Rattle.refusal.specs.Numbers.{by}
 use Rattle.refusal.specs.Outcome.{Outcome, passed, refused, outcomeOf}
-use Rattle.zone.specs.Part.{Part, number, name}
+use Rattle.zone.specs.Part.{Part, number, name, own}
 use Rattle.zone.specs.Rows.{_is_, inRows}
-use Rattle.zone.specs.Form.{formOf, field}
+use Rattle.zone.specs.Form.{formOf, field, ownPart, beforeOwn}
 use Rattle.zone.specs.Record.{blank, trimmed, holding}
 use Rattle.zone.specs.declared.form.Form.{Form}
 use Rattle.zone.specs.declared.form.Source.{Source}
@@ -26,9 +27,18 @@ pub record Answer : Type 0 where
 unfoldable pub answerOf : Reading → Answer
 answerOf r = record { outcome = outcomeOf (r .verdict); kept = r .kept }
 
--- what stands in a text for a field: number and name without trailing fillers
+-- the field of the issuer's own data, behind what a number of n characters takes of it (document 02, request 2026-06)
+unfoldable pub ownIn : Form → List ℕ → (n : ℕ) → List ℕ
+ownIn f t n = drop (beforeOwn f n) (field f (ownPart f) t)
+
+-- what stands in a text for a field: number, name and the issuer's own data without trailing fillers
 unfoldable pub inText : Form → List ℕ → Span → Part → List ℕ
-inText f t span x = inRows (field f x t) (number is numberBy f t span ∷ name is trimmed (field f name t) ∷ []) x
+inText f t span x =
+    inRows (field f x t)
+    (number is numberBy f t span
+    ∷ name is trimmed (field f name t)
+    ∷ own is trimmed (ownIn f t (length (numberBy f t span)))
+    ∷ []) x
 
 -- the record of a text holds the fields that stand in it
 unfoldable pub recordBy : Form → List ℕ → Span → Record

@@ -5,10 +5,10 @@ ghost use lib.ListN.{length};
 ghost use Rattle.zone.specs.Form.{field};
 ghost use Rattle.zone.specs.Part.{name};
 ghost use Rattle.zone.specs.Record.{padded, trimmed};
-ghost use Rattle.zone.specs.Rooms.{numberRoom, nameRoom};
+ghost use Rattle.zone.specs.Rooms.{numberRoom, nameRoom, ownRoom};
 ghost use Rattle.text_digits.specs.Number.{numberBy};
 ghost use Rattle.text_digits.specs.Inner.Spans.{furtherIn};
-ghost use Rattle.text.specs.Read.{recordBy};
+ghost use Rattle.text.specs.Read.{ownIn, recordBy};
 use text_digits::number::Span;
 use zone::alphabet::FILLER;
 use zone::form::Form;
@@ -74,6 +74,17 @@ fn number_length(form: Form, text: &[u8], span: Span) -> usize
     }
 }
 
+// The issuer's own data, behind what a number of n characters takes of their field.
+fn own_chars(form: Form, text: &[u8], n: usize) -> [u8; Form::OWN]
+    ensures { λ r. ⌜ r ≡ padded ownRoom (trimmed (ownIn form (now (text .entry)) n)) ⌝ }
+{
+    let at = form.places();
+    let field = lent::part(text, at.own, at.own_width);
+    let mut room = [FILLER; Form::OWN];
+    lent::copy(&mut room, lent::part(field, form.before_own(n), Form::OWN));
+    room
+}
+
 pub fn record_by(form: Form, text: &[u8], span: Span) -> Record
     ensures { λ r. ⌜ r ≡ recordBy form (now (text .entry)) span ⌝ }
 {
@@ -88,6 +99,8 @@ pub fn record_by(form: Form, text: &[u8], span: Span) -> Record
     let expiry = date_at(text, at.expiry);
     let name = name_chars(form, text);
     let name_len = trimmed_length(&name);
+    let own = own_chars(form, text, number_len);
+    let own_len = trimmed_length(&own);
     Record {
         form,
         code,
@@ -100,5 +113,7 @@ pub fn record_by(form: Form, text: &[u8], span: Span) -> Record
         expiry,
         name,
         name_len,
+        own,
+        own_len,
     }
 }

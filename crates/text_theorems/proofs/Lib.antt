@@ -22,5 +22,7 @@ pub mod RecordOfText
 pub mod Visas
 -- what the text of a record holds, part by part
 pub mod TextOfRecord
+-- the issuer's own data in the text of a record
+pub mod OwnData
 -- DEMAND 2: every sound record is written as a text that reads back as that record (`text-read-back`)
 pub mod RoundTrip

@@ -3,7 +3,7 @@
 use Prim.Native.Nat.{ℕ, suc, _+_, _-_, _≤_, _<_}
 use mathlib.Core.Path.{_≡_, refl, ap, sym, _∙_}
 use mathlib.Core.Bool.{Bool, true, false, cond, _&&_, false≢true}
-use mathlib.Core.List.{List, [], _∷_, _++_}
+use mathlib.Core.List.{List, [], _∷_, _++_, append-assoc}
 use native.Mathlib.Omega.{arith}
 use borrow.Author.Tests.{lt-ltb, ltb-false}
 use lib.Dec.{ltb}
@@ -17,19 +17,19 @@ use Rattle.zone.specs.declared.form.Source.the-variants.{Alone}
 use Rattle.zone.specs.declared.record.Record.{Record}
 use Rattle.zone.specs.Alphabet.{isCharacter, isFiller, isLetter, firstFiller, every, filler}
 use Rattle.zone.specs.Part.{number, numberCheck, optional, birth, birthCheck, expiry, expiryCheck}
-use Rattle.zone.specs.Part.{name, personal, personalCheck}
+use Rattle.zone.specs.Part.{name, personal, personalCheck, own}
 use Rattle.zone.specs.Form.{mayStand, start, width, has, total, longest, field}
 use Rattle.zone.specs.Record.{trimmed, padded, plain, heldRows, held}
 use Rattle.zone.proofs.Widths.{fixed, name-room, ones, has-one}
-use Rattle.zone.proofs.Padded.{padded-nil, padded-behind}
+use Rattle.zone.proofs.Padded.{padded-cons, padded-append}
 use Rattle.zone.proofs.Holding.{same-holding}
 use Rattle.digit.specs.Check.{digitOf}
 use Rattle.field.specs.Letters.{nameRule, isNameCharacter}
 use Rattle.field.specs.Rules.{rule}
 use Rattle.text_digits.specs.Number.{isLong, spanOf, numberBy}
-use Rattle.text.specs.Read.{Answer, readText, answered, inText, recordBy}
+use Rattle.text.specs.Read.{Answer, readText, answered, ownIn, inText, recordBy}
 use Rattle.sound.specs.Sound.{isSolid, isSound}
-use Rattle.writing.specs.Text.{numberIn, furtherIn, isWide, atCheck, inOptional, givenRows, textOf}
+use Rattle.writing.specs.Text.{numberIn, furtherIn, isWide, atCheck, inOptional, ownAt, givenRows, textOf}
 use Rattle.text_theorems.specs.Accepted.{Keeps, fillerAt}
 use Rattle.text_theorems.proofs.NumberSpan.{short-span, long-span}
 use Rattle.text_theorems.proofs.Acceptance.{passes, read-as, kept-told}
@@ -38,11 +38,12 @@ use Rattle.zone.proofs.Every.{every-append, every-take, each-every}
 use Rattle.sound.proofs.SoundRecord.{Sound, taken-apart}
 use Rattle.zone.proofs.Fields.{in-field}
 use Rattle.zone.proofs.Trimmed.{trimmed-cut}
-use Rattle.sound.proofs.Solid.{solid, first-padded}
-use Rattle.digit.proofs.Written.{fillers-digit, digit-solid}
-use Rattle.writing.proofs.Further.{is-wide, further-all, further-fits}
+use Rattle.sound.proofs.Solid.{solid, first-behind}
+use Rattle.digit.proofs.Written.{digit-solid}
+use Rattle.writing.proofs.Further.{is-wide, number-length, further-all, further-fits}
 use Rattle.text_theorems.proofs.TextOfRecord.{length-text, shown, last-shown, one-shown, front-shown, text-pure}
 use Rattle.text_theorems.proofs.TextOfRecord.{plain-shown}
+use Rattle.text_theorems.proofs.OwnData.{own-back, personal-shown}
 use Rattle.text_theorems.proofs.RecordOfText.{in-text}
 
 and-false : (b : Bool) → b && false ≡ false
@@ -94,22 +95,35 @@ module _ (r : Record) (s : Sound r) where
     one-more : length (furtherIn r ++ (digitOf (numberIn r) ∷ [])) ≡ length (furtherIn r) + 1
     one-more = length-append (furtherIn r) (digitOf (numberIn r) ∷ [])
 
-    optional-padded : field f optional t ≡ padded (width f optional) (furtherIn r ++ (digitOf (numberIn r) ∷ []))
+    -- the digit, and a filler and what may stand behind it
+    abbrev last : List ℕ
+    last = digitOf (numberIn r) ∷ (filler ∷ ownAt r optional)
+
+    optional-padded : field f optional t ≡ padded (width f optional) (furtherIn r ++ last)
     unfolding givenRows inOptional
-    optional-padded = shown r optional refl ∙ rw wide
+    optional-padded =
+        shown r optional refl ∙ rw wide (ap (padded (width f optional))
+        (append-assoc (furtherIn r) (digitOf (numberIn r) ∷ (filler ∷ [])) (ownAt r optional)))
 
     filler-shown : fillerAt f t ≡ length (furtherIn r) + 1
     filler-shown =
-        ap firstFiller optional-padded
-        ∙ first-padded (width f optional) (furtherIn r ++ (digitOf (numberIn r) ∷ [])) solids
-        (rw one-more (further-fits r s wide .1))
+        let a = furtherIn r ++ (digitOf (numberIn r) ∷ []) in
+        let parts : furtherIn r ++ last ≡ a ++ (filler ∷ ownAt r optional) =
+        sym (append-assoc (furtherIn r) (digitOf (numberIn r) ∷ []) (filler ∷ ownAt r optional)) in
+        ap firstFiller (optional-padded ∙ ap (padded (width f optional)) parts)
+        ∙ first-behind (width f optional) a (ownAt r optional) solids (rw one-more (further-fits r s wide .1))
         ∙ one-more
 
-    optional-shown : field f optional t
-        ≡ furtherIn r ++ (digitOf (numberIn r) ∷ replicate (width f optional - suc (length (furtherIn r))) filler)
+    abbrev after : List ℕ
+    after = padded (width f optional - suc (length (furtherIn r))) (filler ∷ ownAt r optional)
+
+    optional-shown : field f optional t ≡ furtherIn r ++ (digitOf (numberIn r) ∷ after)
     optional-shown =
-        optional-padded ∙ padded-behind (width f optional) (furtherIn r) (digitOf (numberIn r))
-        (omega (arith, further-fits r s wide .1))
+        let w = width f optional in
+        let fits = further-fits r s wide .1 in
+        let e : w - length (furtherIn r) ≡ suc (w - suc (length (furtherIn r))) = omega arith in
+        optional-padded ∙ padded-append w (furtherIn r) last
+        ∙ rw (take-all w (furtherIn r) (omega arith), e, padded-cons (w - suc (length (furtherIn r))) (digitOf (numberIn r)) _)
 
     before-filler : fillerAt f t - 1 ≡ length (furtherIn r)
     before-filler = omega (arith, filler-shown)
@@ -117,13 +131,19 @@ module _ (r : Record) (s : Sound r) where
     number-shown : field f number t ++ take (fillerAt f t - 1) (field f optional t) ≡ numberIn r
     unfolding numberIn
     number-shown =
-        rw (nine-shown, before-filler, optional-shown, take-append-seam (furtherIn r) (digitOf (numberIn r) ∷ _), further-all r s)
+        rw (
+          nine-shown,
+          before-filler,
+          optional-shown,
+          take-append-seam (furtherIn r) (digitOf (numberIn r) ∷ after),
+          further-all r s,
+        )
         (rw (take-take 9 (r .«number_len») (r .number) (omega (arith, is-wide r s wide))) at (take-append-drop 9 (numberIn r)))
 
     digit-shown : getD t (start f optional + (fillerAt f t - 1)) 0 ≡ digitOf (numberIn r)
     digit-shown =
         rw (before-filler, in-field f optional t (length (furtherIn r)) (omega (arith, further-fits r s wide .1)), optional-shown)
-        (getD-append-seam (furtherIn r) (digitOf (numberIn r)) _ 0)
+        (getD-append-seam (furtherIn r) (digitOf (numberIn r)) after 0)
 
   ends : isWide r ≡ true → (2 ≤ fillerAt f t) × (fillerAt f t < width f optional)
   ends wide =
@@ -160,10 +180,10 @@ module _ (r : Record) (s : Sound r) where
       ∙ ap digitOf (take-all 6 (r .expiry) (omega (arith, s .places expiry refl)) ∙ sym (plain-shown r s expiry refl))
 
   personal-right : has f personalCheck ≡ true → getD t (start f personalCheck) 0 ≡ digitOf (field f personal t)
-  unfolding givenRows heldRows
+  unfolding givenRows
   personal-right h =
-      one-shown r personalCheck 0x30 refl (has-one f personalCheck (ones f .personal-check-most) h) refl
-      ∙ sym (ap digitOf (shown r personal refl ∙ padded-nil (width f personal)) ∙ fillers-digit (width f personal))
+      one-shown r personalCheck (digitOf (held r own)) refl (has-one f personalCheck (ones f .personal-check-most) h) refl
+      ∙ personal-shown r s h
 
   pub text-keeps : Keeps f t
   text-keeps = record {
@@ -200,11 +220,14 @@ module _ (r : Record) (s : Sound r) where
       ap trimmed name-shown ∙ trimmed-cut (width f name) (r .name) (omega (arith, s .name-ends, s .name-fits))
       ∙ ap (λ n. take n (r .name)) (s .name-ends)
 
+  own-read : trimmed (ownIn f t (length (numberBy f t (spanOf f t)))) ≡ held r own
+  own-read = rw (number-read, number-length r s) (own-back r s)
+
   record-read : recordBy f t (spanOf f t) ≡ r
   unfolding recordBy inText heldRows numberIn
   record-read =
       same-holding f (inText f t (spanOf f t)) (held r) (λ x p. in-text f t (spanOf f t) x p ∙ plain-shown r s x p)
-      number-read name-read
+      number-read name-read own-read
       ∙ s .again
 
   read-written : (source : Source) → mayStand source f ≡ true → readText source t ≡ record { outcome = passed; kept = r }

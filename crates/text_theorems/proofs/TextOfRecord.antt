@@ -5,9 +5,10 @@ use mathlib.Core.Bool.{Bool, true, false, cond}
 use mathlib.Core.List.{List, [], _∷_, _++_}
 use lib.ListN.{length, take, drop, getD}
 use Rattle.zone.specs.declared.record.Record.{Record}
-use Rattle.zone.specs.Part.{Part, code, state, nationality, birth, sex, expiry, composite, same}
+use Rattle.zone.specs.Part.{Part, code, state, nationality, birth, sex, expiry, optional, optional2, composite, personal, own}
+use Rattle.zone.specs.Part.{same}
 use Rattle.zone.specs.Alphabet.{isDigit, isLetter, isFiller, isCharacter, every, filler}
-use Rattle.zone.specs.Form.{layout, start, width, has, total, field, covered}
+use Rattle.zone.specs.Form.{layout, start, width, has, total, field, covered, ownPart}
 use Rattle.zone.specs.Record.{padded, isPlain, held}
 use Rattle.zone.proofs.Fields.{one-there}
 use Rattle.zone.proofs.Padded.{padded-exact, padded-full}
@@ -19,7 +20,8 @@ use Rattle.zone.proofs.Every.{every-append, every-take, every-drop}
 use Rattle.digit.specs.Check.{digitOf}
 use Rattle.digit.proofs.Written.{digit-character}
 use Rattle.sound.proofs.SoundRecord.{Sound, held-pure}
-use Rattle.writing.specs.Text.{numberIn, furtherIn, isWide, atCheck, inOptional, givenRows, given, lastDigit, givenAll, textOf}
+use Rattle.writing.specs.Text.{numberIn, furtherIn, isWide, atCheck, inOptional, ownAt, givenRows, given, lastDigit, givenAll}
+use Rattle.writing.specs.Text.{textOf}
 use Rattle.writing.specs.Inner.Puts.{put}
 use Rattle.writing.proofs.CompositePlace.{covered-clear}
 use Rattle.writing.proofs.Further.{further-all}
@@ -79,15 +81,23 @@ module _ (r : Record) (s : Sound r) where
       go false = digit-character (take 9 (r .number))
 
   optional-pure : every isCharacter (inOptional r) ≡ true
-  unfolding inOptional numberIn every
+  unfolding inOptional numberIn every isCharacter isDigit isLetter isFiller
   optional-pure = go (isWide r)
     where
-      go : (b : Bool) → every isCharacter (cond b (furtherIn r ++ (digitOf (numberIn r) ∷ [])) []) ≡ true
+      go : (b : Bool) → every isCharacter (cond b (furtherIn r ++ (digitOf (numberIn r) ∷ filler ∷ [])) []) ≡ true
       go true =
-          every-append isCharacter (furtherIn r) (digitOf (numberIn r) ∷ [])
+          every-append isCharacter (furtherIn r) (digitOf (numberIn r) ∷ filler ∷ [])
           (rw (further-all r s) (every-drop isCharacter 9 (numberIn r)
           (every-take isCharacter (r .«number_len») (r .number) (s .number-characters))))
-          (digit-pure (numberIn r))
+          (rw (digit-character (numberIn r)))
+      go false = refl
+
+  own-pure : (x : Part) → every isCharacter (ownAt r x) ≡ true
+  unfolding ownAt every
+  own-pure x = go (same (ownPart (r .form)) x)
+    where
+      go : (b : Bool) → every isCharacter (cond b (held r own) []) ≡ true
+      go true = held-pure r s own
       go false = refl
 
   pub text-pure : every isCharacter (textOf r) ≡ true
@@ -100,10 +110,13 @@ module _ (r : Record) (s : Sound r) where
           and s .number-characters
           and s .name-characters
           and one-pure (atCheck r) check-pure
-          and optional-pure
-          and digit-pure _
-          and digit-pure _
+          and every-append isCharacter (inOptional r) (ownAt r optional) optional-pure (own-pure optional)
+          and own-pure optional2
+          and own-pure personal
           and refl
+          and digit-pure _
+          and digit-pure _
+          and digit-pure _
           and all-said)
 
   -- a field of one width stands in its place

@@ -104,6 +104,7 @@ fn caret(start: usize, width: usize, place: usize) {
 fn record(kept: Record) {
     document(kept);
     holder(kept);
+    own_data(kept);
 }
 
 // Each field goes into a variable of its own, from which it can be lent.
@@ -130,6 +131,16 @@ fn holder(kept: Record) {
     field(b"  sex          ", &sex);
     field(b"  expiry       ", &expiry);
     field(b"  name         ", part(&name, 0, kept.name_len));
+}
+
+// The issuer's own.
+fn own_data(kept: Record) {
+    let own = kept.own;
+    if kept.own_len == 0 {
+        field(b"  data         ", b"none");
+    } else {
+        field(b"  data         ", part(&own, 0, kept.own_len));
+    }
 }
 
 fn field(label: &[u8], characters: &[u8]) {

@@ -1,4 +1,4 @@
--- Nothing put in the place of a part, and one character more.
+-- Nothing put in the place of a part, one character more, and one copy behind another.
 use Prim.Native.Nat.{ℕ, suc, _+_, _-_, _≤_, _<_}
 use mathlib.Core.Path.{_≡_, ap, sym, _∙_}
 use mathlib.Core.Bool.{Bool, true, false}
@@ -20,7 +20,7 @@ use Rattle.zone.proofs.Padded.{padded-spare, padded-cut, fillers-left}
 use Rattle.zone.specs.Alphabet.{every, filler}
 use Rattle.writing.specs.Inner.Puts.{put}
 use Rattle.zone.proofs.Parts.{apart}
-use Rattle.lent.proofs.Copies.{copied-there, before-copied, behind-copied, at-copied, set-behind}
+use Rattle.lent.proofs.Copies.{copied-there, set-behind, copied-both}
 use Rattle.zone.proofs.Every.{every-append, every-take, every-drop}
 use Rattle.writing.proofs.OneMarked.{put-fits}
 
@@ -40,3 +40,13 @@ module _ (r : Record) where
       let m : length (s ++ (c ∷ [])) ≡ suc (length s) = length-append s (c ∷ []) ∙ add-one (length s) in
       rw (take-all w s (omega arith), take-all w (s ++ (c ∷ [])) (rw m (omega arith)))
       (set-behind t (start (r .form) x) s c (rw e (omega (arith, within (r .form) x))))
+
+  -- one copy behind another is one copy
+  pub put-behind : (x : Part) (s u t : List ℕ) → length t ≡ total (r .form) → length s + length u ≤ width (r .form) x
+      → copiedAt (put r x s t) (start (r .form) x + length s) u ≡ put r x (s ++ u) t
+  unfolding put
+  put-behind x s u t e h =
+      let w = width (r .form) x in
+      let m : length (s ++ u) ≤ w = rw length-append h in
+      rw (take-all w s (omega arith), take-all w (s ++ u) m)
+      (copied-both t (start (r .form) x) s u (rw e (omega (arith, within (r .form) x))))

@@ -11,7 +11,6 @@ use Rattle.writing.specs.Text.{textOf}
 use Rattle.writing.specs.Inner.Puts.{putAll}
 use Rattle.sound.specs.Sound.{isSound}
 use Rattle.sound.proofs.SoundRecord.{taken-apart}
-use Rattle.writing.proofs.Further.{further-fits}
 use Rattle.writing.proofs.Puts.{put-text}
 
 pub front-length : (n : ℕ) (s : List ℕ) → n ≤ length s → n ≡ length (take n s)
@@ -20,5 +19,4 @@ front-length n s h = rw length-take (omega arith)
 pub fitted : (r : Record) (n : ℕ) (out back : List ℕ) → isSound r ≡ true → n ≡ total (r .form) → n ≤ length out
     → back ≡ putAll r (take n out) → back ++ drop n out ≡ textOf r ++ drop (total (r .form)) out
 fitted r n out back sound e h b =
-    let room = further-fits r (taken-apart r sound) in
-    rw (b, put-text r (take n out) (sym (front-length n out h) ∙ e) (λ w. omega (arith, room w .1)), e)
+    rw (b, put-text r (take n out) (sym (front-length n out h) ∙ e) (taken-apart r sound), e)

@@ -1,25 +1,33 @@
 -- Parts put one after the other over fillers are the text.
-use Prim.Native.Nat.{ℕ, _<_}
+use Prim.Native.Nat.{ℕ, _+_, _<_, _≤_}
 use mathlib.Core.Path.{_≡_, refl, ap, sym, _∙_}
 use mathlib.Core.Bool.{Bool, true, false, cond, not, _&&_, _||_}
-use mathlib.Core.List.{List, [], _∷_, _++_}
-use lib.ListN.{length, take, replicate, length-replicate}
-use Rattle.lent.proofs.Bools.{and-both, not-true}
+use mathlib.Core.Logic.{_⊎_, inl, inr}
+use mathlib.Core.List.{List, [], _∷_, _++_, append-nil, append-assoc}
+use native.Mathlib.Nat.{add-zero}
+use native.Mathlib.Omega.{arith}
+use lib.ListN.{length, take, set, replicate, length-replicate, length-append}
+use lib.Seq.{take-all}
+use Rattle.lent.specs.Copied.{copiedAt}
+use Rattle.lent.proofs.Bools.{and-both, or-either, not-true}
 use Rattle.zone.specs.declared.record.Record.{Record}
 use Rattle.zone.specs.Alphabet.{filler}
 use Rattle.zone.specs.Part.{Part, code, state, number, numberCheck, optional, birth, birthCheck, sex, expiry, expiryCheck}
-use Rattle.zone.specs.Part.{nationality, composite, name, personalCheck, same, among}
+use Rattle.zone.specs.Part.{nationality, optional2, composite, name, personal, personalCheck, own, same, among}
 use Rattle.zone.specs.Rows.{PartRow, allRows}
 use Rattle.zone.specs.Record.{heldRows, held}
-use Rattle.zone.specs.Form.{layout, start, width, has, total, covered}
+use Rattle.zone.specs.Form.{layout, start, width, has, total, covered, ownPart, beforeOwn}
 use Rattle.zone.proofs.Parts.{same-one, OfRows, in-rows-or, in-rows, rows-then, rows-pass}
+use Rattle.zone.proofs.Own.{own-parts}
 use Rattle.zone.proofs.Widths.{fixed, ones}
 use Rattle.digit.specs.Check.{digitOf}
 use Rattle.writing.specs.Text.{numberIn, furtherIn, isWide, atCheck, inOptional, givenRows, given, inPlace, beforeLast}
-use Rattle.writing.specs.Text.{lastDigit, givenAll, textOf}
+use Rattle.writing.specs.Text.{ownAt, lastDigit, givenAll, textOf}
 use Rattle.writing.specs.Inner.Puts.{put, mark, putOpening, putShort, putLong, putNumber, putDates, putPerson, putLast}
-use Rattle.writing.specs.Inner.Puts.{putAll}
-use Rattle.writing.proofs.AfterPut.{put-none, put-more}
+use Rattle.writing.specs.Inner.Puts.{putOwn, putAll}
+use Rattle.sound.proofs.SoundRecord.{Sound}
+use Rattle.writing.proofs.AfterPut.{put-none, put-more, put-behind}
+use Rattle.writing.proofs.Further.{further-fits, before-length, own-place}
 use Rattle.writing.proofs.InPlace.{also, put-in-place, same-in-place, none-in-place, length-in-place}
 use Rattle.writing.proofs.OneMarked.{put-length, single, mark-put, mark-none, single-or-none}
 
@@ -31,8 +39,8 @@ module _ (r : Record) where
 
   whole : List Part
   whole =
-      personalCheck ∷ name ∷ sex ∷ nationality ∷ expiryCheck ∷ expiry ∷ birthCheck ∷ birth ∷ optional ∷ numberCheck ∷ number
-      ∷ state ∷ code ∷ []
+      personalCheck ∷ name ∷ sex ∷ nationality ∷ expiryCheck ∷ expiry ∷ birthCheck ∷ birth ∷ own ∷ personal ∷ optional2
+      ∷ optional ∷ numberCheck ∷ number ∷ state ∷ code ∷ []
 
   blanks : List ℕ
   blanks = replicate (total (r .form)) filler
@@ -68,13 +76,14 @@ module _ (r : Record) where
     person = rw (mark-put r sex (r .sex) (written (nationality ∷ []) t) (length-written (nationality ∷ []) t e)
         (single (fixed (r .form) .sex-width)))
 
-    personal-zero : mark r personalCheck 0x30 t ≡ written (personalCheck ∷ []) t
+    personal-digit : mark r personalCheck (digitOf (held r own)) t ≡ written (personalCheck ∷ []) t
     unfolding written givenRows
-    personal-zero = mark-put r personalCheck 0x30 t e (single-or-none r personalCheck (ones (r .form) .personal-check-most))
+    personal-digit =
+        mark-put r personalCheck (digitOf (held r own)) t e (single-or-none r personalCheck (ones (r .form) .personal-check-most))
 
-    -- short, or long where the further characters and their digit have room
-    number-put : (isWide r ≡ true → length (furtherIn r) < width (r .form) optional)
-        → putNumber r t ≡ written (optional ∷ numberCheck ∷ number ∷ []) t
+    -- short, or long where the further characters, their digit and a filler have room
+    number-put : (isWide r ≡ true → length (furtherIn r) + 1 < width (r .form) optional)
+        → putNumber r t ≡ put r optional (inOptional r) (written (numberCheck ∷ number ∷ []) t)
     unfolding putNumber putLong putShort written givenRows atCheck inOptional
     number-put room = go (isWide r) refl
       where
@@ -88,28 +97,101 @@ module _ (r : Record) where
 
         go : (b : Bool) → isWide r ≡ b
             → cond b (putLong r t) (putShort r t)
-            ≡ put r optional (cond b (furtherIn r ++ (digitOf (numberIn r) ∷ [])) [])
+            ≡ put r optional (cond b (furtherIn r ++ (digitOf (numberIn r) ∷ filler ∷ [])) [])
             (put r numberCheck (cond b filler (digitOf (take 9 (r .number))) ∷ []) (put r number (r .number) t))
-        go true wide = rw (marked filler)
-            (put-more r optional (furtherIn r) (digitOf (numberIn r)) _ (long-put filler) (room wide))
+        go true wide =
+            let u = put r numberCheck (filler ∷ []) (put r number (r .number) t) in
+            let at = start (r .form) optional in
+            let d = digitOf (numberIn r) in
+            let more : length (furtherIn r ++ (d ∷ [])) ≡ length (furtherIn r) + 1 = length-append (furtherIn r) (d ∷ []) in
+            let place : at + length (furtherIn r) + 1 ≡ at + length (furtherIn r ++ (d ∷ [])) = omega (arith, more) in
+            let one = put-more r optional (furtherIn r) d u (long-put filler) (omega (arith, room wide)) in
+            let two = put-more r optional (furtherIn r ++ (d ∷ [])) filler u (long-put filler) (omega (arith, more, room wide)) in
+            rw (marked filler, one, place)
+            (two ∙ ap (λ (l : List ℕ). put r optional l u) (append-assoc (furtherIn r) (d ∷ []) (filler ∷ [])))
         go false short = rw (marked (digitOf (take 9 (r .number))))
             (sym (put-none r optional _ (long-put (digitOf (take 9 (r .number))))))
 
+  -- the issuer's own data, behind what the number takes, in one of three parts
+  module _ (s : Sound r) (u : List ℕ) (e : length u ≡ total (r .form)) where
+    taken : List ℕ
+    taken = put r optional (inOptional r) u
+
+    taken-long : length taken ≡ total (r .form)
+    unfolding taken
+    taken-long = put-length r optional (inOptional r) u e
+
+    -- a part that has nothing to do with the number
+    beside : (x : Part) → ownPart (r .form) ≡ x → same x optional ≡ false → putOwn r taken ≡ put r x (held r own) taken
+    unfolding putOwn put beforeOwn
+    beside x one other =
+        let place = rw (one, other) at (own-place r s) in
+        let fits : length (held r own) ≤ width (r .form) x = omega (arith, place) in
+        rw (one, other, add-zero (start (r .form) x), take-all (width (r .form) x) (held r own) fits)
+
+    in-optional : same (ownPart (r .form)) optional ≡ true → ownPart (r .form) ≡ optional
+        → putOwn r taken ≡ put r optional (inOptional r ++ held r own) u
+    unfolding putOwn taken
+    in-optional k one =
+        let n = before-length r s k in
+        let fits : length (inOptional r) + length (held r own) ≤ width (r .form) optional = rw (n, one) at (own-place r s) in
+        rw (one, n) (put-behind r optional (inOptional r) (held r own) u e fits)
+
+    -- the parts that it does not stand in are given nothing
+    own-put : putOwn r taken ≡ written (own ∷ personal ∷ optional2 ∷ optional ∷ []) u
+    unfolding written givenRows ownAt taken
+    own-put = go (or-either _ _ (own-parts (r .form)))
+      where
+        all : List ℕ
+        all = written (own ∷ personal ∷ optional2 ∷ optional ∷ []) u
+
+        go : (same (ownPart (r .form)) optional ≡ true)
+            ⊎ (same (ownPart (r .form)) optional2 || same (ownPart (r .form)) personal ≡ true) → putOwn r taken ≡ all
+        go (inl k) =
+            let one = same-one (ownPart (r .form)) optional k in
+            let t = put r optional (inOptional r ++ held r own) u in
+            let long = put-length r optional (inOptional r ++ held r own) u e in
+            in-optional k one ∙ rw (one, put-none r optional2 t long, put-none r personal t long, put-none r own t long)
+        go (inr k) = other (or-either _ _ k)
+          where
+            other : (same (ownPart (r .form)) optional2 ≡ true) ⊎ (same (ownPart (r .form)) personal ≡ true)
+                → putOwn r taken ≡ all
+            other (inl k) =
+                let one = same-one (ownPart (r .form)) optional2 k in
+                let t = put r optional2 (held r own) taken in
+                let long = put-length r optional2 (held r own) taken taken-long in
+                beside optional2 one refl ∙ rw (one, append-nil, put-none r personal t long, put-none r own t long)
+            other (inr k) =
+                let one = same-one (ownPart (r .form)) personal k in
+                let t = put r personal (held r own) taken in
+                let long = put-length r personal (held r own) taken taken-long in
+                beside personal one refl ∙ rw (one, append-nil, put-none r optional2 taken taken-long, put-none r own t long)
+
   -- ---- the steps together
 
-  steps : (isWide r ≡ true → length (furtherIn r) < width (r .form) optional)
-      → mark r personalCheck 0x30 (putPerson r (putDates r (putNumber r (putOpening r blanks)))) ≡ written whole blanks
-  unfolding whole written
-  steps room =
+  steps : Sound r
+      → mark r personalCheck (digitOf (held r own)) (putPerson r (putDates r (putOwn r (putNumber r (putOpening r blanks)))))
+      ≡ written whole blanks
+  unfolding whole written taken
+  steps s =
       let a = written (state ∷ code ∷ []) blanks in
       let a-long = length-written (state ∷ code ∷ []) blanks length-blanks in
-      let b = written (optional ∷ numberCheck ∷ number ∷ []) a in
-      let b-long = length-written (optional ∷ numberCheck ∷ number ∷ []) a a-long in
+      let n = written (numberCheck ∷ number ∷ []) a in
+      let n-long = length-written (numberCheck ∷ number ∷ []) a a-long in
+      let b = written (own ∷ personal ∷ optional2 ∷ optional ∷ []) n in
+      let b-long = length-written (own ∷ personal ∷ optional2 ∷ optional ∷ []) n n-long in
       let c = written (expiryCheck ∷ expiry ∷ birthCheck ∷ birth ∷ []) b in
       let c-long = length-written (expiryCheck ∷ expiry ∷ birthCheck ∷ birth ∷ []) b b-long in
       let d = written (name ∷ sex ∷ nationality ∷ []) c in
       let d-long = length-written (name ∷ sex ∷ nationality ∷ []) c c-long in
-      rw (opening blanks length-blanks, number-put a a-long room, dates b b-long, person c c-long, personal-zero d d-long)
+      rw (
+        opening blanks length-blanks,
+        number-put a a-long (λ w. further-fits r s w .1),
+        own-put s n n-long,
+        dates b b-long,
+        person c c-long,
+        personal-digit d d-long,
+      )
 
   -- ---- and in their places
 
@@ -181,10 +263,10 @@ module _ (r : Record) where
   text-put = put-in-place (r .form) (given r) composite (lastDigit r ∷ []) refl
 
   pub put-text : (t : List ℕ) → length t ≡ total (r .form)
-      → (isWide r ≡ true → length (furtherIn r) < width (r .form) optional) → putAll r t ≡ textOf r
+      → Sound r → putAll r t ≡ textOf r
   unfolding putAll putLast lastDigit blanks
-  put-text t long room =
-      rw (long, steps room, before-in-place)
+  put-text t long s =
+      rw (long, steps s, before-in-place)
       (go (has (r .form) composite) refl
       ∙ (mark-put r composite (lastDigit r) (beforeLast r) length-before
       (single-or-none r composite (ones (r .form) .composite-most))

@@ -1,16 +1,16 @@
--- The text of a record: document 01, "The text". Each part in its place, with fillers behind what it is given; the composite
--- digit comes last, since it covers all the rest.
+-- The text of a record: document 01, "The text", and document 02, request 2026-06. Each part in its place, with fillers behind
+-- what it is given; the composite digit comes last, since it covers all the rest.
 use Prim.Native.Nat.{ℕ, _+_}
-use Prim.Native.Char as char
 use mathlib.Core.Bool.{Bool, cond}
 use mathlib.Core.List.{List, [], _∷_, _++_}
 use lib.Dec.{ltb}
 use lib.ListN.{take, drop}
-use Rattle.zone.specs.Part.{Part, number, numberCheck, optional, birthCheck, expiryCheck, composite, name, personalCheck}
+use Rattle.zone.specs.Part.{Part, number, numberCheck, optional, birthCheck, expiryCheck, optional2, composite, name, personal}
+use Rattle.zone.specs.Part.{personalCheck, own, same}
 use Rattle.zone.specs.Rows.{PartRow, _is_, inRows}
 use Rattle.zone.specs.Alphabet.{filler}
 use Rattle.zone.specs.Rooms.{dateRoom, nine, further}
-use Rattle.zone.specs.Form.{Cell, _of_, layout, covered}
+use Rattle.zone.specs.Form.{Cell, _of_, layout, covered, ownPart}
 use Rattle.zone.specs.Record.{padded, held}
 use Rattle.zone.specs.declared.record.Record.{Record}
 use Rattle.digit.specs.Check.{digitOf}
@@ -30,24 +30,32 @@ unfoldable pub isWide : Record → Bool
 isWide r = ltb nine (r .«number_len»)
 
 -- a number of up to nine characters has its check digit at the check place, a long one `<`, and in the optional field its further
--- characters and its check digit
+-- characters, its check digit and a filler
 unfoldable pub atCheck : Record → ℕ
 atCheck r = cond (isWide r) filler (digitOf (take nine (r .number)))
 
 unfoldable pub inOptional : Record → List ℕ
-inOptional r = cond (isWide r) (furtherIn r ++ (digitOf (numberIn r) ∷ [])) []
+inOptional r = cond (isWide r) (furtherIn r ++ (digitOf (numberIn r) ∷ filler ∷ [])) []
+
+-- the issuer's own data, in their part alone
+unfoldable pub ownAt : Record → Part → List ℕ
+ownAt r x = cond (same (ownPart (r .form)) x) (held r own) []
 
 -- what each part is given, but for the composite: number and name as they stand in the record, with the fillers behind them,
--- check digits, 0 as TD3's personal check; every other part what the record holds of it
+-- check digits, and the issuer's own data where they stand, behind what a long number takes; "TD3's personal check is written
+-- over it, 0 when it is empty"; every other part what the record holds of it
 unfoldable pub givenRows : Record → List (PartRow (List ℕ))
 givenRows r =
     number is (r .number)
     ∷ name is (r .name)
     ∷ numberCheck is (atCheck r ∷ [])
-    ∷ optional is inOptional r
+    ∷ optional is (inOptional r ++ ownAt r optional)
+    ∷ optional2 is ownAt r optional2
+    ∷ personal is ownAt r personal
+    ∷ own is []
     ∷ birthCheck is (digitOf (take dateRoom (r .birth)) ∷ [])
     ∷ expiryCheck is (digitOf (take dateRoom (r .expiry)) ∷ [])
-    ∷ personalCheck is (char.code "0" ∷ [])
+    ∷ personalCheck is (digitOf (held r own) ∷ [])
     ∷ []
 
 abbrev pub given : Record → Part → List ℕ

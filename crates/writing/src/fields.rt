@@ -1,4 +1,4 @@
-// The fields of a record, each put where the text has it: code, state or nationality, dates, name.
+// The fields of a record, each put where the text has it: code, state or nationality, dates, name, the issuer's own data.
 ghost use mathlib.Core.Path.{_≡_};
 ghost use lib.ListN.{set, take};
 ghost use Rattle.lent.specs.Copied.{copiedAt};
@@ -33,4 +33,17 @@ pub fn put_name(text: &mut [u8], at: usize, wide: usize, s: [u8; Form::NAME])
     ensures { λ _. ⌜ now (text .exit) ≡ copiedAt (now (text .entry)) at (take wide s) ⌝ }
 {
     lent::copy_at(text, at, lent::part(&s, 0, wide));
+}
+
+// The first n characters of the issuer's own data, and the check digit over them.
+pub fn put_own_characters(text: &mut [u8], at: usize, n: usize, s: [u8; Form::OWN])
+    ensures { λ _. ⌜ now (text .exit) ≡ copiedAt (now (text .entry)) at (take n s) ⌝ }
+{
+    lent::copy_at(text, at, lent::part(&s, 0, n));
+}
+
+pub fn own_digit(n: usize, s: [u8; Form::OWN]) -> u8
+    ensures { λ r. ⌜ r ≡ digitOf (take n s) ⌝ }
+{
+    digit::of(lent::part(&s, 0, n))
 }

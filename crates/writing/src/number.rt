@@ -3,6 +3,7 @@ ghost use mathlib.Core.Path.{_≡_};
 ghost use Prim.Native.Nat.{_+_, _<_};
 ghost use lib.ListN.{length, set, take};
 ghost use Rattle.lent.specs.Copied.{copiedAt};
+ghost use Rattle.zone.specs.Alphabet.{filler};
 ghost use Rattle.zone.specs.Rooms.{nine};
 ghost use Rattle.digit.specs.Check.{digitOf};
 ghost use Rattle.writing.specs.Text.{furtherOf};
@@ -23,17 +24,18 @@ fn nine_digit(s: [u8; Form::NUMBER]) -> u8
     digit::of(lent::part(&s, 0, Form::NINE))
 }
 
-// The characters from the tenth on, and behind them the check digit of the whole number.
+// The characters from the tenth on, behind them the check digit of the whole number, and a filler.
 fn put_further(text: &mut [u8], at: usize, wide: usize, s: [u8; Form::NUMBER], n: usize)
     requires { ⌜ at < 256 ⌝ }
-    ensures { λ _. ⌜ now (text .exit) ≡ set (copiedAt (now (text .entry)) at (take wide (furtherOf (take n s))))
-        (at + length (furtherOf (take n s))) (digitOf (take n s)) ⌝ }
+    ensures { λ _. ⌜ now (text .exit) ≡ set (set (copiedAt (now (text .entry)) at (take wide (furtherOf (take n s))))
+        (at + length (furtherOf (take n s))) (digitOf (take n s))) (at + length (furtherOf (take n s)) + 1) filler ⌝ }
 {
     let whole = lent::part(&s, 0, n);
     let further = lent::part(whole, Form::NINE, Form::FURTHER);
     lent::copy_at(text, at, lent::part(further, 0, wide));
     let d = digit::of(whole);
     lent::put(text, at + further.len(), d);
+    lent::put(text, at + further.len() + 1, FILLER);
 }
 
 fn put_short(text: &mut [u8], r: Record)

@@ -1,4 +1,5 @@
--- What a record holds, and the record of what is held: the plain fields by one law for all of them, number and name beside it.
+-- What a record holds, and the record of what is held: the plain fields by one law for all of them, number, name and the issuer's
+-- own data beside it.
 use Prim.Native.Nat.{ℕ}
 use mathlib.Core.Path.{_≡_, refl, ap, sym, _∙_}
 use mathlib.Core.Bool.{Bool, true, false≢true}
@@ -10,10 +11,10 @@ use lib.Seq.{length-take-le}
 use Rattle.zone.specs.declared.form.Form.{Form}
 use Rattle.zone.specs.declared.record.Record.{Record}
 use Rattle.zone.specs.Alphabet.{filler}
-use Rattle.zone.specs.Part.{Part, code, state, number, nationality, birth, sex, expiry, name}
+use Rattle.zone.specs.Part.{Part, code, state, number, nationality, birth, sex, expiry, name, own}
 use Rattle.zone.specs.Rows.{allRows}
 use Rattle.zone.specs.Form.{width}
-use Rattle.zone.specs.Rooms.{codeRoom, stateRoom, dateRoom, numberRoom, nameRoom}
+use Rattle.zone.specs.Rooms.{codeRoom, stateRoom, dateRoom, numberRoom, nameRoom, ownRoom}
 use Rattle.zone.specs.Record.{trimmedLength, trimmed, padded, plain, plainRoom, isPlain, heldRows, held, holding}
 use Rattle.zone.proofs.Padded.{padded-exact, padded-trimmed, trimmed-le}
 use Rattle.zone.proofs.Parts.{in-rows, _and_, all-said, rows-then, rows-pass, pass-rows}
@@ -57,9 +58,9 @@ held-plain f g = each-plain (λ x n. length (g x) ≡ n → held (holding f g) x
 
 -- two records that hold the same are the same
 pub same-holding : (f : Form) (g h : Part → List ℕ) → ((x : Part) → isPlain x ≡ true → g x ≡ h x) → g number ≡ h number
-    → g name ≡ h name → holding f g ≡ holding f h
+    → g name ≡ h name → g own ≡ h own → holding f g ≡ holding f h
 unfolding holding plain
-same-holding f g h p n m = λ i. record {
+same-holding f g h p n m o = λ i. record {
   form = f;
   code = padded codeRoom (p code refl i);
   state = padded stateRoom (p state refl i);
@@ -71,6 +72,8 @@ same-holding f g h p n m = λ i. record {
   expiry = padded dateRoom (p expiry refl i);
   name = padded nameRoom (m i);
   «name_len» = length (m i);
+  own = padded ownRoom (o i);
+  «own_len» = length (o i);
 }
 
 -- a list whose trailing fillers are dropped, and filled up again
@@ -84,9 +87,10 @@ held-length n s e = length-take-le n s (omega (arith, trimmed-le s))
 -- a record with fillers in every place past its lengths is that of what it holds
 pub holding-held : (r : Record) → ((x : Part) → isPlain x ≡ true → length (held r x) ≡ plainRoom x)
     → length (r .number) ≡ numberRoom → trimmedLength (r .number) ≡ r .«number_len»
-    → length (r .name) ≡ nameRoom → trimmedLength (r .name) ≡ r .«name_len» → holding (r .form) (held r) ≡ r
+    → length (r .name) ≡ nameRoom → trimmedLength (r .name) ≡ r .«name_len»
+    → length (r .own) ≡ ownRoom → trimmedLength (r .own) ≡ r .«own_len» → holding (r .form) (held r) ≡ r
 unfolding holding heldRows plain
-holding-held r p l n k m = λ i. record {
+holding-held r p l n k m long own-ends = λ i. record {
   form = r .form;
   code = padded-exact codeRoom (r .code) (p code refl) i;
   state = padded-exact stateRoom (r .state) (p state refl) i;
@@ -98,4 +102,6 @@ holding-held r p l n k m = λ i. record {
   expiry = padded-exact dateRoom (r .expiry) (p expiry refl) i;
   name = refilled nameRoom (r .«name_len») (r .name) k m i;
   «name_len» = held-length (r .«name_len») (r .name) m i;
+  own = refilled ownRoom (r .«own_len») (r .own) long own-ends i;
+  «own_len» = held-length (r .«own_len») (r .own) own-ends i;
 }

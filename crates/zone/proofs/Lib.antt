@@ -6,6 +6,7 @@ pub mod First  -- `first`: the steps of a search, and where it finds none
 pub mod AllForms  -- what holds of each form of the list of all forms holds of every form
 pub mod Parts  -- the parts of a text: each has its own rank, no two overlap, and what rows say of them
 pub mod Widths  -- the widths that every form shares, and that every part lies within the text
+pub mod Own  -- where the issuer's own data stand
 pub mod Padded  -- `padded`: copies over fillers, and trailing fillers that make no difference
 pub mod Filled  -- fields filled up with fillers, character by character
 pub mod Trimmed  -- `trimmedLength`: one character more, its bound, and lists joined and cut

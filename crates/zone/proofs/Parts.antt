@@ -10,7 +10,7 @@ use lib.ListN.{getD}
 use Rattle.lent.proofs.Bools.{and-both}
 use Rattle.zone.specs.declared.form.Form.{Form}
 use Rattle.zone.specs.Part.{Part, rank, same, code, state, number, numberCheck, optional, birth, birthCheck, sex, expiry}
-use Rattle.zone.specs.Part.{expiryCheck, nationality, optional2, composite, name, personal, personalCheck}
+use Rattle.zone.specs.Part.{expiryCheck, nationality, optional2, composite, name, personal, personalCheck, own}
 use Rattle.zone.specs.Rows.{PartRow, _is_, inRows, allRows}
 use Rattle.zone.specs.Form.{Cell, _of_, layout, startIn, start, widthIn, width}
 
@@ -46,7 +46,7 @@ ranked n =
     getD
     (code ∷ state ∷ number ∷ numberCheck ∷ optional ∷ birth ∷ birthCheck ∷ sex ∷ expiry ∷ expiryCheck ∷ nationality ∷ optional2
     ∷ composite
-    ∷ name ∷ personal ∷ personalCheck ∷ []) n code
+    ∷ name ∷ personal ∷ personalCheck ∷ own ∷ []) n code
 
 ranked-rank : (x : Part) → ranked (rank x) ≡ x
 unfolding ranked
@@ -66,6 +66,7 @@ ranked-rank composite = refl
 ranked-rank name = refl
 ranked-rank personal = refl
 ranked-rank personalCheck = refl
+ranked-rank own = refl
 
 pub same-one : (x y : Part) → same x y ≡ true → x ≡ y
 same-one x y e = sym (ranked-rank x) ∙ (ap ranked (eqb-true (rank x) (rank y) e) ∙ ranked-rank y)

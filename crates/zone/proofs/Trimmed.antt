@@ -81,6 +81,16 @@ trimmed-twice (c ∷ s) = go (isFiller c && eqb (trimmedLength s) 0) refl (trimm
     go true e h = refl
     go false e h = rw (h, e)
 
+-- nothing is left exactly of characters that are all fillers
+pub none-left : (s : List ℕ) → eqb (trimmedLength s) 0 ≡ every isFiller s
+unfolding trimmedLength every
+none-left [] = refl
+none-left (c ∷ s) = rw (← none-left s) (go (isFiller c && eqb (trimmedLength s) 0))
+  where
+    go : (b : Bool) → eqb (cond b 0 (suc (trimmedLength s))) 0 ≡ b
+    go true = refl
+    go false = eqb·suc-zero (trimmedLength s)
+
 -- a list that begins with no filler is not all fillers
 pub trimmed-some : (s : List ℕ) → 0 < length s → isFiller (getD s 0 0) ≡ false → 1 ≤ trimmedLength s
 unfolding trimmedLength

@@ -15,6 +15,7 @@ use Rattle.zone.specs.declared.form.Source.the-variants.{Alone, GroupOne
 use Rattle.zone.specs.declared.form.Recognised.{Recognised}
 use Rattle.zone.specs.declared.form.Recognised.the-variants.{As, Unknown}
 use Rattle.zone.specs.Alphabet.{isLetter, isFiller}
+use Rattle.zone.specs.Rooms.{nine}
 use Rattle.zone.specs.Part.{Part, code, state, number, numberCheck, optional, birth, birthCheck, sex, expiry, expiryCheck}
 use Rattle.zone.specs.Part.{nationality, optional2, composite, name, personal, personalCheck, same}
 
@@ -42,6 +43,9 @@ pub record Row : Type 0 where
   pub kind : Kind
   -- its number in an entry (document 01, "The entry")
   pub entered : ℕ
+  -- where the issuer's own data stand: "TD3's fourteen characters, TD2's and the visas' optional field, TD1's field in the second
+  -- line" (document 02, request 2026-06)
+  pub ownPart : Part
 
 unfoldable pub row : Form → Row
 row Td1 = record {
@@ -56,6 +60,7 @@ row Td1 = record {
   covers = run 1 6 30 ∷ run 2 1 7 ∷ run 2 9 15 ∷ run 2 19 29 ∷ [];
   kind = Card;
   entered = 0;
+  ownPart = optional2;
 }
 row Td2 = record {
   total = 72;
@@ -69,6 +74,7 @@ row Td2 = record {
   covers = run 2 1 10 ∷ run 2 14 20 ∷ run 2 22 35 ∷ [];
   kind = Card;
   entered = 1;
+  ownPart = optional;
 }
 row Td3 = record {
   total = 88;
@@ -82,6 +88,7 @@ row Td3 = record {
   covers = run 2 1 10 ∷ run 2 14 20 ∷ run 2 22 43 ∷ [];
   kind = Passport;
   entered = 2;
+  ownPart = personal;
 }
 -- "The first line has code, state and name as in TD3 and TD2; the second has number 9, check, nationality 3, birth 6, check, sex,
 -- valid-until 6, check, then optional data of 16 or 8, with no composite and no long numbers"
@@ -97,6 +104,7 @@ row MrvA = record {
   covers = [];
   kind = Visa;
   entered = 3;
+  ownPart = optional;
 }
 row MrvB = record {
   total = 72;
@@ -110,6 +118,7 @@ row MrvB = record {
   covers = [];
   kind = Visa;
   entered = 4;
+  ownPart = optional;
 }
 
 -- all of them; visas first, since what selects a visa is no other form's where visas may stand
@@ -194,6 +203,20 @@ formBy n = firstForm (λ f. eqb n (row f .entered)) forms
 -- the characters that stand in a text for a part
 unfoldable pub field : Form → Part → List ℕ → List ℕ
 field f x t = take (width f x) (drop (start f x) t)
+
+-- ---- the issuer's own data: document 02, request 2026-06
+
+abbrev pub ownPart : Form → Part
+ownPart f = row f .ownPart
+
+-- the characters before them in their part, where the number has n: "For a long TD2 number it is what follows the filler after
+-- the number's check"
+unfoldable pub beforeOwn : Form → (n : ℕ) → ℕ
+beforeOwn f n = cond (same (ownPart f) optional && ltb nine n) (n - nine + 2) 0
+
+-- the place that is left for them
+unfoldable pub ownPlace : Form → (n : ℕ) → ℕ
+ownPlace f n = width f (ownPart f) - beforeOwn f n
 
 -- the same counted in the text, from 0
 pub record Piece : Type 0 where

@@ -1,5 +1,6 @@
--- The record: document 01, "A record holds form, code, state, number, nationality, birth, sex, expiry, name", and the blank
--- record of "Refusal numbers" (TD1, fillers, lengths 0). Its fields are parts of a text.
+-- The record: document 01, "A record holds form, code, state, number, nationality, birth, sex, expiry, name", and document 02,
+-- request 2026-06, "The record gains it", the issuer's own data; and the blank record of "Refusal numbers" (TD1, fillers, lengths
+-- 0). Its fields are parts of a text.
 use Prim.Native.Nat.{ℕ, suc, _-_}
 use mathlib.Core.Bool.{Bool, cond, _&&_}
 use mathlib.Core.List.{List, [], _∷_, _++_}
@@ -9,9 +10,9 @@ use Rattle.zone.specs.declared.form.Form.{Form}
 use Rattle.zone.specs.declared.form.Form.the-variants.{Td1}
 use Rattle.zone.specs.declared.record.Record.{Record}
 use Rattle.zone.specs.Alphabet.{filler, isFiller}
-use Rattle.zone.specs.Part.{Part, code, state, number, nationality, birth, sex, expiry, name}
+use Rattle.zone.specs.Part.{Part, code, state, number, nationality, birth, sex, expiry, name, own}
 use Rattle.zone.specs.Rows.{PartRow, _is_, inRows}
-use Rattle.zone.specs.Rooms.{codeRoom, stateRoom, dateRoom, numberRoom, nameRoom}
+use Rattle.zone.specs.Rooms.{codeRoom, stateRoom, dateRoom, numberRoom, nameRoom, ownRoom}
 
 -- the length without trailing fillers
 unfoldable pub trimmedLength : List ℕ → ℕ
@@ -26,7 +27,7 @@ trimmed s = take (trimmedLength s) s
 unfoldable pub padded : ℕ → List ℕ → List ℕ
 padded n s = take n s ++ replicate (n - length s) filler
 
--- the fields of one width in every form, each with that width; number and name are not among them: they have lengths of their own
+-- the fields of one width in every form, each with that width; number, name and the issuer's own data are not among them
 unfoldable pub plain : List (PartRow ℕ)
 plain =
     code is codeRoom ∷ state is stateRoom ∷ nationality is stateRoom ∷ birth is dateRoom ∷ sex is 1 ∷ expiry is dateRoom ∷ []
@@ -49,6 +50,7 @@ heldRows r =
     ∷ sex is (r .sex ∷ [])
     ∷ expiry is (r .expiry)
     ∷ name is take (r .«name_len») (r .name)
+    ∷ own is take (r .«own_len») (r .own)
     ∷ []
 
 abbrev pub held : Record → Part → List ℕ
@@ -68,6 +70,8 @@ holding f g = record {
   expiry = padded dateRoom (g expiry);
   name = padded nameRoom (g name);
   «name_len» = length (g name);
+  own = padded ownRoom (g own);
+  «own_len» = length (g own);
 }
 
 unfoldable pub blank : Record

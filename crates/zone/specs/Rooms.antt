@@ -1,5 +1,5 @@
--- The room that a record has for each field: the width that every form gives it in its layout, and of the number and the name
--- the most that any form allows.
+-- The room that a record has for each field: the width that every form gives it in its layout, and of the number, the name and
+-- the issuer's own data the most that any form allows.
 use Prim.Native.Nat.{ℕ}
 
 abbrev pub codeRoom : ℕ
@@ -24,3 +24,6 @@ numberRoom = 22
 
 abbrev pub nameRoom : ℕ
 nameRoom = 39
+
+abbrev pub ownRoom : ℕ
+ownRoom = 16

@@ -4,7 +4,7 @@ ghost use mathlib.Core.Path.{_≡_};
 ghost use mathlib.Core.Bool.{not, _&&_, _||_};
 ghost use lib.Dec.{eqb};
 ghost use Rattle.zone.specs.Form.{row, forms, firstForm, formOf, formBy, isAlone};
-ghost use Rattle.zone.specs.Form.{isVisa, isVisaCode, width, longest, total};
+ghost use Rattle.zone.specs.Form.{isVisa, isVisaCode, width, longest, total, beforeOwn, ownPlace};
 ghost use Rattle.zone.specs.Inner.Places.{placesOf};
 ghost use Rattle.zone.specs.Part.{name, optional, personal, composite};
 use crate::alphabet::FILLER;
@@ -70,6 +70,9 @@ pub struct Places {
     pub composite_width: usize,
     pub name: usize,
     pub name_width: usize,
+    // Where the issuer's own data stand, which is the place of another part.
+    pub own: usize,
+    pub own_width: usize,
 }
 
 impl Form {
@@ -121,6 +124,8 @@ impl Form {
     pub const NUMBER: usize = 22;
 
     pub const NAME: usize = 39;
+
+    pub const OWN: usize = 16;
 
     // Which form a text is, of those that may stand there: its length tells, and its code where a visa is as long.
     pub fn of_text(source: Source, text: &[u8]) -> Recognised
@@ -218,6 +223,27 @@ impl Form {
         self.places().composite_width
     }
 
+    // How many characters of a number of n, with its check digit and a filler, stand before the issuer's own data in their part.
+    pub fn before_own(self, n: usize) -> usize
+        ensures { λ r. ⌜ r ≡ beforeOwn self n ⌝ }
+    {
+        let at = self.places();
+        if (at.own == at.optional) & (Form::NINE < n) {
+            n - Form::NINE + 2
+        } else {
+            0
+        }
+    }
+
+    // The place that is left for them.
+    pub fn own_place(self, n: usize) -> usize
+        ensures { λ r. ⌜ r ≡ ownPlace self n ⌝ }
+    {
+        let wide = self.places().own_width;
+        let before = self.before_own(n);
+        if before <= wide { wide - before } else { 0 }
+    }
+
     pub fn places(self) -> Places
         ensures { λ r. ⌜ r ≡ placesOf self ⌝ }
     {
@@ -280,6 +306,8 @@ fn td1_places() -> Places
         personal_width: 0,
         personal_check: Form::TD1_TEXT,
         personal_check_width: 0,
+        own: 48,
+        own_width: 11,
     }
 }
 
@@ -314,6 +342,8 @@ fn td2_places() -> Places
         personal_width: 0,
         personal_check: Form::TD2_TEXT,
         personal_check_width: 0,
+        own: 64,
+        own_width: 7,
     }
 }
 
@@ -348,6 +378,8 @@ fn td3_places() -> Places
         optional_before: 39,
         optional2: Form::TD3_TEXT,
         optional2_width: 0,
+        own: 72,
+        own_width: 14,
     }
 }
 
@@ -382,6 +414,8 @@ fn mrv_a_places() -> Places
         personal_width: 0,
         personal_check: Form::MRV_A_TEXT,
         personal_check_width: 0,
+        own: 72,
+        own_width: 16,
     }
 }
 
@@ -416,5 +450,7 @@ fn mrv_b_places() -> Places
         personal_width: 0,
         personal_check: Form::MRV_B_TEXT,
         personal_check_width: 0,
+        own: 64,
+        own_width: 8,
     }
 }

@@ -22,6 +22,9 @@ pub struct Record {
     pub expiry: [u8; Form::DATE],
     pub name: [u8; Form::NAME],
     pub name_len: usize,
+    // The issuer's own data: a personal number, or what a State puts into an optional field.
+    pub own: [u8; Form::OWN],
+    pub own_len: usize,
 }
 
 impl Record {
@@ -41,6 +44,8 @@ impl Record {
             expiry: [FILLER; Form::DATE],
             name: [FILLER; Form::NAME],
             name_len: 0,
+            own: [FILLER; Form::OWN],
+            own_len: 0,
         }
     }
 }

@@ -15,7 +15,7 @@ unfolding standingOf
 record-in-c-requires c κs =
     let a = c .before .before .before .before .before .args in
     let short = rw (← c .before .before .before .next .ensures) at (short-read (now (a .only)) 0) in
-    (omega (arith, short .number-short), omega (arith, short .name-short))
+    (omega (arith, short .number-short), omega (arith, short .name-short), omega (arith, short .own-short))
 
 record-in-c-requires-2 : tie.Need-record-in-c-requires-2
 unfolding blank holding

@@ -13,8 +13,15 @@ is-sound-spec =
     (λ c κs. search needs)
     (λ c κs. search needs)
     (λ c κs. search needs)
+    (λ c κs. search needs)
     (λ c.
-    let r = c .before .before .before .args .r in
+    let r = c .before .before .before .before .args .r in
     let first = shaped r (search needs) (search needs) (search needs) in
-    let fits = first (search needs) (search needs) (search needs) (search needs) in
-    rw (c .is-named .ensures, c .before .is-numbered .ensures, c .before .before .keeps-rules .ensures, fits)))
+    let fits = first (search needs) (search needs) (search needs) (search needs) (search needs) in
+    rw (
+      c .is-owned .ensures,
+      c .before .is-named .ensures,
+      c .before .before .is-numbered .ensures,
+      c .before .before .before .keeps-rules .ensures,
+      fits,
+    )))

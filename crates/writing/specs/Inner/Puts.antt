@@ -1,15 +1,15 @@
 -- Parts put one after the other into a range: fillers everywhere, and then each part in its place.
 use Prim.Native.Nat.{ℕ, _+_}
-use Prim.Native.Char as char
 use mathlib.Core.Bool.{cond}
 use mathlib.Core.List.{List}
 use lib.ListN.{length, take, set, replicate}
 use Rattle.lent.specs.Copied.{copiedAt}
 use Rattle.zone.specs.Part.{Part, code, state, number, numberCheck, optional, birth, birthCheck, sex, expiry, expiryCheck}
-use Rattle.zone.specs.Part.{nationality, composite, name, personalCheck}
+use Rattle.zone.specs.Part.{nationality, composite, name, personalCheck, own}
 use Rattle.zone.specs.Alphabet.{filler}
 use Rattle.zone.specs.Rooms.{dateRoom, nine}
-use Rattle.zone.specs.Form.{start, width, has, covered}
+use Rattle.zone.specs.Form.{start, width, has, covered, ownPart, beforeOwn}
+use Rattle.zone.specs.Record.{held}
 use Rattle.zone.specs.declared.record.Record.{Record}
 use Rattle.digit.specs.Check.{digitOf}
 use Rattle.writing.specs.Text.{numberIn, furtherIn, isWide}
@@ -30,11 +30,16 @@ putShort r t = mark r numberCheck (digitOf (take nine (r .number))) (put r numbe
 
 unfoldable pub putLong : Record → List ℕ → List ℕ
 putLong r t =
-    set (put r optional (furtherIn r) (mark r numberCheck filler (put r number (r .number) t)))
-    (start (r .form) optional + length (furtherIn r)) (digitOf (numberIn r))
+    let at = start (r .form) optional + length (furtherIn r) in
+    set (set (put r optional (furtherIn r) (mark r numberCheck filler (put r number (r .number) t))) at (digitOf (numberIn r)))
+    (at + 1) filler
 
 unfoldable pub putNumber : Record → List ℕ → List ℕ
 putNumber r t = cond (isWide r) (putLong r t) (putShort r t)
+
+-- behind what a long number takes of their field
+unfoldable pub putOwn : Record → List ℕ → List ℕ
+putOwn r t = copiedAt t (start (r .form) (ownPart (r .form)) + beforeOwn (r .form) (r .«number_len»)) (held r own)
 
 abbrev pub putDate : Record → (date check : Part) → List ℕ → List ℕ → List ℕ
 putDate r date check s t = mark r check (digitOf (take dateRoom s)) (put r date s t)
@@ -47,8 +52,8 @@ putPerson r t = put r name (r .name) (mark r sex (r .sex) (put r nationality (r 
 
 unfoldable pub putLast : Record → List ℕ → List ℕ
 putLast r t =
-    let told = mark r personalCheck (char.code "0") t in
+    let told = mark r personalCheck (digitOf (held r own)) t in
     cond (has (r .form) composite) (mark r composite (digitOf (covered (r .form) told)) told) told
 
 unfoldable pub putAll : Record → List ℕ → List ℕ
-putAll r t = putLast r (putPerson r (putDates r (putNumber r (putOpening r (replicate (length t) filler)))))
+putAll r t = putLast r (putPerson r (putDates r (putOwn r (putNumber r (putOpening r (replicate (length t) filler))))))

@@ -7,7 +7,7 @@ use Rattle.zone.specs.declared.form.Form.{Form}
 use Rattle.zone.specs.declared.form.Places.{Places}
 use Rattle.zone.specs.Part.{code, state, number, numberCheck, optional, birth, birthCheck, sex, expiry, expiryCheck}
 use Rattle.zone.specs.Part.{nationality, optional2, composite, name, personal, personalCheck}
-use Rattle.zone.specs.Form.{row, start, width, total, longest, Piece, pieces}
+use Rattle.zone.specs.Form.{row, start, width, total, longest, ownPart, Piece, pieces}
 
 -- how many characters of pieces stand before a place
 unfoldable pub before : ℕ → List Piece → ℕ
@@ -43,4 +43,6 @@ placesOf f = record {
   «composite_width» = width f composite;
   name = start f name;
   «name_width» = width f name;
+  own = start f (ownPart f);
+  «own_width» = width f (ownPart f);
 }

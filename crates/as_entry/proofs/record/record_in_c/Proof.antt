@@ -12,4 +12,5 @@ record-in-c-spec =
     (λ c κs. search needs)
     (λ c. search needs)
     (λ c. search needs)
-    (λ c. rw (c .before .before .form-code .ensures .0)))
+    (λ c. search needs)
+    (λ c. rw (c .before .before .before .form-code .ensures .0)))

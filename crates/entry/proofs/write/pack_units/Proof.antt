@@ -11,8 +11,8 @@ returns c =
     let first = c .before .before .before .before .before .before .before .pack in
     let start = c .before .before .before .before .before .before .before .before .before .before .before in
     let a = start .args in
-    units-packed (now (a .octets)) (now (a .units)) (first .last .0) (last .last .0) (a .n) (start .pre .0) (start .pre .1)
-    (start .pre .2) (first .ensures) (last .ensures)
+    units-packed (now (a .octets)) (now (a .units)) (first .last .0) (last .last .0) (a .characters) (start .pre .0)
+    (start .pre .1) (start .pre .2) (first .ensures) (last .ensures)
 
 pub pack-units-spec : {M : Type 1} → statement M
 pack-units-spec =

@@ -7,7 +7,7 @@ use lib.ListN.{length}
 use lib.Seq.{take-all}
 use Rattle.sound.proofs.SoundRecord.{taken-apart}
 use Rattle.entry.specs.Entry.{entryOf, size}
-use Rattle.entry.proofs.EntryUnits.{entry-packed}
+use Rattle.entry.proofs.EntryUnits.{both-most, size-by, entry-packed}
 use Rattle.entry.proofs.Values.{house-range, length-entry}
 use Rattle.entry.proofs.write.write_octets.Statement.{statement}
 use Rattle.entry.proofs.write.write_octets.Tie as tie
@@ -15,24 +15,28 @@ use Rattle.entry.proofs.write.write_octets.Tie as tie
 units-of-requires : tie.Need-units-of-requires
 units-of-requires c κs = (house-range (c .before .args .house) (c .before .pre .0) .1, search needs)
 
+add-characters : tie.Need-add-characters
+add-characters c =
+    let start = c .before .before .before in
+    omega (arith, both-most (start .args .r) (taken-apart (start .args .r) (start .pre .1)))
+
 pack-units-requires : tie.Need-pack-units-requires
 pack-units-requires c κs =
-    let start = c .before .before .before .before in
-    (taken-apart (start .args .r) (start .pre .1) .name-most, search needs, search needs)
+    let start = c .before .before .before .before .before in
+    (both-most (start .args .r) (taken-apart (start .args .r) (start .pre .1)), search needs, search needs)
 
 size-requires : tie.Need-size-requires
 size-requires c κs =
-    let start = c .before .before .before .before .before .before .before .before in
-    taken-apart (start .args .r) (start .pre .1) .name-most
+    let start = c .before .before .before .before .before .before .before .before .before in
+    both-most (start .args .r) (taken-apart (start .args .r) (start .pre .1))
 
 returns : tie.Need-returns
-unfolding size
 returns c =
     let copied = c .before .before in
     let cut = copied .before in
     let sized = cut .before in
     let packed = sized .before .before .before .before in
-    let unit = packed .before .before .before in
+    let unit = packed .before .before .before .before in
     let start = unit .before .before in
     let house = start .args .house in
     let r = start .args .r in
@@ -43,6 +47,7 @@ returns c =
       copied .copy .ensures,
       cut .part .ensures,
       sized .size .ensures,
+      size-by r,
       packed .pack-units .ensures,
       unit .units-of .ensures,
       entry-packed house r (start .pre .0) s,
@@ -55,6 +60,7 @@ write-octets-spec =
     tie.close
     (tie.spec
     units-of-requires
+    add-characters
     (λ c. search needs)
     (λ c. search needs)
     pack-units-requires

@@ -1,17 +1,20 @@
--- A copy of a part, and the digit of the whole behind it.
+-- A copy of a part, the digit of the whole behind it, and a filler.
 use borrow.Author.Needs.{needs}
 use Rattle.writing.proofs.number.put_further.Statement.{statement}
 use Rattle.writing.proofs.number.put_further.Tie as tie
 
 returns : tie.Need-returns
 returns c =
+    let digit = c .before .before .before .before .before .before in
+    let part = digit .before .before .before .before .before .before in
     rw (
-      c .before .before .put .ensures,
-      c .before .before .before .before .of .ensures,
-      c .before .before .before .before .before .before .before .copy-at .ensures,
-      c .before .before .before .before .before .before .before .before .part3 .ensures,
-      c .before .before .before .before .before .before .before .before .before .before .part2 .ensures,
-      c .before .before .before .before .before .before .before .before .before .before .before .part .ensures,
+      c .before .before .put2 .ensures,
+      digit .put .ensures,
+      digit .before .before .of .ensures,
+      digit .before .before .before .before .before .copy-at .ensures,
+      part .part3 .ensures,
+      part .before .before .part2 .ensures,
+      part .before .before .before .part .ensures,
     )
 
 pub put-further-spec : {M : Type 1} → statement M
@@ -24,6 +27,9 @@ put-further-spec =
     (λ c κs. search needs)
     (λ c κs. search needs)
     (λ c κs. search needs)
+    (λ c. search needs)
+    (λ c κs. search needs)
+    (λ c. search needs)
     (λ c. search needs)
     (λ c κs. search needs)
     (λ c. search needs)

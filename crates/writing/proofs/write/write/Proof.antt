@@ -4,6 +4,8 @@ use denote.Ref.{now}
 use borrow.Author.Needs.{needs}
 use borrow.Author.Tests.{le-leb, lt-leb}
 use Rattle.writing.specs.Answer.{textAnswer, textOut}
+use Rattle.sound.proofs.SoundRecord.{taken-apart}
+use Rattle.writing.proofs.Further.{number-within}
 use Rattle.writing.proofs.Fitted.{front-length, fitted}
 use Rattle.writing.proofs.write.write.Statement.{statement}
 use Rattle.writing.proofs.write.write.Tie as tie
@@ -11,6 +13,12 @@ use Rattle.writing.proofs.write.write.Tie as tie
 slice-aggregate-put-all : tie.Need-slice-aggregate-put-all
 slice-aggregate-put-all c = front-length (c .before .before .before .before .text-length .result)
     (now (c .before .before .before .before .before .before .args .out)) (c .before .if2 .taken)
+
+put-all-requires : tie.Need-put-all-requires
+put-all-requires c κs =
+    let r = c .before .before .before .before .before .before .args .r in
+    let sound = sym (c .before .before .before .is-sound .ensures) ∙ c .before .before .if1 .taken in
+    number-within r (taken-apart r sound)
 
 returns : tie.Need-returns
 unfolding textAnswer textOut
@@ -48,7 +56,7 @@ write-spec =
     (λ c κs. search needs)
     (λ c. search needs)
     slice-aggregate-put-all
-    (λ c κs. search needs)
+    put-all-requires
     (λ c. search needs)
     returns
     returns-2
