@@ -22,8 +22,8 @@ fn further(record: &Record) -> usize {
     record.number.len().saturating_sub(9)
 }
 
-/// The text of a record with other characters at one or more of these places. The optional data are drawn, so that a
-/// personal number's check is not always 0, nor the composite always even.
+/// The text of a record with other characters at one or more of these places. Every optional field is drawn, so that a
+/// personal number's check is not often 0, nor the composite always even.
 pub fn spoilt(seeds: &mut Seeds, record: &Record) -> Vec<u8> {
     let mut text = text::write(record);
     let mut left = places(record);

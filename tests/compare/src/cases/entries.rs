@@ -1,5 +1,6 @@
 //! Entries, sound ones and such as are drawn without regard to a rule.
 
+use crate::cases::data;
 use paper::field::FILLER;
 use paper::form::Form;
 use paper::record::Record;
@@ -24,7 +25,7 @@ pub fn careless(seeds: &mut Seeds) -> Vec<u8> {
     let mut record = records::sound(seeds);
     let drawn: [u8; 6] = std::array::from_fn(|_| seeds.pick(ALPHABET));
     let long: Vec<u8> = (0..63).map(|_| seeds.pick(ALPHABET)).collect();
-    match seeds.below(12) {
+    match seeds.below(16) {
         0 => record.code.copy_from_slice(&drawn[..2]),
         1 => record.state.copy_from_slice(&drawn[..3]),
         2 => record.nationality.copy_from_slice(&drawn[..3]),
@@ -36,6 +37,11 @@ pub fn careless(seeds: &mut Seeds) -> Vec<u8> {
         8 => record.name = records::name(seeds, 63),
         9 => record.name = long[..seeds.below(40)].to_vec(),
         10 => record.name.extend(&[FILLER, FILLER][..1 + seeds.below(2)]),
+        11 => record.data = long[..seeds.below(32)].to_vec(),
+        12 => record.data.extend(&[FILLER, FILLER][..1 + seeds.below(2)]),
+        13 => record.data.extend(&long[..1 + seeds.below(8)]),
+        // Where the number leaves less room, or none.
+        14 => record.number = long[..seeds.below(15)].to_vec(),
         _ => record.form = seeds.pick(&Form::ALL),
     }
     let house = seeds.pick(&[0, 1, 2, 255, 256, 32_766, 32_767]);
@@ -49,7 +55,8 @@ pub fn some(seeds: &mut Seeds) -> Vec<Vec<u8>> {
     entries
 }
 
-/// Entries with a number, or a name, of every length that fits the bits, also of those that a form does not allow.
+/// Entries with a number, a name, or data of every length that fits the bits, also of those that a form does not allow; and
+/// with codes that are no character's.
 pub fn of_every_length(seeds: &mut Seeds) -> Vec<Vec<u8>> {
     let mut entries = Vec::new();
     for form in Form::ALL {
@@ -62,5 +69,5 @@ pub fn of_every_length(seeds: &mut Seeds) -> Vec<Vec<u8>> {
         });
         entries.extend(names.chain(numbers).chain(filled).map(|record| entry::write(1, &record)));
     }
-    entries
+    [entries, data::entries_of_every_length(seeds), data::with_foreign_codes(seeds)].concat()
 }

@@ -2,6 +2,7 @@
 
 pub mod chance;
 pub mod damage;
+pub mod data;
 pub mod digest;
 pub mod digits;
 pub mod entries;
@@ -9,6 +10,7 @@ pub mod group_file;
 pub mod houses;
 pub mod next_entry;
 pub mod octets;
+pub mod old;
 pub mod open_entry;
 pub mod outside;
 pub mod personal;

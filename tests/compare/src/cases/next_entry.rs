@@ -2,11 +2,11 @@
 
 use crate::border;
 use crate::cases::trials::{Call, Trials};
-use crate::cases::{entries, octets};
+use crate::cases::{data, entries, octets, old};
 use crate::guard::{Lent, Side};
 use crate::report::{hex, Tally};
 use paper::answer::{Answer, Outcome};
-use paper::calls;
+use paper::{calls, entry};
 
 pub fn compare(seed: u64) -> Tally {
     let mut trials = Trials::<NextEntry>::new(seed);
@@ -15,6 +15,8 @@ pub fn compare(seed: u64) -> Tally {
     trials.every_offset();
     trials.careless();
     trials.lengths();
+    trials.data();
+    trials.old();
     trials.flipped();
     trials.octets();
     trials.cut();
@@ -96,11 +98,29 @@ impl Trials<NextEntry> {
         }
     }
 
-    /// Numbers and names of every length that fits the bits, in every form.
+    /// Numbers, names and data of every length that fits the bits, in every form.
     fn lengths(&mut self) {
         for entry in entries::of_every_length(&mut self.seeds) {
             let run = [entry, self.joined(1)].concat();
             self.at(&run, 0);
+        }
+    }
+
+    /// Data of every length that there is room for, and another entry behind.
+    fn data(&mut self) {
+        for record in data::of_every_length(&mut self.seeds) {
+            let run = [entry::write(1, &record), self.joined(1)].concat();
+            self.at(&run, 0);
+        }
+    }
+
+    /// Entries as they were before they had data, between such as have it.
+    fn old(&mut self) {
+        for old in old::entries(&mut self.seeds) {
+            let (before, behind) = (self.joined(1), self.joined(1));
+            let run = [&before[..], &old, &behind].concat();
+            let starts = [0, before.len(), before.len() + old.len()];
+            self.together(|trials| starts.iter().for_each(|start| trials.at(&run, *start as u64)));
         }
     }
 
@@ -178,8 +198,8 @@ fn far(length: u64) -> Vec<u64> {
         half - 1,
         half,
         half + length,
-        u64::MAX - 63,
-        u64::MAX - 35,
+        u64::MAX - 76,
+        u64::MAX - 36,
         u64::MAX - 1,
         u64::MAX,
     ]

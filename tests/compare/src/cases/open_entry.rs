@@ -2,7 +2,7 @@
 
 use crate::border;
 use crate::cases::trials::{Call, Trials};
-use crate::cases::{entries, octets};
+use crate::cases::{data, entries, octets, old};
 use crate::guard::{Lent, Side};
 use crate::report::{hex_shown, Tally};
 use paper::answer::Outcome;
@@ -20,6 +20,8 @@ pub fn compare(seed: u64) -> Tally {
     trials.houses();
     trials.careless();
     trials.lengths();
+    trials.data();
+    trials.old();
     trials.spare_bits();
     trials.flipped();
     trials.octets();
@@ -96,17 +98,31 @@ impl Trials<OpenEntry> {
         }
     }
 
-    /// Numbers and names of every length that fits the bits, in every form.
+    /// Numbers, names and data of every length that fits the bits, in every form.
     fn lengths(&mut self) {
         entries::of_every_length(&mut self.seeds).iter().for_each(|entry| self.case(entry));
     }
 
-    /// Behind a name of every length, all that the spare bits can say.
+    /// Data of every length that there is room for, and fillers anywhere in it.
+    fn data(&mut self) {
+        for record in data::of_every_length(&mut self.seeds) {
+            self.case(&entry::write(1, &record));
+        }
+    }
+
+    /// Entries as they were before they had data.
+    fn old(&mut self) {
+        old::entries(&mut self.seeds).iter().for_each(|entry| self.case(entry));
+    }
+
+    /// Behind a name and data of every length, all that the spare bits can say.
     fn spare_bits(&mut self) {
-        let record = records::sound_of(&mut self.seeds, Form::Td3);
-        for length in 1..=39 {
-            let sound = entry::write(1, &Record { name: vec![b'N'; length], ..record.clone() });
-            let spare = 8 * sound.len() - (278 + 6 * length);
+        let record = records::bare_of(&mut self.seeds, Form::MrvA);
+        for (length, data) in (1..=39).flat_map(|length| (0..=16).map(move |data| (length, data))) {
+            let (name, data) = (vec![b'N'; length], vec![b'0'; data]);
+            let bits = 283 + 6 * (name.len() + data.len());
+            let sound = entry::write(1, &Record { name, data, ..record.clone() });
+            let spare = 8 * sound.len() - bits;
             self.together(|trials| {
                 for said in 0..1 << spare {
                     let mut entry = sound.clone();

@@ -103,7 +103,7 @@ mod tests {
 
     #[test]
     fn the_entry_of_an_accepted_one() {
-        let accepted = calls::read_presentation(1, &all()[0].octets, 64);
+        let accepted = calls::read_presentation(1, &all()[0].octets, 43);
         assert_eq!(accepted.answer.value, 43);
         assert_eq!(accepted.written[..6], [0x00, 0x02, 0x9f, 0x79, 0x95, 0x48]);
     }

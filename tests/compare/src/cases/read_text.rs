@@ -4,20 +4,20 @@ use crate::border;
 use crate::cases::houses::{house, HOUSES};
 use crate::cases::trials::{Call, Trials};
 use crate::cases::visas::{visa, Wrong};
-use crate::cases::{digits, personal};
+use crate::cases::{data, digits, personal};
 use crate::guard::{Lent, Side};
 use crate::report::{hex, Tally};
 use paper::answer::{Answer, Outcome};
 use paper::field::{Check, FILLER};
 use paper::form::Form;
-use paper::{calls, specimens, text};
+use paper::{calls, entry, specimens, text};
 use shared::records::{self, ALPHABET};
 use std::ops::Range;
 
 /// What damage puts into a place: of each kind of character, and the neighbours of each kind that are none.
 const DAMAGE: &[u8; 20] = b"<019AFMPVZ/:;=@[a \0\xff";
 /// As long as the longest entry.
-const ROOM: usize = 64;
+const ROOM: usize = entry::LONGEST;
 
 pub fn compare(seed: u64) -> Tally {
     let mut trials = Trials::<ReadText>::new(seed);
@@ -34,6 +34,8 @@ pub fn compare(seed: u64) -> Tally {
     trials.sexes();
     trials.dates();
     trials.optional();
+    trials.data();
+    trials.damaged_data();
     trials.long_numbers();
     trials.wrong_digits();
     trials.personal_checks();
@@ -107,7 +109,7 @@ impl Trials<ReadText> {
         for form in Form::ALL.into_iter().flat_map(|form| [form; 10]) {
             let record = records::sound_of(&mut self.seeds, form);
             let text = text::write(&record);
-            let need = (278 + 6 * record.name.len() + 7) / 8;
+            let need = (283 + 6 * (record.name.len() + record.data.len()) + 7) / 8;
             self.together(|trials| {
                 for (room, house) in (0..=need + 1).flat_map(|room| HOUSES.map(|house| (room, house))) {
                     trials.with_room(house, &text, room);
@@ -247,7 +249,7 @@ impl Trials<ReadText> {
         }
     }
 
-    /// What stands in an optional field is not read, but for its part in the check digits.
+    /// Anything in every optional field, TD1's first line among them, which is not kept.
     fn optional(&mut self) {
         for form in Form::ALL.into_iter().flat_map(|form| [form; 300]) {
             let mut text = text::write(&records::sound_of(&mut self.seeds, form));
@@ -255,6 +257,28 @@ impl Trials<ReadText> {
                 text[place] = self.seeds.pick(ALPHABET);
             }
             self.together(|trials| trials.case_and_repaired(form, text, 0));
+        }
+    }
+
+    /// Data of every length that there is room for, and fillers anywhere in it, beside numbers of every length.
+    fn data(&mut self) {
+        for record in data::of_every_length(&mut self.seeds) {
+            self.with_room(1, &text::write(&record), ROOM);
+        }
+    }
+
+    /// Each place of the data damaged in each way, with the check digits as they were and with digits that fit the damage.
+    fn damaged_data(&mut self) {
+        for record in data::of_every_length(&mut self.seeds) {
+            let sound = text::write(&record);
+            let place = paper::data::place(record.form.layout(), record.number.len().saturating_sub(9));
+            self.together(|trials| {
+                for (place, character) in place.flat_map(|place| DAMAGE.map(|character| (place, character))) {
+                    let mut damaged = sound.clone();
+                    damaged[place] = character;
+                    trials.case_and_repaired(record.form, damaged, record.number.len());
+                }
+            });
         }
     }
 

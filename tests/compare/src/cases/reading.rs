@@ -5,12 +5,13 @@ use crate::cases::trials::{held, Call, Trials};
 use crate::guard::{Lent, Side};
 use crate::report::hex_shown;
 use paper::answer::Outcome;
+use paper::entry;
 use shared::seeds::Seeds;
 use std::fmt::Display;
 use std::marker::PhantomData;
 
 /// As long as the longest entry.
-pub const ROOM: usize = 64;
+pub const ROOM: usize = entry::LONGEST;
 
 /// Which of the two.
 pub trait Reader {
@@ -65,7 +66,7 @@ impl<R: Reader> Trials<Reading<R>> {
     /// A house and a room of the seed's choice.
     pub fn case(&mut self, lent: &[u8]) {
         let house = house(&mut self.seeds);
-        let room = self.seeds.pick(&[ROOM, ROOM, ROOM, 200, 43, 36, 35, 0]);
+        let room = self.seeds.pick(&[ROOM, ROOM, ROOM, 200, 64, 43, 37, 36, 0]);
         self.with_room(house, lent, room);
     }
 

@@ -41,12 +41,14 @@ pub fn octets(hex: &str) -> Vec<u8> {
 #[cfg(test)]
 mod tests {
     use super::*;
+    use crate::cases::reading::ROOM;
     use paper::calls;
 
     #[test]
     fn the_reader_answers_as_argued() {
         for vector in all() {
-            assert_eq!(calls::read_presentation(1, &vector.octets, 64), vector.expected(64), "{}", vector.name);
+            let (answered, expected) = (calls::read_presentation(1, &vector.octets, ROOM), vector.expected(ROOM));
+            assert_eq!(answered, expected, "{}", vector.name);
         }
     }
 

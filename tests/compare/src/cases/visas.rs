@@ -32,7 +32,7 @@ impl Wrong {
     pub const IN_SEALS: [Wrong; 5] = [Wrong::Nothing, Wrong::Checks, Wrong::LongNumber, Wrong::Place, Wrong::Code];
 }
 
-/// A visa of a form with this wrong. Its optional data are fillers, or drawn: neither is looked at.
+/// A visa of a form with this wrong. Its optional data is a sound record's, or any.
 pub fn visa(seeds: &mut Seeds, form: Form, wrong: Wrong) -> Vec<u8> {
     let record = records::sound_of(seeds, form);
     let mut text = match wrong {

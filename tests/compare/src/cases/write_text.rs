@@ -2,7 +2,7 @@
 
 use crate::border;
 use crate::cases::trials::{Call, Trials};
-use crate::cases::{entries, octets};
+use crate::cases::{data, entries, octets, old};
 use crate::guard::{Lent, Side};
 use crate::report::{hex, Tally};
 use paper::answer::{Answer, Outcome};
@@ -20,6 +20,8 @@ pub fn compare(seed: u64) -> Tally {
     trials.sound();
     trials.careless();
     trials.lengths();
+    trials.data();
+    trials.old();
     trials.flipped();
     trials.octets();
     trials.cut();
@@ -98,9 +100,21 @@ impl Trials<WriteText> {
         }
     }
 
-    /// Numbers and names of every length that fits the bits, in every form.
+    /// Numbers, names and data of every length that fits the bits, in every form.
     fn lengths(&mut self) {
         entries::of_every_length(&mut self.seeds).iter().for_each(|entry| self.with_room(entry, ROOM));
+    }
+
+    /// Data of every length that there is room for, and fillers anywhere in it.
+    fn data(&mut self) {
+        for record in data::of_every_length(&mut self.seeds) {
+            self.with_room(&entry::write(1, &record), ROOM);
+        }
+    }
+
+    /// Entries as they were before they had data.
+    fn old(&mut self) {
+        old::entries(&mut self.seeds).iter().for_each(|entry| self.with_room(entry, ROOM));
     }
 
     /// Each bit of an entry.
