@@ -21,6 +21,8 @@
  *     of a birth year, month and day may each be fillers.
  *   - A stored run needs a check of its own: of the single bits of an entry about half can be turned
  *     over and give another entry.
+ *   - A store of entries that were kept before version 0.3.0 is emptied before the first new one goes
+ *     in: the layout changed, and an old entry is not always refused. See LAMPHUDET_ENTRY_MAX.
  *
  * What is covered: texts of TD1, TD2 and TD3, alone and in group 1, and of the visas MRV-A and MRV-B,
  * alone; SHA-256 as digest, LDS version 0107, security object version 0. Other digests, 0108 and
@@ -120,10 +122,16 @@ enum lamphudet_form {
 #define LAMPHUDET_HOUSE_MAX 32767 /* the greatest house; the least is 1 */
 #define LAMPHUDET_NUMBER_MAX 22   /* characters of the longest document number, of TD1; TD2 14, the others 9 */
 #define LAMPHUDET_NAME_MAX 39     /* characters of the longest name, of TD3 and MRV-A; TD1 30, TD2 and MRV-B 31 */
+#define LAMPHUDET_DATA_MAX 16     /* characters of the longest data, of MRV-A; TD3 14, TD1 11, MRV-B 8, TD2 7 */
 
 /*
  * What an entry holds. The fields are characters, A-Z, 0-9 and the filler <, and no zero ends them:
- * each fills its array, document_number and name with fillers behind their lengths.
+ * each fills its array, document_number, name and data with fillers behind their lengths.
+ *
+ * data is the issuer's own: TD3's personal number, the optional data of TD2 and of visas, and TD1's of
+ * the second line; the first line's is in no record. Behind a long document number of TD2 it is what
+ * follows the filler there, at most 4 characters, and none where the number has 14. It may begin with
+ * fillers and have some inside, and does not end in one; data_len is 0 where there is none.
  */
 typedef struct lamphudet_record {
     uint32_t number; /* LAMPHUDET_NOT_REFUSED, or 18 */
@@ -133,6 +141,7 @@ typedef struct lamphudet_record {
     uint8_t document_number_len, name_len;
     uint8_t code[2], state[3], nationality[3], birth[6], expiry[6];
     uint8_t document_number[LAMPHUDET_NUMBER_MAX], name[LAMPHUDET_NAME_MAX];
+    uint8_t data_len, data[LAMPHUDET_DATA_MAX];
 } lamphudet_record;
 
 LAMPHUDET_ASSERT_AT(lamphudet_record, number, 0);
@@ -148,7 +157,9 @@ LAMPHUDET_ASSERT_AT(lamphudet_record, birth, 20);
 LAMPHUDET_ASSERT_AT(lamphudet_record, expiry, 26);
 LAMPHUDET_ASSERT_AT(lamphudet_record, document_number, 32);
 LAMPHUDET_ASSERT_AT(lamphudet_record, name, 54);
-LAMPHUDET_ASSERT_SIZE(lamphudet_record, 96);
+LAMPHUDET_ASSERT_AT(lamphudet_record, data_len, 93);
+LAMPHUDET_ASSERT_AT(lamphudet_record, data, 94);
+LAMPHUDET_ASSERT_SIZE(lamphudet_record, 112);
 
 /*
  * The refusals. These numbers stay what they are.
@@ -372,12 +383,17 @@ static inline const char *lamphudet_field(const uint8_t *text, size_t text_len, 
  *
  * What it holds is told by lamphudet_open_entry. The bits, the most significant first: house 15,
  * form 3 (TD1 0, TD2 1, TD3 2, MRV-A 3, MRV-B 4), state 18, number 132 (filled up with <), birth 36,
- * expiry 36, which is the key; then code 12, nationality 18, sex 2 (< 0, F 1, M 2), name length 6,
- * name, and zero bits to the next octet. A character is 6 bits: < 0, digits 1 to 10, letters 11 to
- * 36.
+ * expiry 36, which is the key; then code 12, nationality 18, sex 2 (< 0, F 1, M 2), data length 5,
+ * data, name length 6, name, and zero bits to the next octet. A character is 6 bits: < 0, digits 1 to
+ * 10, letters 11 to 36. With m characters of data and n of the name these are 283 + 6 (m + n) bits.
+ *
+ * Before version 0.3.0 an entry had no data. Of the entries that were kept then most are refused by 18,
+ * and some read as another record: that of a TD3 with the name BDFHJLNBLNPRTV as one with the data
+ * 56789AB and the name ABCDEF. So a store of old entries is emptied before the first new one goes in;
+ * nothing reads them.
  */
-#define LAMPHUDET_ENTRY_MIN 36 /* octets of the shortest entry */
-#define LAMPHUDET_ENTRY_MAX 64 /* octets of the longest entry */
+#define LAMPHUDET_ENTRY_MIN 37 /* octets of the shortest entry: a name of one character, and no data */
+#define LAMPHUDET_ENTRY_MAX 77 /* octets of the longest entry: MRV-A's longest name and data */
 #define LAMPHUDET_KEY 30       /* octets of an entry's key */
 #define LAMPHUDET_TEXT_MAX 90  /* characters of the longest text: TD1; TD2 and MRV-B have 72, TD3 and MRV-A 88 */
 #define LAMPHUDET_DIGEST 32    /* octets of a digest */
@@ -480,9 +496,10 @@ lamphudet_stretch lamphudet_group_file(const uint8_t *presentation, size_t prese
 /*
  * Writes the text of an entry's record to the first octets of text, lines joined, and answers 0 and
  * how many these are: 90 for TD1, 72 for TD2 and MRV-B, 88 for TD3 and MRV-A. The house stands in no
- * text. Optional places that a long number does not need are fillers, and TD3's personal check is 0,
- * also where < stood for it: a text that was read comes back as it was, but for optional data and the
- * checks over them.
+ * text. The data stands in its place, fillers in every optional place that neither it nor a long number
+ * needs, and TD3's personal check is the digit of the data: 0 where there is none, also where < stood for
+ * it. A text that was read comes back as it was, but for that <, and for what TD1's first line has behind
+ * the document number, with the composite check digit over it.
  *
  * Refuses, in this order:
  *   18  at 0: entry is not exactly one entry; none at all, a part of one, or one with anything

@@ -31,13 +31,19 @@ void show_record(const lamphudet_record *record)
     printf("  sex          %c\n", record->sex);
     printf("  expiry       %.*s\n", WHOLE(record->expiry));
     printf("  name         %.*s\n", UP_TO(record->name, record->name_len));
+    /* The one field that may be empty. */
+    if (record->data_len > 0) {
+        printf("  data         %.*s\n", UP_TO(record->data, record->data_len));
+    } else {
+        puts("  data         none");
+    }
 }
 
 /* Columns of one width each, but for the name, which is last. */
 void show_heading(void)
 {
-    printf("  %6s  %5s  %-5s  %-4s  %-5s  %-22s  %-6s  %-6s  %-3s  %-6s  %s\n", "offset", "house", "form", "code", "state",
-           "number", "nation", "birth", "sex", "expiry", "name");
+    printf("  %6s  %5s  %-5s  %-4s  %-5s  %-22s  %-6s  %-6s  %-3s  %-6s  %-16s  %s\n", "offset", "house", "form", "code",
+           "state", "number", "nation", "birth", "sex", "expiry", "data", "name");
 }
 
 void show_row(uint64_t offset, const lamphudet_record *record)
@@ -47,5 +53,5 @@ void show_row(uint64_t offset, const lamphudet_record *record)
     printf("  %-22.*s", UP_TO(record->document_number, record->document_number_len));
     printf("  %-6.*s  %-6.*s", WHOLE(record->nationality), WHOLE(record->birth));
     printf("  %-3c  %-6.*s", record->sex, WHOLE(record->expiry));
-    printf("  %.*s\n", UP_TO(record->name, record->name_len));
+    printf("  %-16.*s  %.*s\n", UP_TO(record->data, record->data_len), UP_TO(record->name, record->name_len));
 }

@@ -39,6 +39,7 @@ cat "$expected/t3" "$expected/no-characters" "$expected/t3" > "$folder/several"
 holds 'one refused among several' 1 "$folder/several" text "$first$second" '' "$first$second"
 
 holds 'the specimens' 0 "$expected/specimens" text --file $samples/specimens.text
+holds "the issuer's data" 0 "$expected/data" text --house 258 --file $samples/data.text
 holds 'long numbers, the greatest house' 0 "$expected/long-numbers" text --house 32767 --file $samples/long-numbers.text
 holds 'each refusal of a text' 1 "$expected/refused" text --file $samples/refused.text
 

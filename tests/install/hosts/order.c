@@ -72,7 +72,7 @@ int main(void)
         lamphudet_answer written = lamphudet_write_text(kept[at].octets, kept[at].len, text, sizeof text);
 
         right = record.house == in_order[at].house && written.value == strlen(in_order[at].text)
-             && memcmp(text, in_order[at].text, 44) == 0;
+             && memcmp(text, in_order[at].text, (size_t)written.value) == 0;
     }
     printf("order %s\n", right ? "right" : "WRONG");
     return !right;

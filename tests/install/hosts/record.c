@@ -3,7 +3,9 @@
  * found again as the only entry of a run, is opened to the fields that the text has, and is written back; with a filler for
  * the check of its personal number it has the same entry; what is refused opens to the blank record; a wrong check digit is
  * told with the one that was expected; the visas that Doc 9303-7 prints are read to entries with forms of their own, opened
- * and written back; and every refusal has words of its own. Exit status 0 where all of that is so.
+ * and written back; the issuer's data is kept and written back, in a TD3 and behind a long number of TD2, is in no key, and an
+ * entry of before there was data may be read as another record; and every refusal has words of its own. Exit status 0 where
+ * all of that is so.
  */
 #include "holds.h"
 
@@ -27,18 +29,19 @@ static int is_t3(lamphudet_record record)
         && holds(record.nationality, sizeof record.nationality, "UTO")
         && holds(record.birth, sizeof record.birth, "900115") && holds(record.expiry, sizeof record.expiry, "300630")
         && record.document_number_len == 2 && holds(record.document_number, sizeof record.document_number, "K7")
-        && record.name_len == 10 && holds(record.name, sizeof record.name, "NORD<<ELIN");
+        && record.name_len == 10 && holds(record.name, sizeof record.name, "NORD<<ELIN")
+        && record.data_len == 0 && holds(record.data, sizeof record.data, "");
 }
 
 static int is_blank(lamphudet_record record)
 {
     return record.number == LAMPHUDET_REFUSED_ENTRY && record.house == 0 && record.form == LAMPHUDET_TD1
-        && record.sex == '<' && record.document_number_len == 0 && record.name_len == 0
+        && record.sex == '<' && record.document_number_len == 0 && record.name_len == 0 && record.data_len == 0
         && holds(record.code, sizeof record.code, "") && holds(record.state, sizeof record.state, "")
         && holds(record.nationality, sizeof record.nationality, "")
         && holds(record.birth, sizeof record.birth, "") && holds(record.expiry, sizeof record.expiry, "")
         && holds(record.document_number, sizeof record.document_number, "")
-        && holds(record.name, sizeof record.name, "");
+        && holds(record.name, sizeof record.name, "") && holds(record.data, sizeof record.data, "");
 }
 
 static int accepted(void)
@@ -72,7 +75,7 @@ static int refused(void)
         && is(lamphudet_write_text(NULL, 0, text, sizeof text), LAMPHUDET_REFUSED_ENTRY, 0)
         && is_blank(lamphudet_open_entry(NULL, 0))
         && is_blank(lamphudet_open_entry(entry, sizeof entry))
-        && is(lamphudet_next_entry(entry, sizeof entry, 65), LAMPHUDET_REFUSED_ENTRY, 65)
+        && is(lamphudet_next_entry(entry, sizeof entry, 78), LAMPHUDET_REFUSED_ENTRY, 78)
         && entry[0] == 0;
 }
 
@@ -121,17 +124,24 @@ static int expected(void)
     return 1;
 }
 
-/* The specimens of Doc 9303-7, and how many characters stand before their optional data. */
+/* The specimens of Doc 9303-7, each with its data and the octets of its entry: 283 + 6 * (20 + 10) bits, and 283 + 6 * 20. */
 static const struct {
-    const char *text;
+    const char *text, *data;
     uint8_t form;
-    size_t before;
+    size_t octets;
 } visas[] = {
-    { "V<UTOERIKSSON<<ANNA<MARIA<<<<<<<<<<<<<<<<<<<" "L8988901C4XXX4009078F96121096ZE184226B<<<<<<", LAMPHUDET_MRV_A, 72 },
-    { "V<UTOERIKSSON<<ANNA<MARIA<<<<<<<<<<<" "L8988901C4XXX4009078F9612109<<<<<<<<", LAMPHUDET_MRV_B, 64 },
+    { "V<UTOERIKSSON<<ANNA<MARIA<<<<<<<<<<<<<<<<<<<" "L8988901C4XXX4009078F96121096ZE184226B<<<<<<", "6ZE184226B",
+      LAMPHUDET_MRV_A, 58 },
+    { "V<UTOERIKSSON<<ANNA<MARIA<<<<<<<<<<<" "L8988901C4XXX4009078F9612109<<<<<<<<", "", LAMPHUDET_MRV_B, 51 },
 };
 
-static int is_visa(lamphudet_record record, uint8_t form)
+/* Data of a record, with fillers behind it. */
+static int has_data(const lamphudet_record *record, const char *data)
+{
+    return record->data_len == strlen(data) && holds(record->data, sizeof record->data, data);
+}
+
+static int is_visa(lamphudet_record record, uint8_t form, const char *data)
 {
     return record.number == 0 && record.house == 1 && record.form == form && record.sex == 'F'
         && holds(record.code, sizeof record.code, "V") && holds(record.state, sizeof record.state, "UTO")
@@ -139,21 +149,24 @@ static int is_visa(lamphudet_record record, uint8_t form)
         && holds(record.birth, sizeof record.birth, "400907") && holds(record.expiry, sizeof record.expiry, "961210")
         && record.document_number_len == 9
         && holds(record.document_number, sizeof record.document_number, "L8988901C")
-        && record.name_len == 20 && holds(record.name, sizeof record.name, "ERIKSSON<<ANNA<MARIA");
+        && record.name_len == 20 && holds(record.name, sizeof record.name, "ERIKSSON<<ANNA<MARIA")
+        && has_data(&record, data);
 }
 
-/* 278 + 6 * 20 bits are 50 octets. Written back with fillers for the optional data, of which a text is as long as before. */
-static int visa_kept(const char *given, uint8_t form, size_t before)
+/* Written back as it was. */
+static int visa_kept(size_t at)
 {
     uint8_t entry[LAMPHUDET_ENTRY_MAX];
     uint8_t text[LAMPHUDET_TEXT_MAX];
-    size_t len = strlen(given);
+    size_t len = strlen(visas[at].text);
+    size_t octets = visas[at].octets;
+    uint8_t form = visas[at].form;
 
-    return is(lamphudet_read_text(1, (const uint8_t *)given, len, entry, sizeof entry), 0, 50)
+    return is(lamphudet_read_text(1, (const uint8_t *)visas[at].text, len, entry, sizeof entry), 0, octets)
         && (entry[1] & 1) == form >> 2 && entry[2] >> 6 == (form & 3)
-        && is_visa(lamphudet_open_entry(entry, 50), form)
-        && is(lamphudet_write_text(entry, 50, text, sizeof text), 0, len)
-        && memcmp(text, given, before) == 0 && holds(text + before, len - before, "");
+        && is_visa(lamphudet_open_entry(entry, octets), form, visas[at].data)
+        && is(lamphudet_write_text(entry, octets, text, sizeof text), 0, len)
+        && memcmp(text, visas[at].text, len) == 0;
 }
 
 /* A filler for the number's check digit, which is 4, is a wrong one; V and a digit is no document code. */
@@ -178,11 +191,58 @@ static int of_visas(void)
     size_t at;
 
     for (at = 0; at < sizeof visas / sizeof visas[0]; at++) {
-        if (!visa_kept(visas[at].text, visas[at].form, visas[at].before) || !visa_refused(visas[at].text)) {
+        if (!visa_kept(at) || !visa_refused(visas[at].text)) {
             return 0;
         }
     }
     return 1;
+}
+
+/* The specimen of Doc 9303-4 with its personal number, and the long number of Doc 9303-6 with two characters behind it. */
+static const struct {
+    const char *text, *data;
+} issued[] = {
+    { "P<UTOERIKSSON<<ANNA<MARIA<<<<<<<<<<<<<<<<<<<" "L898902C36UTO7408122F1204159ZE184226B<<<<<10", "ZE184226B" },
+    { "I<UTOSTEVENSON<<PETER<JOHN<<<<<<<<<<" "D23145890<UTO3407127M95071227349<<B5", "<B" },
+};
+
+/* The same TD3 with and without its personal number: two entries with one key. */
+static int apart(void)
+{
+    static const char without[] = "P<UTOERIKSSON<<ANNA<MARIA<<<<<<<<<<<<<<<<<<<" "L898902C36UTO7408122F1204159<<<<<<<<<<<<<<08";
+    uint8_t one[LAMPHUDET_ENTRY_MAX];
+    uint8_t other[LAMPHUDET_ENTRY_MAX];
+
+    return is(lamphudet_read_text(1, (const uint8_t *)issued[0].text, 88, one, sizeof one), 0, 58)
+        && is(lamphudet_read_text(1, (const uint8_t *)without, 88, other, sizeof other), 0, 51)
+        && memcmp(one, other, LAMPHUDET_KEY) == 0 && memcmp(one, other, 51) != 0;
+}
+
+/* An entry as it was before there was data, of T3 with the name BDFHJLNBLNPRTV and house 1. */
+static const uint8_t old[46] = {
+    0x00, 0x02, 0x9f, 0x79, 0x95, 0x48, 0x00, 0x00, 0x00, 0x00, 0x00, 0x00, 0x00, 0x00, 0x00, 0x00,
+    0x00, 0x00, 0x00, 0x00, 0x00, 0x28, 0x10, 0x42, 0x08, 0x61, 0x01, 0x04, 0x71, 0x01, 0x68, 0x07,
+    0xde, 0x65, 0x38, 0xc3, 0x90, 0x49, 0x45, 0x98, 0x31, 0x66, 0x1a, 0x71, 0xe8, 0x00,
+};
+
+static int of_data(void)
+{
+    lamphudet_record of_old = lamphudet_open_entry(old, sizeof old);
+    int right = apart() && of_old.number == 0 && has_data(&of_old, "56789AB") && holds(of_old.name, sizeof of_old.name, "ABCDEF");
+    size_t at;
+
+    for (at = 0; at < sizeof issued / sizeof issued[0]; at++) {
+        uint8_t entry[LAMPHUDET_ENTRY_MAX];
+        uint8_t text[LAMPHUDET_TEXT_MAX];
+        size_t len = strlen(issued[at].text);
+        lamphudet_answer answer = lamphudet_read_text(1, (const uint8_t *)issued[at].text, len, entry, sizeof entry);
+        lamphudet_record record = lamphudet_open_entry(entry, (size_t)answer.value);
+
+        right = right && answer.number == 0 && has_data(&record, issued[at].data)
+             && is(lamphudet_write_text(entry, (size_t)answer.value, text, sizeof text), 0, len)
+             && memcmp(text, issued[at].text, len) == 0;
+    }
+    return right;
 }
 
 /* The words of each number are apart from each other, but for numbers that are none, which all have the same. */
@@ -208,9 +268,10 @@ int main(void)
     int kept = accepted() && left_out();
     int kept_out = refused() && expected();
     int visas_too = of_visas();
+    int data_too = of_data();
     int told = in_words();
 
-    printf("T3 %s, refusals %s, visas %s, words %s\n", kept ? "kept" : "NOT kept", kept_out ? "right" : "WRONG",
-           visas_too ? "right" : "WRONG", told ? "right" : "WRONG");
-    return !(kept && kept_out && visas_too && told);
+    printf("T3 %s, refusals %s, visas %s, data %s, words %s\n", kept ? "kept" : "NOT kept", kept_out ? "right" : "WRONG",
+           visas_too ? "right" : "WRONG", data_too ? "right" : "WRONG", told ? "right" : "WRONG");
+    return !(kept && kept_out && visas_too && data_too && told);
 }

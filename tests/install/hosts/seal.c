@@ -20,7 +20,7 @@ static const char text[] = "I<UTOERIKSSON<<ANNA<MARIA<<<<<<<<<<<"
                            "D231458907UTO7408122F1204159<<<<<<<6";
 
 /* Where things stand in it, and all of it. */
-enum { TEXT = 18, ZONE = 68, SIGNATURE = 70, ALL = 134, ENTRY = 50 };
+enum { TEXT = 18, ZONE = 68, SIGNATURE = 70, ALL = 134, ENTRY = 51 };
 
 static void put_together(uint8_t *made)
 {
@@ -82,17 +82,17 @@ static int refused(uint8_t *made)
     const uint8_t *end = entry + sizeof entry;
     uint8_t *at = entry;
     int right = is_refused(lamphudet_read_seal(1, NULL, 0, NULL, 0), LAMPHUDET_REFUSED_SEAL_HEADER, 0)
-             && is_refused(lamphudet_read_seal(1, long_one, sizeof long_one, entry, 64), LAMPHUDET_REFUSED_LENGTH, 0)
-             && is_refused(lamphudet_read_seal(1, made, TEXT, entry, 64), LAMPHUDET_REFUSED_SEAL_FEATURE, TEXT)
-             && is_refused(lamphudet_read_seal(1, made, ZONE, entry, 64), LAMPHUDET_REFUSED_SEAL_SIGNATURE, ZONE)
+             && is_refused(lamphudet_read_seal(1, long_one, sizeof long_one, entry, sizeof entry), LAMPHUDET_REFUSED_LENGTH, 0)
+             && is_refused(lamphudet_read_seal(1, made, TEXT, entry, sizeof entry), LAMPHUDET_REFUSED_SEAL_FEATURE, TEXT)
+             && is_refused(lamphudet_read_seal(1, made, ZONE, entry, sizeof entry), LAMPHUDET_REFUSED_SEAL_SIGNATURE, ZONE)
              && is_refused(lamphudet_read_seal(0, made, ALL, entry, 0), LAMPHUDET_REFUSED_UNSOUND, 0)
              && is_refused(lamphudet_read_seal(1, made, ALL, entry, ENTRY - 1), LAMPHUDET_REFUSED_OUTPUT, 0);
 
     /* The text ends in 5, and not in 6. */
     made[ZONE - 1]--;
-    right = right && is_refused_with(lamphudet_read_seal(1, made, ALL, entry, 64), LAMPHUDET_REFUSED_DIGIT, 6, TEXT);
+    right = right && is_refused_with(lamphudet_read_seal(1, made, ALL, entry, sizeof entry), LAMPHUDET_REFUSED_DIGIT, 6, TEXT);
     made[TEXT + 2] = 0xff;
-    right = right && is_refused(lamphudet_read_seal(1, made, ALL, entry, 64), LAMPHUDET_REFUSED_SEAL_TEXT, TEXT);
+    right = right && is_refused(lamphudet_read_seal(1, made, ALL, entry, sizeof entry), LAMPHUDET_REFUSED_SEAL_TEXT, TEXT);
     while (at < end && *at == 0) {
         at++;
     }

@@ -22,7 +22,7 @@ try 'a file whose name begins with dashes' dashes_taken
 
 # Entries that were accepted go to a file, which is a run: each seal's, in order.
 cat "$expected/seal" "$expected/24-dc" "$expected/version-03" > "$folder/several"
-echo "  written      2 entries, 100 octets, to $folder/kept" >> "$folder/several"
+echo "  written      2 entries, 102 octets, to $folder/kept" >> "$folder/several"
 holds 'entries are written' 1 "$folder/several" \
     --out "$folder/kept" --hex "$samples/seal.hex" "$samples/24-dc.hex" "$samples/version-03.hex"
 entries_of() {

@@ -3,9 +3,11 @@
 use crate::lines::{header, other, printed, text, text_of, zone, Element, Lines};
 use crate::{sample, Sample};
 use paper::day::Day;
+use paper::form::Form;
 use paper::seal::header::Header;
 use paper::seal::MARKER;
-use paper::specimens::LONG_TD2;
+use paper::specimens::{ERIKSSON_TD2, LONG_TD2};
+use paper::text::composite;
 
 pub fn all() -> Vec<Sample> {
     [papers(), versions(), rest()].into_iter().flatten().collect()
@@ -64,6 +66,13 @@ fn versions() -> Vec<Sample> {
     ]
 }
 
+/// A text of TD2 with these characters at a place, and the last digit that fits them.
+fn with_data(text: &str, place: usize, data: &str) -> String {
+    let mut other = [&text[..place], data, &text[place + data.len()..]].concat().into_bytes();
+    other[71] = composite(Form::Td2.layout(), &other);
+    String::from_utf8(other).expect("characters of the alphabet")
+}
+
 fn rest() -> Vec<Sample> {
     let (issued, signed_on) = (Day { year: 1, month: 1, day: 1 }, Day { year: 2000, month: 2, day: 29 });
     let early = Header { country: *b"D<<", issued, signed_on, ..printed() };
@@ -76,6 +85,16 @@ fn rest() -> Vec<Sample> {
             "Accepted: the first day of year 1, and 29 February of 2000, which is a leap year. The country is D with\n\
              two spaces, which are fillers. The document's number is longer than its field.",
             Lines::of(&early, &[text_of(LONG_TD2), zone()]),
+        ),
+        sample(
+            "data",
+            "Accepted: the document has optional data, which fills its seven places; the spaces in it are fillers.",
+            Lines::of(&printed(), &[text_of(&with_data(ERIKSSON_TD2, 64, "<7A<B42")), zone()]),
+        ),
+        sample(
+            "data-long-number",
+            "Accepted: the document's number is longer than its field, and what follows the filler behind it is the data.",
+            Lines::of(&printed(), &[text_of(&with_data(LONG_TD2, 69, "<B")), zone()]),
         ),
         sample(
             "features",
