@@ -25,6 +25,8 @@ pub enum Job {
     OpenEntry,
     /// One entry read, and its text written.
     WriteText,
+    /// One of these calls, over passports with data or without.
+    Passport(Call, Data),
     /// One presentation of so many octets read, and its entry written.
     ReadPresentation(usize),
     /// The digests of that presentation's group files, and nothing else.
@@ -39,6 +41,22 @@ pub enum Job {
     ReadSealText,
 }
 
+/// A call over texts or entries.
+#[derive(Clone, Copy, Debug, PartialEq, Eq)]
+pub enum Call {
+    Read,
+    Next,
+    Open,
+    Write,
+}
+
+/// What stands in the field of the issuer's own data: nothing, or as much as a passport has room for.
+#[derive(Clone, Copy, Debug, PartialEq, Eq)]
+pub enum Data {
+    Empty,
+    Full,
+}
+
 impl Job {
     /// One block, two sizes between, and the longest input.
     pub const DIGESTS: [Job; 4] = [Job::Digest(64), Job::Digest(1_024), Job::Digest(16_384), Job::Digest(65_535)];
@@ -51,6 +69,17 @@ impl Job {
         Job::NextEntry,
         Job::OpenEntry,
         Job::WriteText,
+    ];
+    /// Each call without data and with.
+    pub const PASSPORTS: [Job; 8] = [
+        Job::Passport(Call::Read, Data::Empty),
+        Job::Passport(Call::Read, Data::Full),
+        Job::Passport(Call::Next, Data::Empty),
+        Job::Passport(Call::Next, Data::Full),
+        Job::Passport(Call::Open, Data::Empty),
+        Job::Passport(Call::Open, Data::Full),
+        Job::Passport(Call::Write, Data::Empty),
+        Job::Passport(Call::Write, Data::Full),
     ];
     /// 2, 16 and 60 KB.
     pub const PRESENTATIONS: [Job; 3] =
@@ -75,6 +104,7 @@ impl Job {
             Job::NextEntry => "next_entry",
             Job::OpenEntry => "open_entry",
             Job::WriteText => "write_text",
+            Job::Passport(call, data) => return format!("passport_{call:?}_{data:?}"),
             Job::ReadPresentation(_) => "read_presentation",
             Job::DigestFiles(_) => "digest_files",
             Job::ReadWorst(worst) => return format!("read_{worst:?}"),
@@ -95,6 +125,7 @@ impl Job {
             Job::NextEntry => "entries read".into(),
             Job::OpenEntry => "entries opened".into(),
             Job::WriteText => "texts written from entries".into(),
+            Job::Passport(call, data) => format!("{}{}", done(call), with(data)),
             Job::ReadWorst(worst) => format!("{}, read", told(worst)),
             Job::FindInWorst(worst) => format!("{}, a file looked for", told(worst)),
             Job::ReadSeal => "seal of 134 octets read, entry written".into(),
@@ -124,9 +155,25 @@ impl Job {
         let size = size.parse().expect("a size");
         let digested = Job::PRESENTATIONS.map(|job| Job::DigestFiles(job.size()));
         let octets = Job::DIGESTS.into_iter().chain(Job::PRESENTATIONS).chain(digested).chain(Job::WORST);
-        let mut jobs = octets.chain(Job::RECORDS).chain(Job::SEALS);
+        let mut jobs = octets.chain(Job::RECORDS).chain(Job::PASSPORTS).chain(Job::SEALS);
         let found = jobs.find(|job| job.kind() == kind && job.size() == size);
         found.expect("the name of a job")
+    }
+}
+
+fn done(call: Call) -> &'static str {
+    match call {
+        Call::Read => "texts read, entries written",
+        Call::Next => "entries read",
+        Call::Open => "entries opened",
+        Call::Write => "texts written from entries",
+    }
+}
+
+fn with(data: Data) -> &'static str {
+    match data {
+        Data::Empty => "",
+        Data::Full => ", with data",
     }
 }
 

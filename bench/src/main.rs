@@ -15,6 +15,7 @@ mod libcrypto;
 mod page;
 mod painted;
 mod pair;
+mod passports;
 mod presentations;
 mod ratio;
 mod records;

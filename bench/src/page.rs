@@ -11,12 +11,19 @@ use crate::worst;
 
 const WORDS: &str = include_str!("page.md");
 const BOTH: [Contender; 2] = [Contender::Library, Contender::Rust];
-const KINDS: [(&str, Kind); 4] =
-    [("digest", DIGESTS), ("record", RECORDS), ("presentation", PRESENTATIONS), ("seal", SEALS)];
+const KINDS: [(&str, Kind); 5] = [
+    ("digest", DIGESTS),
+    ("record", RECORDS),
+    ("passport", PASSPORTS),
+    ("presentation", PRESENTATIONS),
+    ("seal", SEALS),
+];
 const DIGESTS: Kind =
     Kind { title: "octets", unit: Unit::Nanoseconds, contenders: &Contender::ALL, jobs: &Job::DIGESTS, given: None };
 const RECORDS: Kind =
     Kind { title: "call", unit: Unit::ASecond, contenders: &BOTH, jobs: &Job::RECORDS, given: Some(PORTABLE_C) };
+const PASSPORTS: Kind =
+    Kind { title: "call", unit: Unit::ASecond, contenders: &BOTH, jobs: &Job::PASSPORTS, given: None };
 const PRESENTATIONS: Kind =
     Kind { title: "octets", unit: Unit::ASecond, contenders: &BOTH, jobs: &Job::PRESENTATIONS, given: None };
 const SEALS: Kind = Kind { title: "call", unit: Unit::ASecond, contenders: &BOTH, jobs: &Job::SEALS, given: None };
@@ -58,6 +65,6 @@ mod tests {
         page = with(page, "seal ratio", table);
         page = with(page, "stack", table);
         assert!(!page.contains('{'));
-        assert_eq!(page.matches("| call |").count(), 12);
+        assert_eq!(page.matches("| call |").count(), 14);
     }
 }

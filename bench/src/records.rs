@@ -26,18 +26,14 @@ pub fn of(contender: Contender, job: Job) -> Option<Work> {
         }
         (Contender::Library, Job::ReadMixed) => Some(mixed(|text, room| border::read_text(1, text, room))),
         (Contender::Library, Job::WriteText) => Some(over(entries(), border::write_text)),
-        (Contender::Library, Job::OpenEntry) => Some(opening(border::open_entry)),
-        (Contender::Library, Job::NextEntry) => Some(along(border::next_entry)),
+        (Contender::Library, Job::OpenEntry) => Some(opening(entries(), border::open_entry)),
+        (Contender::Library, Job::NextEntry) => Some(along(entries(), border::next_entry)),
         (Contender::Rust, Job::ReadText) => Some(over(texts(), read_text)),
         (Contender::Rust, Job::ReadForm(form)) => Some(over(texts_of(form), read_text)),
         (Contender::Rust, Job::ReadMixed) => Some(mixed(read_text)),
-        (Contender::Rust, Job::WriteText) => Some(over(entries(), |entry, room| {
-            let outcome = calls::write_text(entry, room.len());
-            room[..outcome.written.len()].copy_from_slice(&outcome.written);
-            outcome.answer
-        })),
-        (Contender::Rust, Job::OpenEntry) => Some(opening(calls::open_entry)),
-        (Contender::Rust, Job::NextEntry) => Some(along(calls::next_entry)),
+        (Contender::Rust, Job::WriteText) => Some(over(entries(), write_text)),
+        (Contender::Rust, Job::OpenEntry) => Some(opening(entries(), calls::open_entry)),
+        (Contender::Rust, Job::NextEntry) => Some(along(entries(), calls::next_entry)),
         _ => None,
     }
 }
@@ -45,6 +41,13 @@ pub fn of(contender: Contender, job: Job) -> Option<Work> {
 /// The independent implementation's.
 pub fn read_text(text: &[u8], room: &mut [u8]) -> Answer {
     let outcome = calls::read_text(1, text, room.len());
+    room[..outcome.written.len()].copy_from_slice(&outcome.written);
+    outcome.answer
+}
+
+/// Likewise.
+pub fn write_text(entry: &[u8], room: &mut [u8]) -> Answer {
+    let outcome = calls::write_text(entry, room.len());
     room[..outcome.written.len()].copy_from_slice(&outcome.written);
     outcome.answer
 }
@@ -104,7 +107,7 @@ fn damaged(seeds: &mut Seeds) -> Vec<u8> {
 }
 
 /// One of what is lent at each turn. A refusal would be quicker than the work, so none may come.
-fn over(lent: Vec<Vec<u8>>, call: impl Fn(&[u8], &mut [u8]) -> Answer + 'static) -> Work {
+pub fn over(lent: Vec<Vec<u8>>, call: impl Fn(&[u8], &mut [u8]) -> Answer + 'static) -> Work {
     let (mut at, mut room) = (0, [0; 90]);
     Box::new(move || {
         assert_eq!(call(&lent[at], &mut room).number, 0);
@@ -124,8 +127,8 @@ fn mixed(call: impl Fn(&[u8], &mut [u8]) -> Answer + 'static) -> Work {
 }
 
 /// One entry at each turn, and every field of it, which the compiler must not leave out.
-fn opening(call: impl Fn(&[u8]) -> Opened + 'static) -> Work {
-    over(entries(), move |entry, _| {
+pub fn opening(entries: Vec<Vec<u8>>, call: impl Fn(&[u8]) -> Opened + 'static) -> Work {
+    over(entries, move |entry, _| {
         let opened = call(entry);
         whole(&opened);
         Answer { number: opened.number, ..Answer::not_refused(0) }
@@ -133,8 +136,8 @@ fn opening(call: impl Fn(&[u8]) -> Opened + 'static) -> Work {
 }
 
 /// The next entry of a run at each turn, and the first one after the last.
-fn along(call: impl Fn(&[u8], u64) -> Answer + 'static) -> Work {
-    let (run, mut offset) = (entries().concat(), 0);
+pub fn along(entries: Vec<Vec<u8>>, call: impl Fn(&[u8], u64) -> Answer + 'static) -> Work {
+    let (run, mut offset) = (entries.concat(), 0);
     Box::new(move || {
         let answer = call(&run, offset);
         assert_eq!(answer.number, 0);

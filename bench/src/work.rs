@@ -2,7 +2,7 @@
 
 use crate::contender::Contender;
 use crate::job::{Job, Work};
-use crate::{digests, presentations, records, seals, worst};
+use crate::{digests, passports, presentations, records, seals, worst};
 
 /// None where the contender is not installed, or does not do such work.
 pub fn of(contender: Contender, job: Job) -> Option<Work> {
@@ -10,6 +10,7 @@ pub fn of(contender: Contender, job: Job) -> Option<Work> {
         Job::Digest(size) => digests::of(contender, size),
         Job::ReadText | Job::ReadForm(_) | Job::ReadMixed => records::of(contender, job),
         Job::NextEntry | Job::OpenEntry | Job::WriteText => records::of(contender, job),
+        Job::Passport(call, data) => passports::of(contender, call, data),
         Job::ReadPresentation(_) | Job::DigestFiles(_) => presentations::of(contender, job),
         Job::ReadWorst(_) | Job::FindInWorst(_) => worst::of(contender, job),
         Job::ReadSeal | Job::ReadSealText => seals::of(contender, job),
