@@ -1,24 +1,34 @@
-//! EF.COM, from document 01, "Stages of a presentation", stage 3; source document 000, 5.1.
+//! EF.COM, from document 01, "Stages of a presentation", stage 3, and document 02, request 2026-04; source document 000, 5.1.
 
 use crate::group;
+use crate::lds::Lds;
 use crate::refusal::Refusal;
 use crate::tlv::{tlv, Element, Walk};
 
-const VERSION: &[u8] = b"0107";
 /// More tags than this are too many for a list. No list of known tags without a repeat has more.
 const MOST: usize = 15;
 
-/// The tag list of the EF.COM whose outer element was found.
-pub fn read<'a>(lent: &'a [u8], com: &Element) -> Result<&'a [u8], Refusal> {
+/// What EF.COM says.
+#[derive(Clone, Debug, PartialEq, Eq)]
+pub struct Common<'a> {
+    pub lds: Lds,
+    /// The six digits of the Unicode version.
+    pub unicode: &'a [u8],
+    /// The tag list.
+    pub tags: &'a [u8],
+}
+
+/// The EF.COM whose outer element was found.
+pub fn read<'a>(lent: &'a [u8], com: &Element) -> Result<Common<'a>, Refusal> {
     let mut walk = Walk::inside(lent, com);
     let version = walk.take(&[0x5f, 0x01])?;
-    content(&lent[version.content.clone()] == VERSION, &version)?;
+    let lds = Lds::of_told(&lent[version.content.clone()]).ok_or(Refusal::at(11, version.whole.start))?;
     let unicode = walk.take(&[0x5f, 0x36])?;
     content(is_unicode(&lent[unicode.content.clone()]), &unicode)?;
     let list = walk.take(&[0x5c])?;
     listed(lent, &list)?;
     walk.close()?;
-    Ok(&lent[list.content])
+    Ok(Common { lds, unicode: &lent[unicode.content], tags: &lent[list.content] })
 }
 
 /// 11 at an element whose content is not as it should be.
@@ -44,9 +54,9 @@ fn listed(lent: &[u8], list: &Element) -> Result<(), Refusal> {
     content(tags.len() <= MOST, list)
 }
 
-/// The EF.COM that lists these tags.
-pub fn write(unicode: &[u8; 6], tags: &[u8]) -> Vec<u8> {
-    let held = [tlv(&[0x5f, 0x01], VERSION), tlv(&[0x5f, 0x36], unicode), tlv(&[0x5c], tags)];
+/// The EF.COM that says these versions and lists these tags.
+pub fn write(lds: Lds, unicode: &[u8; 6], tags: &[u8]) -> Vec<u8> {
+    let held = [tlv(&[0x5f, 0x01], lds.told()), tlv(&[0x5f, 0x36], unicode), tlv(&[0x5c], tags)];
     tlv(&[0x60], &held.concat())
 }
 
@@ -60,9 +70,9 @@ mod tests {
         0x5c, 0x02, 0x61, 0x75,
     ];
 
-    fn answer(com: &[u8]) -> Result<Vec<u8>, (u32, usize)> {
+    fn answer(com: &[u8]) -> Result<Common<'_>, (u32, usize)> {
         let element = Walk::over(com).take(&[0x60]).unwrap();
-        read(com, &element).map(<[u8]>::to_vec).map_err(|refusal| (refusal.number, refusal.place))
+        read(com, &element).map_err(|refusal| (refusal.number, refusal.place))
     }
 
     fn with(place: usize, octets: &[u8]) -> Vec<u8> {
@@ -73,14 +83,21 @@ mod tests {
 
     #[test]
     fn one_by_hand() {
-        assert_eq!(write(b"040000", &[0x61, 0x75]), BY_HAND);
-        assert_eq!(answer(&BY_HAND), Ok(vec![0x61, 0x75]));
-        assert_eq!(answer(&write(b"999999", &[])), Ok(vec![]));
+        assert_eq!(write(Lds::V17, b"040000", &[0x61, 0x75]), BY_HAND);
+        let common = Common { lds: Lds::V17, unicode: b"040000", tags: &[0x61, 0x75] };
+        assert_eq!(answer(&BY_HAND), Ok(common.clone()));
+        let bare = Common { lds: Lds::V17, unicode: b"999999", tags: &[] };
+        assert_eq!(answer(&write(Lds::V17, b"999999", &[])), Ok(bare));
+        // Only the last octet of the version is another.
+        assert_eq!(write(Lds::V18, b"040000", &[0x61, 0x75]), with(8, b"8"));
+        assert_eq!(answer(&with(8, b"8")), Ok(Common { lds: Lds::V18, ..common }));
     }
 
     #[test]
     fn content_of_another_value_or_length() {
-        assert_eq!(answer(&with(8, b"8")), Err((11, 2)));
+        for other in [b"0106", b"0109", b"0207", b"1108", b"1599", b"0170"] {
+            assert_eq!(answer(&with(5, other)), Err((11, 2)));
+        }
         assert_eq!(answer(&with(17, b":")), Err((11, 9)));
         assert_eq!(answer(&with(12, b"/")), Err((11, 9)));
         // 5F01 of length 5 takes the 5F that follows: well coded, and not the length named.
@@ -106,7 +123,7 @@ mod tests {
 
     #[test]
     fn lists() {
-        let of = |tags: &[u8]| answer(&write(b"040000", tags)).err();
+        let of = |tags: &[u8]| answer(&write(Lds::V17, b"040000", tags)).err();
         assert_eq!(of(&[0x61, 0x66]), Some((11, 21)));
         // The repeated one stands before the unknown one, and is looked for after it.
         assert_eq!(of(&[0x61, 0x61, 0x77]), Some((11, 22)));

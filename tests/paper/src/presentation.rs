@@ -1,9 +1,11 @@
 //! A presentation and the file of a group, from document 01, "What the server lends and gets" and "Stages of a
-//! presentation", and document 02, request 2026-05.
+//! presentation", and document 02, requests 2026-04 and 2026-05.
 
 use crate::answer::Stretch;
+use crate::com::Common;
 use crate::form::Form;
-use crate::object::Entry;
+use crate::lds::Lds;
+use crate::object::{Entry, Object, Strings};
 use crate::record::Record;
 use crate::refusal::{Refusal, LONGEST};
 use crate::sha256::sha256;
@@ -26,10 +28,13 @@ struct File {
 /// The record of a presentation, or the first refusal of the stages in number order.
 pub fn read(lent: &[u8]) -> Result<Record, Refusal> {
     let parts = parts(lent)?;
-    let listed = com::read(lent, &parts.com)?;
-    let entries = object::read(lent, &parts.object)?;
+    let common = com::read(lent, &parts.com)?;
+    let object = object::read(lent, &parts.object)?;
+    if !agree(&common, &object) {
+        return Err(Refusal::at(19, parts.object.whole.start));
+    }
     for (at, file) in parts.files.iter().enumerate() {
-        allowed(lent, file, &parts.files[..at], listed, &entries)?;
+        allowed(lent, file, &parts.files[..at], common.tags, &object.entries)?;
     }
     let first = parts.files.iter().find(|file| file.group == 1);
     let first = first.ok_or(Refusal::at(14, lent.len()))?;
@@ -53,6 +58,15 @@ fn parts(lent: &[u8]) -> Result<Parts, Refusal> {
         }
     }
     Ok(Parts { com, object, files })
+}
+
+/// "`0107` goes with object version 0, `0108` with version 1 and strings equal to EF.COM's."
+fn agree(common: &Common, object: &Object) -> bool {
+    match (common.lds, &object.strings) {
+        (Lds::V17, None) => true,
+        (Lds::V18, Some(strings)) => strings.lds == Lds::V18.told() && strings.unicode == common.unicode,
+        _ => false,
+    }
 }
 
 /// Stage 5 for one file and those lent before it.
@@ -102,9 +116,14 @@ pub fn write_text_element(text: &[u8]) -> Vec<u8> {
     tlv(&[0x5f, 0x1f], text)
 }
 
+/// A presentation of LDS 1.7.
+pub fn write(files: &[(u8, Vec<u8>)]) -> Vec<u8> {
+    write_as(Lds::V17, files)
+}
+
 /// A presentation that lists and has entries for just the groups whose files these are, and for group 2 where it would
 /// have one entry only, which are too few.
-pub fn write(files: &[(u8, Vec<u8>)]) -> Vec<u8> {
+pub fn write_as(lds: Lds, files: &[(u8, Vec<u8>)]) -> Vec<u8> {
     let octets: Vec<Vec<u8>> = files.iter().map(|(group, content)| write_file(*group, content)).collect();
     let tags: Vec<u8> = octets.iter().map(|file| file[0]).collect();
     let entry = |(group, file): (u8, &Vec<u8>)| Entry { number: group, digest: sha256(file) };
@@ -113,7 +132,9 @@ pub fn write(files: &[(u8, Vec<u8>)]) -> Vec<u8> {
         let other = if only.number == 2 { 1 } else { 2 };
         entries.push(Entry { number: other, digest: [0; 32] });
     }
-    [com::write(b"040000", &tags), object::write(&entries, true), octets.concat()].concat()
+    let strings = Strings { lds: lds.told().to_vec(), unicode: b"040000".to_vec() };
+    let object = Object { entries, strings: Some(strings).filter(|_| lds == Lds::V18) };
+    [com::write(lds, b"040000", &tags), object::write(&object, true), octets.concat()].concat()
 }
 
 #[cfg(test)]
@@ -266,7 +287,7 @@ mod tests {
     fn stages_in_number_order() {
         // A bad list, a bad version, an unknown algorithm, a group lent twice: told one after another as each is mended.
         let mut lent = [&sample()[..], &[0x75, 0x00]].concat();
-        (lent[20], lent[26], lent[40]) = (0x66, 0x01, 0x06);
+        (lent[20], lent[26], lent[40]) = (0x66, 0x02, 0x06);
         assert_eq!(refused(&lent), (11, 20));
         lent[20] = 0x61;
         assert_eq!(refused(&lent), (12, 24));
@@ -274,6 +295,89 @@ mod tests {
         assert_eq!(refused(&lent), (13, 27));
         lent[40] = 0x05;
         assert_eq!(refused(&lent), (14, 220));
+    }
+
+    /// EF.COM of 22 octets, the object of 116 at 22, whose version is the octet at 26 and whose strings stand at 126 and at 132,
+    /// group 1 of 93 at 138.
+    fn newer() -> Vec<u8> {
+        write_as(Lds::V18, &[first(), (2, b"abc".to_vec())])
+    }
+
+    #[test]
+    fn a_newer_one() {
+        let newer = newer();
+        assert_eq!(newer.len(), 236);
+        assert_eq!(newer[5..9], *b"0108");
+        assert_eq!(newer[22..27], [0x30, 0x72, 0x02, 0x01, 0x01]);
+        assert_eq!(newer[122..132], [0x30, 0x0e, 0x13, 0x04, b'0', b'1', b'0', b'8', 0x13, 0x06]);
+        assert_eq!(newer[132..143], *b"040000\x61\x5b\x5f\x1f\x58");
+        assert_eq!(read(&newer), Ok(t3()));
+    }
+
+    #[test]
+    fn versions_that_disagree() {
+        // `0107` with version 1, and `0108` with version 0: at the object's start.
+        let mut older = newer();
+        older[8] = b'7';
+        assert_eq!(refused(&older), (19, 22));
+        let mut plain = sample();
+        plain[8] = b'8';
+        assert_eq!(refused(&plain), (19, 22));
+        // Every octet of both strings, and of EF.COM's Unicode version.
+        for place in (126..130).chain(132..138).chain(12..18) {
+            let mut other = newer();
+            other[place] ^= 0x01;
+            assert_eq!(refused(&other), (19, 22));
+        }
+        // "0107" in the string of a version 1 that EF.COM calls 0107 too.
+        older[129] = b'7';
+        assert_eq!(refused(&older), (19, 22));
+    }
+
+    #[test]
+    fn strings_of_another_length_disagree() {
+        let entries = vec![Entry { number: 1, digest: [1; 32] }, Entry { number: 2, digest: [2; 32] }];
+        let with = |lds: &[u8], unicode: &[u8]| {
+            let strings = Strings { lds: lds.to_vec(), unicode: unicode.to_vec() };
+            let object = Object { entries: entries.clone(), strings: Some(strings) };
+            refused(&[com::write(Lds::V18, b"040000", &[0x61, 0x75]), object::write(&object, false)].concat())
+        };
+        // No file is lent, so what agrees is refused in stage 6.
+        assert_eq!(with(b"0108", b"040000").0, 14);
+        let others: [(&[u8], &[u8]); 8] = [
+            (b"", b"040000"),
+            (b"0108", b""),
+            (b"010", b"040000"),
+            (b"01080", b"040000"),
+            (b"0108", b"04000"),
+            (b"0108", b"0400000"),
+            // In each other's place, and both in one.
+            (b"040000", b"0108"),
+            (b"0108040000", b""),
+        ];
+        for (lds, unicode) in others {
+            assert_eq!(with(lds, unicode), (19, 22));
+        }
+    }
+
+    #[test]
+    fn agreement_stands_behind_stage_4_and_before_stage_5() {
+        // 0107, version 1, a repeated number, a digest that differs.
+        let mut lent = newer();
+        (lent[8], lent[87], lent[200]) = (b'7', 1, 0x00);
+        assert_eq!(refused(&lent), (12, 85));
+        lent[87] = 2;
+        assert_eq!(refused(&lent), (19, 22));
+        lent[8] = b'8';
+        assert_eq!(refused(&lent), (15, 138));
+        // `0107` with version 1 and no sequence: 10 at the list's end.
+        let mut without = sample();
+        without[26] = 1;
+        assert_eq!(refused(&without), (10, 122));
+        // `0108` with version 0 and the sequence: 10 where it stands.
+        let mut plain = newer();
+        plain[26] = 0;
+        assert_eq!(refused(&plain), (10, 122));
     }
 
     #[test]

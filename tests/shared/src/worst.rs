@@ -5,7 +5,8 @@
 
 use crate::files::bare_group_1;
 use crate::seeds::Seeds;
-use paper::object::{self, Entry};
+use paper::lds::Lds;
+use paper::object::{self, Entry, Object};
 use paper::presentation::{write, write_file};
 use paper::refusal::LONGEST;
 use paper::{com, group};
@@ -70,9 +71,10 @@ fn filled(mut made: Vec<u8>) -> Vec<u8> {
 }
 
 fn one_group() -> Vec<u8> {
-    let com = com::write(b"040000", &[0x61, 0x75]);
+    let com = com::write(Lds::V17, b"040000", &[0x61, 0x75]);
     let entry = Entry { number: 1, digest: [0x3c; 32] };
-    let of = |count: usize| [&com[..], &object::write(&vec![entry.clone(); count], true)].concat();
+    let object = |count: usize| object::write(&Object { entries: vec![entry.clone(); count], strings: None }, true);
+    let of = |count: usize| [&com[..], &object(count)].concat();
     // An entry has 39 octets, and the last file at least two.
     let count = (LONGEST - 2 - of(1_000).len()) / 39 + 1_000;
     filled(of(count))
@@ -81,10 +83,10 @@ fn one_group() -> Vec<u8> {
 fn longest_list() -> Vec<u8> {
     let mut seeds = Seeds::new(9303);
     // 30 00 is the object. It is not looked into.
-    let around = com::write(b"040000", &[0x61; 1_000]).len() - 1_000 + 2;
+    let around = com::write(Lds::V17, b"040000", &[0x61; 1_000]).len() - 1_000 + 2;
     let mut list = tags();
     list.resize_with(LONGEST - around, || any_tag(&mut seeds));
-    [com::write(b"040000", &list), vec![0x30, 0x00]].concat()
+    [com::write(Lds::V17, b"040000", &list), vec![0x30, 0x00]].concat()
 }
 
 #[cfg(test)]

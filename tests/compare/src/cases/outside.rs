@@ -95,9 +95,9 @@ mod tests {
             let mut walk = Walk::over(&vector.octets);
             walk.take(&[0x60]).unwrap();
             let element = walk.take(&[0x30]).unwrap();
-            let entries = object::read(&vector.octets, &element).unwrap();
+            let object = object::read(&vector.octets, &element).unwrap();
             let null = vector.name != "no-parameters";
-            assert_eq!(object::write(&entries, null), vector.octets[element.whole], "{}", vector.name);
+            assert_eq!(object::write(&object, null), vector.octets[element.whole], "{}", vector.name);
         }
     }
 

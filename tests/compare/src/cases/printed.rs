@@ -5,7 +5,7 @@
 //! EF.COM is always the appendix's, of 24 octets. It lists groups 1, 2, 4 and 12.
 
 use crate::cases::vector::{octets, refused, Vector};
-use paper::object::{self, Entry};
+use paper::object::{self, Entry, Object};
 use paper::presentation::{write_file, write_text_element};
 use paper::refusal::Refusal;
 use paper::sha256::sha256;
@@ -83,17 +83,18 @@ fn with_first(name: &'static str, first: &[u8], refusal: Option<Refusal>) -> Vec
 fn around(com: &[u8], files: &[Vec<u8>]) -> Vec<u8> {
     let number = |file: &Vec<u8>| group::of_tag(file[0]).expect("the tag of a group");
     let entries: Vec<Entry> = files.iter().map(|file| Entry { number: number(file), digest: sha256(file) }).collect();
-    [com, &object::write(&entries, true), &files.concat()].concat()
+    [com, &object::write(&Object { entries, strings: None }, true), &files.concat()].concat()
 }
 
 #[cfg(test)]
 mod tests {
     use super::*;
     use paper::com;
+    use paper::lds::Lds;
 
     #[test]
     fn the_encoder_writes_what_is_printed() {
-        assert_eq!(com::write(b"040000", &[0x61, 0x75, 0x76, 0x6c]), example!("com"));
+        assert_eq!(com::write(Lds::V17, b"040000", &[0x61, 0x75, 0x76, 0x6c]), example!("com"));
     }
 
     /// How many characters are printed, and where the files stand that they are counted from.
