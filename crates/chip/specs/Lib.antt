@@ -1,3 +1,5 @@
+-- whether EF.COM and the security object agree
+pub mod Versions
 -- stage 5: each group file
 pub mod Files
 -- all stages, and the file of a group

@@ -3,3 +3,4 @@ mod files;
 pub mod group_file;
 mod group_one;
 pub mod presentation;
+mod versions;

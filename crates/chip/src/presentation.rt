@@ -2,13 +2,17 @@
 ghost use mathlib.Core.Path.{_≡_};
 ghost use Rattle.refusal.specs.Outcome.{passed};
 ghost use Rattle.tlv.specs.Read.{outcomeIn};
+ghost use Rattle.tlv.specs.Versions.{both};
 ghost use Rattle.text.specs.Read.{answerOf};
 ghost use Rattle.outer.specs.Outer as O;
-ghost use Rattle.chip.specs.Inner.Onward.{withDigests, withTags};
+ghost use Rattle.chip.specs.Inner.Onward.{withDigests, withCommon};
 ghost use Rattle.group_text.specs.Text.{answerBy};
 ghost use Rattle.chip.specs.Presentation.{decided, readPresentation};
 use crate::files::files_check;
 use crate::group_one::group_one;
+use crate::versions::versions_check;
+use efcom::Common;
+use efcom::CommonRead;
 use group_text::refuse;
 use outer::Outer;
 use outer::Walked;
@@ -16,7 +20,6 @@ use outer::walk;
 use refusal::Verdict;
 use text::read::Reading;
 use tlv::Stretch;
-use tlv::Taken;
 use tlv::cut::cut;
 
 // Stages 5 and 6.
@@ -31,29 +34,31 @@ fn with_digests(w: &[u8], start: usize, tags: Stretch, digests: [usize; 17]) -> 
 }
 
 // Stages 4 to 6.
-fn with_tags(w: &[u8], object: Stretch, tags: Stretch) -> Reading
-    requires { ⌜ outcomeIn (O.files (now w) (object .to)) ≡ passed ⌝ }
-    ensures { λ r. ⌜ answerOf r ≡ answerBy (withTags (now (w .entry)) object tags) ⌝ }
+fn with_common(w: &[u8], parts: Outer, common: Common) -> Reading
+    requires { ⌜ outcomeIn (O.files (now w) (parts .object .to)) ≡ passed ⌝ }
+    ensures { λ r. ⌜ answerOf r ≡ answerBy (withCommon (now (w .entry)) parts common) ⌝ }
 {
+    let efcom = parts.efcom;
+    let object = parts.object;
     let found = object::read(w, object);
     let verdict = found.verdict;
     let digests = found.digests;
-    match verdict {
-        Verdict::Passed => with_digests(w, object.to, tags, digests),
-        Verdict::Refused(of_object) => refuse(of_object),
+    let version = found.version;
+    match verdict.or_else(versions_check(w, efcom.to, common, version)) {
+        Verdict::Passed => with_digests(w, object.to, common.tags, digests),
+        Verdict::Refused(why) => refuse(why),
     }
 }
 
 // Stages 3 to 6.
 fn decide(w: &[u8], parts: Outer) -> Reading
     requires { ⌜ outcomeIn (O.files (now w) (parts .object .to)) ≡ passed ⌝ }
-    ensures { λ r. ⌜ answerOf r ≡ answerBy (decided (now (w .entry)) parts) ⌝ }
+    ensures { λ r. ⌜ answerOf r ≡ answerBy (decided both (now (w .entry)) parts) ⌝ }
 {
     let efcom = parts.efcom;
-    let object = parts.object;
     match efcom::read(w, efcom) {
-        Taken::Value(tags) => with_tags(w, object, tags),
-        Taken::Refused(why) => refuse(why),
+        CommonRead::Value(common) => with_common(w, parts, common),
+        CommonRead::Refused(why) => refuse(why),
     }
 }
 

@@ -1,7 +1,7 @@
 -- The demands are not empty: document 01's T3 is accepted (`T3-accepted`, with the starred examples), its record is sound, and a
--- presentation around it is accepted with that record.
+-- presentation around it, of LDS 1.7 or 1.8, is accepted with that record.
 use mathlib.Core.Path.{_≡_, ap, _∙_}
-use mathlib.Core.Bool.{true}
+use mathlib.Core.Bool.{Bool, true}
 use Rattle.zone.specs.declared.form.Source.the-variants.{Alone, GroupOne}
 use Rattle.lent.specs.Octets.{octets}
 use Rattle.refusal.specs.Outcome.{passed}
@@ -17,8 +17,8 @@ use Rattle.demands.proofs.Starred.{T3-accepted}
 pub T3-sound : isSound (readText Alone (octets T3) .kept) ≡ true
 T3-sound = kept-and-sound Alone (octets T3) (T3-accepted Alone) .3
 
-pub T3-carried : readPresentation (octetsOf (around (octets T3))) ≡ readText GroupOne (octets T3)
-T3-carried = every-text-carried (octets T3) (T3-accepted GroupOne) .1
+pub T3-carried : (newer : Bool) → readPresentation (octetsOf (around newer (octets T3))) ≡ readText GroupOne (octets T3)
+T3-carried newer = every-text-carried newer (octets T3) (T3-accepted GroupOne) .1
 
-pub T3-carried-accepted : readPresentation (octetsOf (around (octets T3))) .outcome ≡ passed
-T3-carried-accepted = ap (λ (a : Answer). a .outcome) T3-carried ∙ T3-accepted GroupOne
+pub T3-carried-accepted : (newer : Bool) → readPresentation (octetsOf (around newer (octets T3))) .outcome ≡ passed
+T3-carried-accepted newer = ap (λ (a : Answer). a .outcome) (T3-carried newer) ∙ T3-accepted GroupOne

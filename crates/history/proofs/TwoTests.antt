@@ -5,19 +5,21 @@ use mathlib.Core.Path.{_≡_, ap, sym}
 use mathlib.Core.List.{List, []}
 use native.Mathlib.Omega.{arith}
 use borrow.Author.Tests.{le-leb}
-use lib.Dec.{leb}
-use lib.ListN.{length, take}
+use lib.Dec.{eqb, leb}
+use lib.ListN.{length, take, getD}
 use Rattle.refusal.specs.Outcome.{unless}
 use Rattle.refusal.proofs.Outcomes.{kept-unless, both-passed, orElse-idle}
 use Rattle.tlv.specs.declared.Stretch.{Stretch}
-use Rattle.tlv.specs.Read.{value, checked}
+use Rattle.tlv.specs.Read.{value, andThen, checked}
 use Rattle.tlv.specs.Element.{element}
-use Rattle.tlv.specs.Cut.{cut, endCheck}
+use Rattle.tlv.specs.Cut.{cut}
 use Rattle.tlv.specs.Tags as Tag
+use Rattle.tlv.specs.Versions.{both}
 use Rattle.tlv.proofs.Joined.{then-same}
 use Rattle.efcom.specs.EfCom.{knownFrom, onceFrom, tagsCheck, fromTagList, fromUnicode, fromVersion, readEfCom}
 use Rattle.efcom.proofs.FifteenTags.{fifteen-tags}
-use Rattle.object.specs.Object.{GroupHash, entries, numbersOnce, entriesCheck, fromEntryList, fromAlgorithm, readObject}
+use Rattle.object.specs.Object.{GroupHash, entries, numbersOnce, entriesCheck, versionAt, fromEntryList, fromAlgorithm}
+use Rattle.object.specs.Object.{readObject}
 use Rattle.object.specs.Object as object
 use Rattle.object.proofs.SixteenEntries.{sixteen-read}
 use Rattle.chip.specs.Presentation.{decided, readStages, readPresentation}
@@ -33,7 +35,7 @@ tags-same s v at =
     let both = both-passed (knownFrom (v .from) tags) (onceFrom (v .from) [] tags) e in
     kept-unless _ 11 at (le-leb (length tags) _ (omega (arith, fifteen-tags (v .from) (v .from) tags (both .0) (both .1)))))
 
-pub efcom-same : (w : List ℕ) (efcom : Stretch) → readEfCom w efcom ≡ tested.readEfCom w efcom
+pub efcom-same : (w : List ℕ) (efcom : Stretch) → readEfCom both w efcom ≡ tested.readEfCom w efcom
 unfolding readEfCom fromVersion fromUnicode fromTagList tested.readEfCom
 efcom-same w efcom = simp tags-same
 
@@ -48,7 +50,7 @@ entries-same s from at es read =
     let once = both-passed (numbersOnce [] es) (unless (leb 2 (length es)) 12 at) e .0 in
     kept-unless _ 12 at (le-leb (length es) _ (omega (arith, sixteen-read s from es read once))))
 
-pub object-same : (w : List ℕ) (o : Stretch) → readObject w o ≡ tested.readObject w o
+pub object-same : (w : List ℕ) (o : Stretch) → readObject both w o ≡ tested.readObject w o
 unfolding readObject object.fromVersion fromAlgorithm fromEntryList tested.readObject
 object-same w o =
     let s = take (o .to) w in
@@ -56,7 +58,8 @@ object-same w o =
     ap (checked _) (then-same (element s (version .to) Tag.sequence) _ _ (λ algorithm b.
     ap (checked _) (then-same (element s (algorithm .to) Tag.sequence) _ _ (λ list c.
     then-same (entries (take (list .to) s) (list .from)) _ _ (λ es read.
-    ap (λ x. checked x (checked (endCheck s (list .to)) (value es)))
+    ap (λ x. checked x (andThen (versionAt (eqb (getD s (version .from) 0) 1) s (list .to))
+    (λ y. value (record { entries = es; version = y }))))
     (sym (entries-same (take (list .to) s) (list .from) (algorithm .to) es read))))))))
 
 -- ---- all stages

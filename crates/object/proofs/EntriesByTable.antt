@@ -15,11 +15,12 @@ use Rattle.refusal.specs.Numbers.{by}
 use Rattle.refusal.specs.Outcome.{Outcome, passed, refused, unless, orElse}
 use Rattle.tlv.specs.Read.{Read, value, refusal, andThen, checked, outcomeIn}
 use Rattle.object.specs.declared.entries.Seen.{Seen}
+use Rattle.object.specs.declared.strings.Version.{Version}
 use Rattle.lent.specs.Octets.{stands}
-use Rattle.object.specs.Object.{GroupHash, entryAt, entriesFrom, entries, numbersOnce, entriesCheck}
+use Rattle.object.specs.Object.{GroupHash, Said, entryAt, entriesFrom, entries, numbersOnce, entriesCheck}
 use Rattle.object.specs.Object.{digestFor}
 use Rattle.object.specs.Inner.Seen.{none, isNew, counted, tallied, tallyFrom, seenIn, seenCheck, digestsFrom, tableOf}
-use Rattle.object.specs.Inner.Seen.{ObjectAnswer}
+use Rattle.object.specs.Inner.Seen.{ObjectAnswer, versionIn, saidVersion}
 use Rattle.object.specs.Inner.Seen.{objectAnswer, settled}
 use Rattle.lent.proofs.Marks.{Marks, none-marked, one-marked}
 use Rattle.tlv.proofs.Joined.{never-value, same-value, first-value}
@@ -244,13 +245,13 @@ digests-at (suc n) g es (suc i) h =
     digests-at n (suc g) es i (omega arith) ∙ ap (λ x. digestFor x es) k
 
 -- where the digest of a group begins, out of the table
-pub table-has : (es : List GroupHash) (g : ℕ) → g < 17 → getD (tableOf (value es)) g 0 ≡ digestFor g es
+pub table-has : (o : Said) (g : ℕ) → g < 17 → getD (tableOf (value o)) g 0 ≡ digestFor g (o .entries)
 unfolding tableOf
-table-has es g h = digests-at 17 0 es g h ∙ ap (λ x. digestFor x es) (zero-add g)
+table-has o g h = digests-at 17 0 (o .entries) g h ∙ ap (λ x. digestFor x (o .entries)) (zero-add g)
 
-pub table-length : (x : Read (List GroupHash)) → length (tableOf x) ≡ 17
+pub table-length : (x : Read Said) → length (tableOf x) ≡ 17
 unfolding tableOf
-table-length (value es) = digests-length 17 0 es
+table-length (value o) = digests-length 17 0 (o .entries)
 table-length (refusal n p) = length-replicate {A = ℕ} 17 0
 
 new-digest : (g d : ℕ) → g < 17 → cond (isNew none g) d (getD (none .digests) g 0) ≡ d
@@ -277,37 +278,52 @@ seen-check es at sound =
     let k : tallied none es .count ≡ length es = tallied-count es none ∙ zero-add (length es) in
     rw (r, k)
 
-told-checked : (a b : Outcome) (es : List GroupHash)
-    → objectAnswer (checked a (checked b (value es))) ≡ settled (orElse a b) (digestsFrom 17 0 es)
-unfolding objectAnswer checked settled tableOf outcomeIn
-told-checked passed passed es = refl
-told-checked passed (refused n p) es = refl
+-- the version behind them
+saidWith : List GroupHash → Version → Read Said
+saidWith es x = value (record { entries = es; version = x })
+
+told-checked : (a : Outcome) (b : Read Version) (es : List GroupHash)
+    → objectAnswer (checked a (andThen b (saidWith es))) ≡ settled (orElse a (outcomeIn b)) (digestsFrom 17 0 es) (versionIn b)
+unfolding objectAnswer checked andThen settled tableOf saidVersion outcomeIn versionIn saidWith
+told-checked passed (value x) es = refl
+told-checked passed (refusal n p) es = refl
 told-checked (refused n p) b es = refl
 
-pub list-told : (x : Read (List GroupHash)) (at : ℕ) (rest : Outcome) (y : Read Seen)
+else-else : (a b c : Outcome) → orElse (orElse a b) c ≡ orElse a (orElse b c)
+else-else passed b c = refl
+else-else (refused n p) b c = refl
+
+list-told : (x : Read (List GroupHash)) (at : ℕ) (rest : Read Version) (y : Read Seen)
     → ((es : List GroupHash) → x ≡ value es → AllSound es)
     → andThen x (λ es. value (tallied none es)) ≡ y
-    → settled (orElse (outcomeIn y) (orElse (seenCheck (seenIn y) at) rest)) (seenIn y .digests)
-    ≡ objectAnswer (andThen x (λ es. checked (entriesCheck es at) (checked rest (value es))))
-unfolding andThen outcomeIn seenIn settled objectAnswer tableOf
+    → settled (orElse (outcomeIn y) (orElse (seenCheck (seenIn y) at) (outcomeIn rest))) (seenIn y .digests) (versionIn rest)
+    ≡ objectAnswer (andThen x (λ es. checked (entriesCheck es at) (andThen rest (saidWith es))))
+unfolding andThen outcomeIn seenIn settled objectAnswer tableOf saidVersion
 list-told (value es) at rest y sound e =
     let all = sound es refl in
     rw (← e, seen-check es at all, seen-table es all) (sym (told-checked (entriesCheck es at) rest es))
 list-told (refusal n p) at rest y sound e = rw (← e)
 
 -- the same of the entries in a stretch
-pub walk-told : (s : List ℕ) (at from to : ℕ) (rest : Outcome)
-    → settled (orElse (outcomeIn (tallyFrom (take to s) from none))
-    (orElse (seenCheck (seenIn (tallyFrom (take to s) from none)) at) rest))
-    (seenIn (tallyFrom (take to s) from none) .digests)
-    ≡ objectAnswer (andThen (entries (take to s) from) (λ es. checked (entriesCheck es at) (checked rest (value es))))
-unfolding tallyFrom entries
+pub walk-told : (s : List ℕ) (at from to : ℕ) (rest : Read Version)
+    → settled (orElse (orElse (outcomeIn (tallyFrom (take to s) from none))
+    (seenCheck (seenIn (tallyFrom (take to s) from none)) at)) (outcomeIn rest))
+    (seenIn (tallyFrom (take to s) from none) .digests) (versionIn rest)
+    ≡ objectAnswer (andThen (entries (take to s) from) (λ es.
+    checked (entriesCheck es at) (andThen rest (λ x. value (record { entries = es; version = x })))))
+unfolding tallyFrom entries saidWith
 walk-told s at from to rest =
     let t = take to s in
-    list-told (entries t from) at rest (tallyFrom t from none) (all-sound (suc (length t)) t from) refl
+    let y = tallyFrom t from none in
+    ap (λ (o : Outcome). settled o (seenIn y .digests) (versionIn rest))
+    (else-else (outcomeIn y) (seenCheck (seenIn y) at) (outcomeIn rest))
+    ∙ list-told (entries t from) at rest y (all-sound (suc (length t)) t from) refl
 
--- the two things that are objectAnswer
-pub told-both : (r : ObjectAnswer) (x : Read (List GroupHash)) → r ≡ objectAnswer x
-    → (r .outcome ≡ outcomeIn x) × (r .digests ≡ tableOf x)
+-- the three things that are objectAnswer
+pub told-all : (r : ObjectAnswer) (x : Read Said) → r ≡ objectAnswer x
+    → (r .outcome ≡ outcomeIn x) × ((r .digests ≡ tableOf x) × (r .version ≡ saidVersion x))
 unfolding objectAnswer
-told-both r x e = (ap (λ (y : ObjectAnswer). y .outcome) e, ap (λ (y : ObjectAnswer). y .digests) e)
+told-all r x e = (
+  ap (λ (y : ObjectAnswer). y .outcome) e,
+  (ap (λ (y : ObjectAnswer). y .digests) e, ap (λ (y : ObjectAnswer). y .version) e),
+)

@@ -1,7 +1,8 @@
--- Stage 4, the security object (source document 000, 5.2; DER): version integer 0; AlgorithmIdentifier of SHA-256, else 13; a
--- sequence of entries, else 12 at the bad element.
+-- Stage 4, the security object (source document 000, 5.2; DER): version integer 0 or (document 02, 2026-04) 1;
+-- AlgorithmIdentifier of SHA-256, else 13; a sequence of entries, else 12 at the bad element; of version 1 a sequence of two
+-- strings.
 use Prim.Native.Nat.{ℕ, zero, suc}
-use mathlib.Core.Bool.{Bool, cond, _&&_, _||_}
+use mathlib.Core.Bool.{Bool, true, false, cond, _&&_, _||_}
 use mathlib.Core.List.{List, [], _∷_, _++_}
 use lib.Dec.{eqb, leb}
 use lib.ListN.{length, take, getD}
@@ -12,7 +13,11 @@ use Rattle.tlv.specs.Read.{Read, value, refusal, andThen, checked}
 use Rattle.tlv.specs.Element.{element}
 use Rattle.tlv.specs.Cut.{cut, hasOctets, endCheck}
 use Rattle.tlv.specs.Tags as Tag
+use Rattle.tlv.specs.Versions.{Known, former, both}
 use Rattle.lent.specs.Octets.{alike, stands}
+use Rattle.object.specs.declared.strings.Strings.{Strings}
+use Rattle.object.specs.declared.strings.Version.{Version}
+use Rattle.object.specs.declared.strings.Version.the-variants.{Zero, One}
 
 -- an entry: its group's number, where its integer stands, and where its digest begins and it ends
 pub record GroupHash : Type 0 where
@@ -60,12 +65,34 @@ numbersOnce before (e ∷ es) = cond (stands (e .group) before) (refused (by 12)
 unfoldable pub entriesCheck : List GroupHash → ℕ → Outcome
 entriesCheck es at = orElse (numbersOnce [] es) (unless (leb 2 (length es)) 12 at)
 
--- and nothing follows
-unfoldable pub fromEntryList : List ℕ → ℕ → Read (List GroupHash)
-fromEntryList s at =
+-- two printable strings, LDS version and Unicode version, and nothing behind them
+unfoldable pub stringsAt : List ℕ → ℕ → Read Strings
+stringsAt s at =
+    andThen (element s at Tag.printableString) (λ lds.
+    andThen (element s (lds .to) Tag.printableString) (λ unicode.
+    checked (endCheck s (unicode .to)) (value (record { lds = lds; unicode = unicode }))))
+
+-- a sequence of them, and nothing follows
+unfoldable pub sequenceAt : List ℕ → ℕ → Read Strings
+sequenceAt s at =
+    andThen (element s at Tag.sequence) (λ v.
+    andThen (stringsAt (take (v .to) s) (v .from)) (λ t. checked (endCheck s (v .to)) (value t)))
+
+-- version 1 "ends with a sequence of two printable strings"; "version 0 has no such sequence": nothing follows
+unfoldable pub versionAt : (newer : Bool) → List ℕ → ℕ → Read Version
+versionAt false s at = checked (endCheck s at) (value Zero)
+versionAt true s at = andThen (sequenceAt s at) (λ t. value (One t))
+
+-- what an object says: its entries, and its version with the strings
+pub record Said : Type 0 where
+  pub entries : List GroupHash
+  pub version : Version
+
+unfoldable pub fromEntryList : (newer : Bool) → List ℕ → ℕ → Read Said
+fromEntryList newer s at =
     andThen (element s at Tag.sequence) (λ v.
     andThen (entries (take (v .to) s) (v .from)) (λ es.
-    checked (entriesCheck es at) (checked (endCheck s (v .to)) (value es))))
+    checked (entriesCheck es at) (andThen (versionAt newer s (v .to)) (λ x. value (record { entries = es; version = x })))))
 
 -- its inside is compared and not walked: exactly 06 09 60 86 48 01 65 03 04 02 01, alone or followed by 05 00
 unfoldable pub sha256Name : List ℕ
@@ -74,20 +101,23 @@ sha256Name = 0x06 ∷ 0x09 ∷ 0x60 ∷ 0x86 ∷ 0x48 ∷ 0x01 ∷ 0x65 ∷ 0x03
 unfoldable pub isSha256 : List ℕ → Bool
 isSha256 s = alike s sha256Name || alike s (sha256Name ++ (0x05 ∷ 0x00 ∷ []))
 
-unfoldable pub fromAlgorithm : List ℕ → ℕ → Read (List GroupHash)
-fromAlgorithm s at = andThen (element s at Tag.sequence)
-    (λ v. checked (unless (isSha256 (cut s v)) 13 at) (fromEntryList s (v .to)))
+unfoldable pub fromAlgorithm : (newer : Bool) → List ℕ → ℕ → Read Said
+fromAlgorithm newer s at = andThen (element s at Tag.sequence)
+    (λ v. checked (unless (isSha256 (cut s v)) 13 at) (fromEntryList newer s (v .to)))
 
--- version integer 0
-unfoldable pub isZero : List ℕ → Stretch → Bool
-isZero s v = hasOctets 1 v && eqb (getD s (v .from) 0) 0
+-- version integer 0, and where it is known 1
+unfoldable pub isVersion : Known → List ℕ → Stretch → Bool
+isVersion former s v = hasOctets 1 v && eqb (getD s (v .from) 0) 0
+isVersion both s v = hasOctets 1 v && (eqb (getD s (v .from) 0) 0 || eqb (getD s (v .from) 0) 1)
 
-unfoldable pub fromVersion : List ℕ → ℕ → Read (List GroupHash)
-fromVersion s at = andThen (element s at Tag.integer) (λ v. checked (unless (isZero s v) 12 at) (fromAlgorithm s (v .to)))
+unfoldable pub fromVersion : Known → List ℕ → ℕ → Read Said
+fromVersion known s at =
+    andThen (element s at Tag.integer) (λ v.
+    checked (unless (isVersion known s v) 12 at) (fromAlgorithm (eqb (getD s (v .from) 0) 1) s (v .to)))
 
--- the entries of a security object whose value stands here
-unfoldable pub readObject : List ℕ → Stretch → Read (List GroupHash)
-readObject w o = fromVersion (take (o .to) w) (o .from)
+-- the security object whose value stands here
+unfoldable pub readObject : Known → List ℕ → Stretch → Read Said
+readObject known w o = fromVersion known (take (o .to) w) (o .from)
 
 -- where the digest of a group begins, 0 where it has no entry
 unfoldable pub digestFor : ℕ → List GroupHash → ℕ

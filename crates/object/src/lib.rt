@@ -1,15 +1,21 @@
-// Stage 4, the security object: the version, the algorithm and the entries, each from where the one before it ends.
+// Stage 4, the security object: the version, the algorithm, the entries and, in version 1, two strings, each from where the one
+// before it ends.
 ghost use mathlib.Core.Path.{_≡_};
 ghost use Rattle.refusal.specs.Numbers.{whyOf};
-ghost use Rattle.refusal.specs.Outcome.{outcomeOf};
+ghost use Rattle.refusal.specs.Outcome.{outcomeOf, orElse};
 ghost use Rattle.tlv.specs.Read.{value, refusal, outcomeIn};
+ghost use Rattle.tlv.specs.Versions.{both};
 ghost use Rattle.object.specs.Object as O;
 ghost use Rattle.object.specs.Inner.Seen as T;
 
 mod entries;
+pub mod strings;
 
 use crate::entries::Seen;
 use crate::entries::entries;
+use crate::strings::Version;
+use crate::strings::VersionRead;
+use crate::strings::version_at;
 use lent::alike;
 use refusal::Cause;
 use refusal::Refusal;
@@ -17,14 +23,15 @@ use refusal::Verdict;
 use tlv::Stretch;
 use tlv::Taken;
 use tlv::cut::cut;
-use tlv::cut::end_check;
 use tlv::cut::has_octets;
 use tlv::tags;
 
-// What stage 4 found, and where the digest of each group begins, 0 where it has no entry or the object is refused.
+// What stage 4 found; where the digest of each group begins, 0 where it has no entry or the object is refused; and the version, 0
+// where the object is refused.
 pub struct ObjectRead {
     pub verdict: Verdict,
     pub digests: [usize; 17],
+    pub version: Version,
 }
 
 fn refused(why: Refusal) -> ObjectRead
@@ -33,6 +40,7 @@ fn refused(why: Refusal) -> ObjectRead
     ObjectRead {
         verdict: Verdict::Refused(why),
         digests: [0; 17],
+        version: Version::Zero,
     }
 }
 
@@ -45,38 +53,41 @@ fn seen_check(seen: Seen, at: usize) -> Verdict
     once.or_else(some)
 }
 
-fn settled(verdict: Verdict, digests: [usize; 17]) -> ObjectRead
-    ensures { λ r. ⌜ T.objectAnswerOf r ≡ T.settled (outcomeOf verdict) digests ⌝ }
+// What the tests on all entries found, and then the version.
+fn settled(verdict: Verdict, digests: [usize; 17], version: VersionRead) -> ObjectRead
+    ensures { λ r. ⌜ T.objectAnswerOf r ≡ T.settled (orElse (outcomeOf verdict) (outcomeIn (T.versionOf version))) digests
+        (T.versionIn (T.versionOf version)) ⌝ }
 {
     match verdict {
-        Verdict::Passed => ObjectRead {
-            verdict: Verdict::Passed,
-            digests,
+        Verdict::Passed => match version {
+            VersionRead::Value(version) => ObjectRead {
+                verdict: Verdict::Passed,
+                digests,
+                version,
+            },
+            VersionRead::Refused(why) => refused(why),
         },
-        Verdict::Refused(refusal) => ObjectRead {
-            verdict: Verdict::Refused(refusal),
-            digests: [0; 17],
-        },
+        Verdict::Refused(why) => refused(why),
     }
 }
 
-// The entries, then the tests on all of them, and nothing follows.
-fn entries_in(s: &[u8], at: usize, v: Stretch) -> ObjectRead
-    ensures { λ r. ⌜ T.objectAnswerOf r ≡ T.objectAnswer (T.fromEntries (now (s .entry)) at v) ⌝ }
+// The entries, then the tests on all of them, then what stands behind them.
+fn entries_in(s: &[u8], at: usize, v: Stretch, newer: bool) -> ObjectRead
+    ensures { λ r. ⌜ T.objectAnswerOf r ≡ T.objectAnswer (T.fromEntries newer (now (s .entry)) at v) ⌝ }
 {
     let walk = entries(lent::part(s, 0, v.to), v.from);
     let verdict = walk.verdict;
     let seen = walk.seen;
     let digests = seen.digests;
-    let after = seen_check(seen, at).or_else(end_check(s, v.to));
-    settled(verdict.or_else(after), digests)
+    let after = seen_check(seen, at);
+    settled(verdict.or_else(after), digests, version_at(s, v.to, newer))
 }
 
-fn from_entry_list(s: &[u8], at: usize) -> ObjectRead
-    ensures { λ r. ⌜ T.objectAnswerOf r ≡ T.objectAnswer (O.fromEntryList (now (s .entry)) at) ⌝ }
+fn from_entry_list(s: &[u8], at: usize, newer: bool) -> ObjectRead
+    ensures { λ r. ⌜ T.objectAnswerOf r ≡ T.objectAnswer (O.fromEntryList newer (now (s .entry)) at) ⌝ }
 {
     match tlv::element(s, at, tags::SEQUENCE) {
-        Taken::Value(v) => entries_in(s, at, v),
+        Taken::Value(v) => entries_in(s, at, v, newer),
         Taken::Refused(refusal) => refused(refusal),
     }
 }
@@ -116,13 +127,13 @@ fn is_sha256(s: &[u8]) -> bool
     alike(s, &alone) | alike(s, &followed)
 }
 
-fn from_algorithm(s: &[u8], at: usize) -> ObjectRead
-    ensures { λ r. ⌜ T.objectAnswerOf r ≡ T.objectAnswer (O.fromAlgorithm (now (s .entry)) at) ⌝ }
+fn from_algorithm(s: &[u8], at: usize, newer: bool) -> ObjectRead
+    ensures { λ r. ⌜ T.objectAnswerOf r ≡ T.objectAnswer (O.fromAlgorithm newer (now (s .entry)) at) ⌝ }
 {
     match tlv::element(s, at, tags::SEQUENCE) {
         Taken::Value(v) => {
             if is_sha256(cut(s, v)) {
-                from_entry_list(s, v.to)
+                from_entry_list(s, v.to, newer)
             } else {
                 refused(Refusal::at(Cause::Algorithm, at))
             }
@@ -131,21 +142,21 @@ fn from_algorithm(s: &[u8], at: usize) -> ObjectRead
     }
 }
 
-// Version integer 0.
-fn is_zero(s: &[u8], v: Stretch) -> bool
-    ensures { λ r. ⌜ r ≡ O.isZero (now (s .entry)) v ⌝ }
+// Version integer 0 or 1.
+fn is_version(s: &[u8], v: Stretch) -> bool
+    ensures { λ r. ⌜ r ≡ O.isVersion both (now (s .entry)) v ⌝ }
 {
     let number = lent::octet(s, v.from);
-    has_octets(1, v) & (number == 0)
+    has_octets(1, v) & ((number == 0) | (number == 1))
 }
 
 fn from_version(s: &[u8], at: usize) -> ObjectRead
-    ensures { λ r. ⌜ T.objectAnswerOf r ≡ T.objectAnswer (O.fromVersion (now (s .entry)) at) ⌝ }
+    ensures { λ r. ⌜ T.objectAnswerOf r ≡ T.objectAnswer (O.fromVersion both (now (s .entry)) at) ⌝ }
 {
     match tlv::element(s, at, tags::INTEGER) {
         Taken::Value(v) => {
-            if is_zero(s, v) {
-                from_algorithm(s, v.to)
+            if is_version(s, v) {
+                from_algorithm(s, v.to, lent::octet(s, v.from) == 1)
             } else {
                 refused(Refusal::at(Cause::SecurityObject, at))
             }
@@ -154,10 +165,11 @@ fn from_version(s: &[u8], at: usize) -> ObjectRead
     }
 }
 
-// The entries of a security object whose value stands here.
+// The security object whose value stands here.
 pub fn read(w: &[u8], o: Stretch) -> ObjectRead
-    ensures { λ r. ⌜ outcomeOf (r .verdict) ≡ outcomeIn (O.readObject (now (w .entry)) o) ⌝ }
-    ensures { λ r. ⌜ r .digests ≡ T.tableOf (O.readObject (now (w .entry)) o) ⌝ }
+    ensures { λ r. ⌜ outcomeOf (r .verdict) ≡ outcomeIn (O.readObject both (now (w .entry)) o) ⌝ }
+    ensures { λ r. ⌜ r .digests ≡ T.tableOf (O.readObject both (now (w .entry)) o) ⌝ }
+    ensures { λ r. ⌜ r .version ≡ T.saidVersion (O.readObject both (now (w .entry)) o) ⌝ }
 {
     from_version(lent::part(w, 0, o.to), o.from)
 }

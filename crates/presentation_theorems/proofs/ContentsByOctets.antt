@@ -3,7 +3,7 @@
 use Prim.Native.Nat.{ℕ, _+_, _≤_}
 use mathlib.Core.Path.{_≡_, refl, ap, sym, _∙_, subst}
 use mathlib.Core.Logic.{inl, inr}
-use mathlib.Core.Bool.{Bool, true, false, not, false≢true}
+use mathlib.Core.Bool.{Bool, true, false, cond, not, false≢true}
 use mathlib.Core.List.{List, [], _∷_, _++_, append-nil}
 use native.Mathlib.Omega.{arith}
 use borrow.Author.Tests.{not-true}
@@ -14,9 +14,9 @@ use Rattle.tlv.proofs.Encoded.{length-tlv, some-head, prefix-free, tag-first}
 use Rattle.lent.specs.Octets.{stands}
 use Rattle.tlv.specs.Tags.{isGroup}
 use Rattle.object.specs.Object.{sha256Name}
-use Rattle.presentation_theorems.specs.Presented.{Signed, Lent, Contents, commonInside, commonOf, signedOf, allSigned}
-use Rattle.presentation_theorems.specs.Presented.{algorithmOf, objectInside, objectOf, fileOf, allLent, octetsOf, isIn}
-use Rattle.presentation_theorems.specs.Presented.{isOnce, tagsOf, Presented}
+use Rattle.presentation_theorems.specs.Presented.{Signed, Lent, Contents, ldsOf, commonInside, commonOf, signedOf}
+use Rattle.presentation_theorems.specs.Presented.{algorithmOf, stringsOf, objectInside, objectOf, fileOf, allLent, octetsOf}
+use Rattle.presentation_theorems.specs.Presented.{allSigned, isIn, isOnce, tagsOf, Presented}
 use Rattle.presentation_theorems.proofs.GroupFiles.{group-below}
 use Rattle.presentation_theorems.proofs.GroupOne.{in-tags}
 use Rattle.lent.proofs.Lists.{head-same}
@@ -51,13 +51,20 @@ nothing-same tag c r e =
 
 -- ---- EF.COM
 
-common-tells : (a b c d : List ℕ) → length (commonInside a b) ≤ 65535 → commonInside a b ≡ commonInside c d → (a ≡ c) × (b ≡ d)
+lds-tells : (a b : Bool) → ldsOf a ≡ ldsOf b → a ≡ b
+unfolding ldsOf
+lds-tells true true e = refl
+lds-tells false false e = refl
+lds-tells true false e = absurd (let n : _≡_ {A = ℕ} 0x38 0x37 = ap (λ (l : List ℕ). getD l 3 0) e in omega arith)
+lds-tells false true e = absurd (let n : _≡_ {A = ℕ} 0x37 0x38 = ap (λ (l : List ℕ). getD l 3 0) e in omega arith)
+
+common-tells : (m n : Bool) (a b c d : List ℕ) → length (commonInside m a b) ≤ 65535
+    → commonInside m a b ≡ commonInside n c d → (m ≡ n) × (a ≡ c) × (b ≡ d)
 unfolding commonInside
-common-tells a b c d most e =
-    let x = split 0x5F01 (0x30 ∷ 0x31 ∷ 0x30 ∷ 0x37 ∷ []) (0x30 ∷ 0x31 ∷ 0x30 ∷ 0x37 ∷ []) (tlv 0x5F36 a ++ tlv 0x5C b)
-    (tlv 0x5F36 c ++ tlv 0x5C d) most e in
+common-tells m n a b c d most e =
+    let x = split 0x5F01 (ldsOf m) (ldsOf n) (tlv 0x5F36 a ++ tlv 0x5C b) (tlv 0x5F36 c ++ tlv 0x5C d) most e in
     let y = split 0x5F36 a c (tlv 0x5C b) (tlv 0x5C d) (x .rest-fits) (x .same-rest) in
-    (y .same-content, split-last 0x5C b d (y .rest-fits) (y .same-rest))
+    (lds-tells m n (x .same-content), y .same-content, split-last 0x5C b d (y .rest-fits) (y .same-rest))
 
 -- ---- the object
 
@@ -84,18 +91,16 @@ signed-tells (x ∷ xs) (y ∷ ys) most e =
     let rest : xs ≡ ys = signed-tells xs ys (a .rest-fits) (a .same-rest) in
     λ i. record { number = number i; digest = digest i } ∷ rest i
 
-object-tells : (a b : Bool) (xs ys : List Signed) → length (objectInside a xs) ≤ 65535 → objectInside a xs ≡ objectInside b ys
-    → (a ≡ b) × (xs ≡ ys)
+object-tells : (m n a b : Bool) (xs ys : List Signed) (l k u v : List ℕ) → length (objectInside m a xs l u) ≤ 65535
+    → objectInside m a xs l u ≡ objectInside n b ys k v → (a ≡ b) × (xs ≡ ys)
 unfolding objectInside
-object-tells a b xs ys most e =
-    let x = split 2 (0 ∷ []) (0 ∷ []) (tlv 0x30 (algorithmOf a) ++ tlv 0x30 (allSigned xs))
-    (tlv 0x30 (algorithmOf b) ++ tlv 0x30 (allSigned ys)) most e in
-    let y = split 0x30 (algorithmOf a) (algorithmOf b) (tlv 0x30 (allSigned xs)) (tlv 0x30 (allSigned ys)) (x .rest-fits)
-    (x .same-rest) in
-    let all = split-last 0x30 (allSigned xs) (allSigned ys) (y .rest-fits) (y .same-rest) in
-    let long = length-tlv 0x30 (allSigned xs) in
-    let fits = y .rest-fits in
-    (algorithm-tells a b (y .same-content), signed-tells xs ys (omega arith) all)
+object-tells m n a b xs ys l k u v most e =
+    let p = tlv 0x30 (allSigned xs) ++ stringsOf m l u in
+    let q = tlv 0x30 (allSigned ys) ++ stringsOf n k v in
+    let x = split 2 (cond m 1 0 ∷ []) (cond n 1 0 ∷ []) (tlv 0x30 (algorithmOf a) ++ p) (tlv 0x30 (algorithmOf b) ++ q) most e in
+    let y = split 0x30 (algorithmOf a) (algorithmOf b) p q (x .rest-fits) (x .same-rest) in
+    let z = split 0x30 (allSigned xs) (allSigned ys) (stringsOf m l u) (stringsOf n k v) (y .rest-fits) (y .same-rest) in
+    (algorithm-tells a b (y .same-content), signed-tells xs ys (z .content-fits) (z .same-content))
 
 -- ---- the files
 
@@ -151,14 +156,15 @@ lent-fits f (x ∷ ls) most (inr k) = lent-fits f ls
 pub octets-tell : (p q : Contents) → Presented p → Presented q → octetsOf p ≡ octetsOf q → p ≡ q
 unfolding octetsOf commonOf objectOf
 octets-tell p q k l e =
-    let c = commonInside (p .digits) (p .tags) in
-    let d = objectInside (p .followed) (p .entries) in
-    let a = split 0x60 c (commonInside (q .digits) (q .tags)) (tlv 0x30 d ++ allLent (p .lent))
-    (tlv 0x30 (objectInside (q .followed) (q .entries)) ++ allLent (q .lent)) (k .size) e in
-    let b = split 0x30 d (objectInside (q .followed) (q .entries)) (allLent (p .lent)) (allLent (q .lent)) (a .rest-fits)
-    (a .same-rest) in
-    let x = common-tells (p .digits) (p .tags) (q .digits) (q .tags) (a .content-fits) (a .same-content) in
-    let y = object-tells (p .followed) (q .followed) (p .entries) (q .entries) (b .content-fits) (b .same-content) in
+    let c = commonInside (p .newer) (p .digits) (p .tags) in
+    let d = objectInside (p .newer) (p .followed) (p .entries) (ldsOf (p .newer)) (p .digits) in
+    let g = objectInside (q .newer) (q .followed) (q .entries) (ldsOf (q .newer)) (q .digits) in
+    let a = split 0x60 c (commonInside (q .newer) (q .digits) (q .tags)) (tlv 0x30 d ++ allLent (p .lent))
+    (tlv 0x30 g ++ allLent (q .lent)) (k .size) e in
+    let b = split 0x30 d g (allLent (p .lent)) (allLent (q .lent)) (a .rest-fits) (a .same-rest) in
+    let x = common-tells (p .newer) (q .newer) (p .digits) (p .tags) (q .digits) (q .tags) (a .content-fits) (a .same-content) in
+    let y = object-tells (p .newer) (q .newer) (p .followed) (q .followed) (p .entries) (q .entries) (ldsOf (p .newer))
+    (ldsOf (q .newer)) (p .digits) (q .digits) (b .content-fits) (b .same-content) in
     let z = lent-tells (p .lent) (q .lent) (λ f m. k .file-kept f m .of-group) (λ f m. l .file-kept f m .of-group) (b .rest-fits)
     (b .same-rest) in
     let one = subst (isIn (record { tag = 0x61; content = tlv 0x5F1F (p .text) })) z (k .group-one) in
@@ -167,4 +173,12 @@ octets-tell p q k l e =
     (l .group-one) in
     let t : p .text ≡ q .text = split-last 0x5F1F (p .text) (q .text)
     (lent-fits (record { tag = 0x61; content = tlv 0x5F1F (p .text) }) (p .lent) (b .rest-fits) (k .group-one)) held in
-    λ i. record { tags = x .1 i; digits = x .0 i; followed = y .0 i; entries = y .1 i; lent = z i; text = t i }
+    λ i. record {
+      newer = x .0 i;
+      tags = x .2 i;
+      digits = x .1 i;
+      followed = y .0 i;
+      entries = y .1 i;
+      lent = z i;
+      text = t i;
+    }

@@ -1,19 +1,17 @@
--- DEMAND 2, stage 3: an EF.COM is read exactly when its inside is the encoding of `0107`, six digits and a list of group tags,
--- none twice.
+-- DEMAND 2, stage 3: an EF.COM is read exactly when its inside is the encoding of `0107` or `0108`, six digits and a list of
+-- group tags, none twice.
 use Prim.Native.Nat.{ℕ, suc, _≤_}
 use mathlib.Core.Path.{_≡_, refl, ap, sym, _∙_, subst}
-use mathlib.Core.Bool.{Bool, true, false, cond, not, _&&_}
+use mathlib.Core.Bool.{Bool, true, false, cond, not, _&&_, _||_}
 use mathlib.Core.List.{List, [], _∷_, _++_, append-nil}
-use native.Mathlib.Omega.{arith}
 use borrow.Author.Tests.{not-true}
 use lib.ListN.{length, take, drop}
-use lib.Seq.{length-take-le}
 use Rattle.lent.proofs.Bools.{and-both, both-and, not-so}
 use Rattle.refusal.specs.Numbers.{by}
 use Rattle.refusal.specs.Outcome.{passed, refused, unless}
 use Rattle.zone.specs.Alphabet.{isDigit, every}
 use Rattle.tlv.specs.declared.Stretch.{Stretch}
-use Rattle.tlv.specs.Read.{value, checked}
+use Rattle.tlv.specs.Read.{Read, value, andThen, checked}
 use Rattle.tlv.specs.Element.{tlv, element}
 use Rattle.tlv.proofs.Joined.{same-value, first-value, value-then, checked-value, value-checked}
 use Rattle.tlv.proofs.Encoded.{Stands, inside}
@@ -22,13 +20,15 @@ use Rattle.lent.specs.Octets.{alike, stands}
 use Rattle.tlv.specs.Tags.{isGroup}
 use Rattle.efcom.specs.EfCom.{knownFrom, onceFrom, tagsCheck, fromTagList, isUnicode, fromUnicode, isVersion, fromVersion}
 use Rattle.efcom.specs.EfCom.{readEfCom}
+use Rattle.efcom.specs.declared.Common.{Common}
+use Rattle.tlv.specs.Versions.{both, lds17, lds18}
 use Rattle.zone.specs.Octets.{areOctets}
-use Rattle.presentation_theorems.specs.Presented.{isOnce, commonInside}
+use Rattle.presentation_theorems.specs.Presented.{isOnce, ldsOf, commonInside}
 use Rattle.refusal.proofs.Outcomes.{refused-not-passed, both-passed, unless-kept, kept-unless}
 use Rattle.presentation_theorems.proofs.NoneTwice.{onceAfter, once-none, none-once}
 use Rattle.tlv.proofs.Standing.{element-read, last-read, cut-there, has-octets, octets-had, place-behind, followed-by}
 use Rattle.presentation_theorems.proofs.Elements.{octets-before, take-most, read-element, nothing-left, left-nothing}
-use Rattle.presentation_theorems.proofs.Elements.{alike-same, same-alike, cut-before}
+use Rattle.presentation_theorems.proofs.Elements.{alike-same, same-alike, StringIn, string-before}
 
 -- ---- the tag list
 
@@ -126,98 +126,145 @@ pub record DigitsKept (digits : List ℕ) : Type 0 where
   pub only-digits : every isDigit digits ≡ true
 
 -- what is read from a place, where digits and a list stand with `x` before them
-record Listing (s : List ℕ) (at : ℕ) (x : List ℕ → List ℕ → List ℕ) (v : Stretch) : Type 0 where
+record Listing (s : List ℕ) (at : ℕ) (x : List ℕ → List ℕ → List ℕ) (c : Common) : Type 0 where
   digits : List ℕ
-  there : drop at s ≡ x digits (cut s v)
+  there : drop at s ≡ x digits (cut s (c .tags))
+  digits-in : StringIn s (c .unicode) digits
   digits-kept : DigitsKept digits
-  tags-listed : TagsKept (cut s v)
-  ordered : v .from ≤ v .to
-  within : v .to ≤ length s
+  tags-in : StringIn s (c .tags) (cut s (c .tags))
+  tags-listed : TagsKept (cut s (c .tags))
+
+-- what reads there, of this version, these digits and these tags
+abbrev pub Reads : (s : List ℕ) (newer : Bool) (digits tags : List ℕ) → Read Common → Type 0
+Reads s newer digits tags m =
+    (c : Common) × (m ≡ value c) × (c .newer ≡ newer) × StringIn s (c .unicode) digits × StringIn s (c .tags) tags
 
 unfoldable digitsInside : List ℕ → List ℕ → List ℕ
 digitsInside digits tags = tlv 0x5F36 digits ++ tlv 0x5C tags
 
-module _ (s : List ℕ) (at : ℕ) where
-  unicode-read : areOctets s → (v : Stretch) → fromUnicode s at ≡ value v → Listing s at digitsInside v
+module _ (newer : Bool) (s : List ℕ) (at : ℕ) where
+  abbrev then-said : Stretch → Stretch → Read Common
+  then-said u v = value (record { newer = newer; unicode = u; tags = v })
+
+  abbrev then-list : Stretch → Read Common
+  then-list u = checked (unless (isUnicode s u) 11 at) (andThen (fromTagList s (u .to)) (then-said u))
+
+  unicode-read : areOctets s → (c : Common) → fromUnicode newer s at ≡ value c
+      → Listing s at digitsInside c × (c .newer ≡ newer)
   unfolding fromUnicode isUnicode digitsInside
-  unicode-read small v e =
-      let a = first-value (element s at 0x5F36)
-      (λ (u : Stretch). checked (unless (isUnicode s u) 11 at) (fromTagList s (u .to))) v e in
+  unicode-read small c e =
+      let a = first-value (element s at 0x5F36) then-list c e in
       let u = a .0 in
-      let b = checked-value (unless (isUnicode s u) 11 at) (fromTagList s (u .to)) v (a .2) in
-      let c = and-both (hasOctets 6 u) (every isDigit (cut s u)) (unless-kept (isUnicode s u) 11 at (b .0)) in
+      let b = checked-value (unless (isUnicode s u) 11 at) (andThen (fromTagList s (u .to)) (then-said u)) c (a .2) in
+      let six = and-both (hasOctets 6 u) (every isDigit (cut s u)) (unless-kept (isUnicode s u) 11 at (b .0)) in
       let h = read-element s at 0x5F36 small u (a .1) in
-      let d = list-read s (u .to) small v (b .1) in
-      record {
-        digits = cut s u;
-        there = h .octets-there ∙ ap (λ (l : List ℕ). tlv 0x5F36 (cut s u) ++ l) (d .0);
-        digits-kept = record { six-digits = has-octets s at 0x5F36 (cut s u) (drop (u .to) s) u h 6 (c .0); only-digits = c .1 };
-        tags-listed = d .1;
-        ordered = d .2;
-        within = d .3;
-      }
+      let p = place-behind s at 0x5F36 (cut s u) (drop (u .to) s) u h in
+      let f = first-value (fromTagList s (u .to)) (then-said u) c (b .1) in
+      let d = list-read s (u .to) small (f .0) (f .1) in
+      subst (λ (x : Common). Listing s at digitsInside x × (x .newer ≡ newer)) (same-value (f .2)) (
+        record {
+          digits = cut s u;
+          there = h .octets-there ∙ ap (λ (l : List ℕ). tlv 0x5F36 (cut s u) ++ l) (d .0);
+          digits-in = record { string-cut = refl; string-ordered = p .1; string-within = p .2 };
+          digits-kept = record {
+            six-digits = has-octets s at 0x5F36 (cut s u) (drop (u .to) s) u h 6 (six .0);
+            only-digits = six .1;
+          };
+          tags-in = record { string-cut = refl; string-ordered = d .2; string-within = d .3 };
+          tags-listed = d .1;
+        },
+        refl,
+      )
 
   read-unicode : length s ≤ 65535 → (digits tags : List ℕ) → drop at s ≡ digitsInside digits tags → DigitsKept digits
-      → TagsKept tags
-      → (v : Stretch) × (fromUnicode s at ≡ value v) × (cut s v ≡ tags) × (v .from ≤ v .to) × (v .to ≤ length s)
+      → TagsKept tags → Reads s newer digits tags (fromUnicode newer s at)
   unfolding fromUnicode isUnicode digitsInside
   read-unicode most digits tags e k t =
       let a = element-read s at 0x5F36 most digits (tlv 0x5C tags) e in
       let u = a .0 in
       let there = cut-there s at 0x5F36 digits (tlv 0x5C tags) u (a .2) in
+      let p = place-behind s at 0x5F36 digits (tlv 0x5C tags) u (a .2) in
       let b = read-list s (u .to) most tags (a .2 .rest-there) t in
       let six = octets-had s at 0x5F36 digits (tlv 0x5C tags) u (a .2) 6 (k .six-digits) in
-      let only : every isDigit (cut s u) ≡ true = ap (every isDigit) there ∙ k .only-digits in (
-        b .0,
-        value-then (element s at 0x5F36) (λ (x : Stretch). checked (unless (isUnicode s x) 11 at) (fromTagList s (x .to))) u
-            (value (b .0)) (a .1)
-            (value-checked (unless (isUnicode s u) 11 at) (fromTagList s (u .to)) (value (b .0))
-            (kept-unless (isUnicode s u) 11 at (both-and six only)) (b .1)),
-        b .2,
-        b .3,
-        b .4,
+      let only : every isDigit (cut s u) ≡ true = ap (every isDigit) there ∙ k .only-digits in
+      let c : Common = record { newer = newer; unicode = u; tags = b .0 } in (
+        c,
+        value-then (element s at 0x5F36) then-list u (value c) (a .1)
+            (value-checked (unless (isUnicode s u) 11 at) (andThen (fromTagList s (u .to)) (then-said u)) (value c)
+            (kept-unless (isUnicode s u) 11 at (both-and six only))
+            (value-then (fromTagList s (u .to)) (then-said u) (b .0) (value c) (b .1) refl)),
+        refl,
+        record { string-cut = there; string-ordered = p .1; string-within = p .2 },
+        record { string-cut = b .2; string-ordered = b .3; string-within = b .4 },
       )
 
+-- ---- which of the two versions
+
+said : (l : List ℕ) → alike l lds17 || alike l lds18 ≡ true → l ≡ ldsOf (not (alike l lds17))
+unfolding ldsOf
+said l e = go (alike l lds17) refl e
+  where
+    go : (b : Bool) → alike l lds17 ≡ b → b || alike l lds18 ≡ true → l ≡ cond (not b) lds18 lds17
+    go true f h = alike-same l lds17 f
+    go false f h = alike-same l lds18 h
+
+pub saying : (newer : Bool)
+    → (alike (ldsOf newer) lds17 || alike (ldsOf newer) lds18 ≡ true) × (not (alike (ldsOf newer) lds17) ≡ newer)
+unfolding ldsOf alike
+saying true = (refl, refl)
+saying false = (refl, refl)
+
+four-octets : (newer : Bool) → length (ldsOf newer) ≡ 4
+unfolding ldsOf
+four-octets true = refl
+four-octets false = refl
+
 module _ (s : List ℕ) (at : ℕ) where
-  version-read : areOctets s → (v : Stretch) → fromVersion s at ≡ value v → Listing s at commonInside v
+  abbrev then-unicode : Stretch → Read Common
+  then-unicode u = checked (unless (isVersion both s u) 11 at) (fromUnicode (not (alike (cut s u) lds17)) s (u .to))
+
+  version-read : areOctets s → (c : Common) → fromVersion both s at ≡ value c → Listing s at (commonInside (c .newer)) c
   unfolding fromVersion isVersion commonInside digitsInside
-  version-read small v e =
-      let a = first-value (element s at 0x5F01)
-      (λ (u : Stretch). checked (unless (isVersion s u) 11 at) (fromUnicode s (u .to))) v e in
+  version-read small c e =
+      let a = first-value (element s at 0x5F01) then-unicode c e in
       let u = a .0 in
-      let b = checked-value (unless (isVersion s u) 11 at) (fromUnicode s (u .to)) v (a .2) in
-      let four : List ℕ = 0x30 ∷ 0x31 ∷ 0x30 ∷ 0x37 ∷ [] in
-      let c = and-both (hasOctets 4 u) (alike (cut s u) four) (unless-kept (isVersion s u) 11 at (b .0)) in
+      let l = cut s u in
+      let newer = not (alike l lds17) in
+      let b = checked-value (unless (isVersion both s u) 11 at) (fromUnicode newer s (u .to)) c (a .2) in
+      let which = and-both (hasOctets 4 u) (alike l lds17 || alike l lds18) (unless-kept (isVersion both s u) 11 at (b .0)) in
       let h = read-element s at 0x5F01 small u (a .1) in
-      let d = unicode-read s (u .to) small v (b .1) in
+      let f = unicode-read newer s (u .to) small c (b .1) in
+      let d = f .0 in
       record {
         digits = d .digits;
-        there = followed-by 0x5F01 (drop at s) (cut s u) four (drop (u .to) s) (tlv 0x5F36 (d .digits) ++ tlv 0x5C (cut s v))
-            (h .octets-there) (alike-same (cut s u) four (c .1)) (d .there);
+        there = followed-by 0x5F01 (drop at s) l (ldsOf (c .newer)) (drop (u .to) s)
+            (tlv 0x5F36 (d .digits) ++ tlv 0x5C (cut s (c .tags))) (h .octets-there)
+            (said l (which .1) ∙ ap ldsOf (sym (f .1))) (d .there);
+        digits-in = d .digits-in;
         digits-kept = d .digits-kept;
+        tags-in = d .tags-in;
         tags-listed = d .tags-listed;
-        ordered = d .ordered;
-        within = d .within;
       }
 
-  read-version : length s ≤ 65535 → (digits tags : List ℕ) → drop at s ≡ commonInside digits tags → DigitsKept digits
-      → TagsKept tags
-      → (v : Stretch) × (fromVersion s at ≡ value v) × (cut s v ≡ tags) × (v .from ≤ v .to) × (v .to ≤ length s)
+  read-version : length s ≤ 65535 → (newer : Bool) (digits tags : List ℕ) → drop at s ≡ commonInside newer digits tags
+      → DigitsKept digits → TagsKept tags → Reads s newer digits tags (fromVersion both s at)
   unfolding fromVersion isVersion commonInside digitsInside
-  read-version most digits tags e k t =
-      let four : List ℕ = 0x30 ∷ 0x31 ∷ 0x30 ∷ 0x37 ∷ [] in
+  read-version most newer digits tags e k t =
+      let four = ldsOf newer in
       let rest = tlv 0x5F36 digits ++ tlv 0x5C tags in
       let a = element-read s at 0x5F01 most four rest e in
       let u = a .0 in
       let there = cut-there s at 0x5F01 four rest u (a .2) in
-      let b = read-unicode s (u .to) most digits tags (a .2 .rest-there) k t in
-      let long = octets-had s at 0x5F01 four rest u (a .2) 4 refl in
-      let same = same-alike (cut s u) four there in (
+      let b = read-unicode newer s (u .to) most digits tags (a .2 .rest-there) k t in
+      let long = octets-had s at 0x5F01 four rest u (a .2) 4 (four-octets newer) in
+      let known : alike (cut s u) lds17 || alike (cut s u) lds18 ≡ true =
+      ap (λ (l : List ℕ). alike l lds17 || alike l lds18) there ∙ saying newer .0 in
+      let which : not (alike (cut s u) lds17) ≡ newer = ap (λ (l : List ℕ). not (alike l lds17)) there ∙ saying newer .1 in (
         b .0,
-        value-then (element s at 0x5F01) (λ (x : Stretch). checked (unless (isVersion s x) 11 at) (fromUnicode s (x .to))) u
-            (value (b .0)) (a .1)
-            (value-checked (unless (isVersion s u) 11 at) (fromUnicode s (u .to)) (value (b .0))
-            (kept-unless (isVersion s u) 11 at (both-and long same)) (b .1)),
+        value-then (element s at 0x5F01) then-unicode u (value (b .0)) (a .1)
+            (value-checked (unless (isVersion both s u) 11 at) (fromUnicode (not (alike (cut s u) lds17)) s (u .to))
+            (value (b .0)) (kept-unless (isVersion both s u) 11 at (both-and long known))
+            (ap (λ (x : Bool). fromUnicode x s (u .to)) which ∙ b .1)),
         b .2,
         b .3,
         b .4,
@@ -225,29 +272,43 @@ module _ (s : List ℕ) (at : ℕ) where
 
 -- ---- EF.COM, where its inside stands in a presentation
 
-module _ (w : List ℕ) (at tag : ℕ) (c rest : List ℕ) (o : Stretch) (h : Stands w at tag c rest o) where
-  pub common-read : areOctets w → (v : Stretch) → readEfCom w o ≡ value v
-      → (digits : List ℕ) × (c ≡ commonInside digits (cut w v)) × DigitsKept digits × TagsKept (cut w v)
-  unfolding readEfCom cut
-  common-read small v e =
-      let s = take (o .to) w in
-      let r = version-read s (o .from) (octets-before (o .to) w small) v e in
-      let long : length s ≡ o .to = length-take-le (o .to) w (h .ends-within) in
-      let fits : v .to ≤ o .to = omega (arith, r .within) in
-      let same : cut s v ≡ cut w v = cut-before w (o .to) (v .from) (v .to) fits (r .ordered) in (
-        r .digits,
-        sym (inside w at tag c rest o h) ∙ r .there ∙ ap (commonInside (r .digits)) same,
-        r .digits-kept,
-        subst TagsKept same (r .tags-listed),
-      )
+-- what is known of an EF.COM that was read
+pub record CommonIn (w l : List ℕ) (c : Common) : Type 0 where
+  pub digits : List ℕ
+  pub common-there : l ≡ commonInside (c .newer) digits (cut w (c .tags))
+  pub unicode-there : cut w (c .unicode) ≡ digits
+  pub digits-kept : DigitsKept digits
+  pub tags-kept : TagsKept (cut w (c .tags))
 
-  pub read-common : length w ≤ 65535 → (digits tags : List ℕ) → c ≡ commonInside digits tags → DigitsKept digits → TagsKept tags
-      → (v : Stretch) × (readEfCom w o ≡ value v) × (cut w v ≡ tags)
-  unfolding readEfCom cut
-  read-common most digits tags e k t =
+module _ (w : List ℕ) (at tag : ℕ) (l rest : List ℕ) (o : Stretch) (h : Stands w at tag l rest o) where
+  pub common-read : areOctets w → (c : Common) → readEfCom both w o ≡ value c → CommonIn w l c
+  unfolding readEfCom
+  common-read small c e =
       let s = take (o .to) w in
-      let r = read-version s (o .from) (take-most (o .to) 65535 w most) digits tags (inside w at tag c rest o h ∙ e) k t in
-      let v = r .0 in
-      let long : length s ≡ o .to = length-take-le (o .to) w (h .ends-within) in
-      let fits : v .to ≤ o .to = omega (arith, r .4) in
-      (v, r .1, sym (cut-before w (o .to) (v .from) (v .to) fits (r .3)) ∙ r .2)
+      let r = version-read s (o .from) (octets-before (o .to) w small) c e in
+      let tags = string-before w (o .to) (c .tags) (cut s (c .tags)) (h .ends-within) (r .tags-in) in
+      let unicode = string-before w (o .to) (c .unicode) (r .digits) (h .ends-within) (r .digits-in) in
+      let same : cut s (c .tags) ≡ cut w (c .tags) = sym (tags .string-cut) in
+      record {
+        digits = r .digits;
+        common-there = sym (inside w at tag l rest o h) ∙ r .there ∙ ap (commonInside (c .newer) (r .digits)) same;
+        unicode-there = unicode .string-cut;
+        digits-kept = r .digits-kept;
+        tags-kept = subst TagsKept same (r .tags-listed);
+      }
+
+  pub read-common : length w ≤ 65535 → (newer : Bool) (digits tags : List ℕ) → l ≡ commonInside newer digits tags
+      → DigitsKept digits → TagsKept tags
+      → (c : Common) × (readEfCom both w o ≡ value c) × (c .newer ≡ newer) × (cut w (c .unicode) ≡ digits)
+      × (cut w (c .tags) ≡ tags)
+  unfolding readEfCom
+  read-common most newer digits tags e k t =
+      let s = take (o .to) w in
+      let r = read-version s (o .from) (take-most (o .to) 65535 w most) newer digits tags (inside w at tag l rest o h ∙ e) k t in
+      let c = r .0 in (
+        c,
+        r .1,
+        r .2,
+        string-before w (o .to) (c .unicode) digits (h .ends-within) (r .3) .string-cut,
+        string-before w (o .to) (c .tags) tags (h .ends-within) (r .4) .string-cut,
+      )

@@ -1,22 +1,25 @@
--- Stage 3 as rows: reading EF.COM is its checks, before the stretch of its tag list.
+-- Stage 3 as rows: reading EF.COM is its checks, before what it says.
 use Prim.Native.Nat.{ℕ, suc}
 use mathlib.Core.Path.{_≡_, refl, ap, _∙_}
-use mathlib.Core.Bool.{not}
+use mathlib.Core.Bool.{Bool, not, _||_}
 use mathlib.Core.List.{List, [], _∷_, _++_}
 use Rattle.refusal.specs.Outcome.{orElse, unless}
 use Rattle.zone.specs.Alphabet.{isDigit, every}
 use Rattle.lent.specs.Octets.{alike, stands}
-use Rattle.tlv.specs.Read.{value, checked}
+use Rattle.tlv.specs.declared.Stretch.{Stretch}
+use Rattle.tlv.specs.Read.{Read, value, andThen, checked}
 use Rattle.tlv.specs.Cut.{cut, hasOctets, endCheck}
 use Rattle.tlv.specs.Tags.{isGroup}
 use Rattle.tlv.specs.Tags as Tag
+use Rattle.tlv.specs.Versions.{both, lds17, lds18}
+use Rattle.efcom.specs.declared.Common.{Common}
 use Rattle.efcom.specs.EfCom.{knownFrom, onceFrom, tagsCheck, fromTagList, isUnicode, fromUnicode, isVersion, fromVersion}
 use Rattle.text_theorems.proofs.FirstOf.{firstOf}
 use Rattle.row_theorems.specs.Standing.{stretchAt, coded}
 use Rattle.presentation_theorems.specs.EfComChecks.{versionChecks, unicodePlace, unicodeChecks, listPlace, knownChecks}
-use Rattle.presentation_theorems.specs.EfComChecks.{onceChecks, tagListChecks, efComChecks, tagList}
+use Rattle.presentation_theorems.specs.EfComChecks.{onceChecks, tagListChecks, efComChecks, common}
 use Rattle.row_theorems.proofs.Rows.{under, keep, first-then, checked-else, goes-on, stops}
-use Rattle.row_theorems.proofs.Rows.{element-then, element-of-two}
+use Rattle.row_theorems.proofs.Rows.{step-known, element-then, element-of-two}
 
 -- ---- the tags of the list, a row for each
 
@@ -49,17 +52,25 @@ tag-list-rows s at =
     ∙ first-then known (knownChecks (v .from) l) once-checks (checked once end) (value v) (known-rows (v .from) l)
     (first-then once (onceChecks (v .from) [] l) (endCheck s (v .to) ∷ []) end (value v) (once-rows (v .from) [] l) refl))
 
-unicode-rows : (s : List ℕ) (at : ℕ) → fromUnicode s at
+unicode-rows : (newer : Bool) (s : List ℕ) (at : ℕ) → fromUnicode newer s at
     ≡ under (unicodeChecks s at ++ tagListChecks s (stretchAt s at Tag.unicodeVersion .to))
-    (value (stretchAt s (stretchAt s at Tag.unicodeVersion .to) Tag.tagList))
+    (value (record {
+      newer = newer;
+      unicode = stretchAt s at Tag.unicodeVersion;
+      tags = stretchAt s (stretchAt s at Tag.unicodeVersion .to) Tag.tagList;
+    }))
 unfolding fromUnicode isUnicode unicodeChecks
-unicode-rows s at =
-    element-of-two s at Tag.unicodeVersion (hasOctets 6) (λ v. every isDigit (cut s v)) 11 (λ v. fromTagList s (v .to)) _ _
-    (tag-list-rows s (stretchAt s at Tag.unicodeVersion .to))
+unicode-rows newer s at =
+    let u = stretchAt s at Tag.unicodeVersion in
+    let go : Stretch → Stretch → Read Common = λ v tags. value (record { newer = newer; unicode = v; tags = tags }) in
+    element-of-two s at Tag.unicodeVersion (hasOctets 6) (λ v. every isDigit (cut s v)) 11
+    (λ v. andThen (fromTagList s (v .to)) (go v)) _ _
+    (step-known (tagListChecks s (u .to)) (fromTagList s (u .to)) (stretchAt s (u .to) Tag.tagList) (go u)
+    (tag-list-rows s (u .to)))
 
-pub efcom-rows : (s : List ℕ) (at : ℕ) → fromVersion s at ≡ under (efComChecks s at) (value (tagList s at))
-unfolding fromVersion isVersion efComChecks versionChecks unicodePlace listPlace tagList
+pub efcom-rows : (s : List ℕ) (at : ℕ) → fromVersion both s at ≡ under (efComChecks s at) (value (common s at))
+unfolding fromVersion isVersion efComChecks versionChecks unicodePlace listPlace common
 efcom-rows s at =
-    element-of-two s at Tag.ldsVersion (hasOctets 4) (λ v. alike (cut s v) (0x30 ∷ 0x31 ∷ 0x30 ∷ 0x37 ∷ [])) 11
-    (λ v. fromUnicode s (v .to)) _ _
-    (unicode-rows s (stretchAt s at Tag.ldsVersion .to))
+    element-of-two s at Tag.ldsVersion (hasOctets 4) (λ v. alike (cut s v) lds17 || alike (cut s v) lds18) 11
+    (λ v. fromUnicode (not (alike (cut s v) lds17)) s (v .to)) _ _
+    (unicode-rows (not (alike (cut s (stretchAt s at Tag.ldsVersion)) lds17)) s (stretchAt s at Tag.ldsVersion .to))

@@ -7,7 +7,7 @@ use native.Mathlib.Omega.{arith}
 use borrow.Author.Tests.{eqb-true, eqb-false, eq-eqb, ne-eqb}
 use lib.Dec.{eqb}
 use lib.ListN.{length, take, drop, length-take, length-drop, drop-of-length-le}
-use lib.Seq.{take-take, take-all}
+use lib.Seq.{take-take, take-all, length-take-le}
 use Rattle.lent.proofs.Bools.{and-both, both-and}
 use Rattle.refusal.specs.Outcome.{passed}
 use Rattle.tlv.specs.declared.Stretch.{Stretch}
@@ -94,3 +94,20 @@ cut-before w e from to h k = go w e from to h k
     go (c ∷ w) (suc e) (suc f) (suc to) a b =
         let gap : suc to - suc f ≡ to - f = omega arith in
         rw gap (go w e f to (omega arith) (omega arith))
+
+-- octets that stand in a stretch
+pub record StringIn (s : List ℕ) (v : Stretch) (l : List ℕ) : Type 0 where
+  pub string-cut : cut s v ≡ l
+  pub string-ordered : v .from ≤ v .to
+  pub string-within : v .to ≤ length s
+
+pub string-before : (w : List ℕ) (n : ℕ) (v : Stretch) (l : List ℕ) → n ≤ length w → StringIn (take n w) v l → StringIn w v l
+unfolding cut
+string-before w n v l h k =
+    let long : length (take n w) ≡ n = length-take-le n w h in
+    let fits : v .to ≤ n = omega (arith, k .string-within) in
+    record {
+      string-cut = sym (cut-before w n (v .from) (v .to) fits (k .string-ordered)) ∙ k .string-cut;
+      string-ordered = k .string-ordered;
+      string-within = omega arith;
+    }

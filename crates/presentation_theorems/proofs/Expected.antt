@@ -21,6 +21,7 @@ use Rattle.text.proofs.Within.{text-within}
 use Rattle.tlv.specs.declared.Stretch.{Stretch}
 use Rattle.tlv.specs.Read.{Read, value, refusal, andThen, checked, outcomeIn}
 use Rattle.tlv.specs.Cut.{cut}
+use Rattle.tlv.specs.Versions.{both}
 use Rattle.tlv.proofs.Stretches.{cut-within}
 use Rattle.tlv.proofs.Each.{EachRead, each-value, each-refusal, each-then}
 use Rattle.group_text.specs.Text.{moved, answerBy}
@@ -63,7 +64,7 @@ answer-outcome (refusal n p) = refl
 module _ (w : List ℕ) where
   outcome-through : readPresentation w .outcome ≡ outcomeIn (andThen (textStretch w) (onwards w))
   unfolding readPresentation
-  outcome-through = answer-outcome (readStages w) ∙ ap outcomeIn (through-text w)
+  outcome-through = answer-outcome (readStages both w) ∙ ap outcomeIn (through-text w)
 
   presentation-carries : Each (Carries w) (readPresentation w .outcome)
   unfolding onwards

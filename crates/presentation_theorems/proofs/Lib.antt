@@ -8,8 +8,12 @@ pub mod EfCom
 pub mod ObjectEntry
 -- stage 4: the list of entries
 pub mod ObjectEntries
+-- stage 4: what stands behind it, in either version
+pub mod StringsBehind
 -- stage 4 as a whole
 pub mod SecurityObject
+-- after stage 4: EF.COM and the object agree
+pub mod VersionsAgree
 -- stage 2: the group files
 pub mod GroupFiles
 -- stage 5: each file listed, lent once, and signed

@@ -20,13 +20,15 @@ use Rattle.tlv.proofs.Joined.{never-value, same-value, first-value, value-then,
 use Rattle.tlv.proofs.Encoded.{inside, length-tlv, some-head}
 use Rattle.tlv.specs.Cut.{cut, endCheck}
 use Rattle.lent.specs.Octets.{stands}
-use Rattle.object.specs.Object.{GroupHash, entryAt, entriesFrom, entries, numbersOnce, entriesCheck, fromEntryList}
+use Rattle.object.specs.declared.strings.Version.{Version}
+use Rattle.object.specs.Object.{GroupHash, Said, entryAt, entriesFrom, entries, numbersOnce, entriesCheck, versionAt}
+use Rattle.object.specs.Object.{fromEntryList}
 use Rattle.zone.specs.Octets.{areOctets}
 use Rattle.presentation_theorems.specs.Presented.{Signed, signedOf, allSigned, isIn, isOnce, numbers, EntryKept}
 use Rattle.refusal.proofs.Outcomes.{refused-not-passed, both-passed, unless-kept}
 use Rattle.presentation_theorems.proofs.NoneTwice.{onceAfter, once-none, none-once}
-use Rattle.tlv.proofs.Standing.{last-read, place-behind}
-use Rattle.presentation_theorems.proofs.Elements.{octets-before, take-most, read-element, nothing-left, left-nothing}
+use Rattle.tlv.proofs.Standing.{element-read, place-behind, followed-by}
+use Rattle.presentation_theorems.proofs.Elements.{octets-before, take-most, read-element}
 use Rattle.presentation_theorems.proofs.ObjectEntry.{signedAt, signedIn, heldIn, signed-before, held-more, EntryRead}
 use Rattle.presentation_theorems.proofs.ObjectEntry.{entry-read, read-entry}
 
@@ -175,63 +177,81 @@ module _ (s : List ℕ) (es : List GroupHash) (at : ℕ) where
 
 -- ---- the list
 
-module _ (s : List ℕ) (at : ℕ) where
-  -- what goes on from the list's value, and from its entries
-  abbrev then-checks : Stretch → List GroupHash → Read (List GroupHash)
-  then-checks u q = checked (entriesCheck q at) (checked (endCheck s (u .to)) (value q))
+-- what is known of a list that was read, with what stands behind it
+pub record ListRead (newer : Bool) (s : List ℕ) (at : ℕ) (x : Said) : Type 0 where
+  pub behind : ℕ
+  pub list-there : drop at s ≡ tlv 0x30 (allSigned (signedIn s (x .entries))) ++ drop behind s
+  pub list-kept : SignedKept (signedIn s (x .entries))
+  pub list-held : heldIn (length s) (x .entries) ≡ true
+  pub version-read : versionAt newer s behind ≡ value (x .version)
 
-  abbrev then-entries : Stretch → Read (List GroupHash)
+module _ (newer : Bool) (s : List ℕ) (at : ℕ) where
+  -- what goes on from the list's value, from its entries, and from the version
+  abbrev then-version : List GroupHash → Version → Read Said
+  then-version q y = value (record { entries = q; version = y })
+
+  abbrev then-checks : Stretch → List GroupHash → Read Said
+  then-checks u q = checked (entriesCheck q at) (andThen (versionAt newer s (u .to)) (then-version q))
+
+  abbrev then-entries : Stretch → Read Said
   then-entries u = andThen (entries (take (u .to) s) (u .from)) (then-checks u)
 
-  pub list-of-entries : areOctets s → (es : List GroupHash) → fromEntryList s at ≡ value es
-      → (drop at s ≡ tlv 0x30 (allSigned (signedIn s es))) × SignedKept (signedIn s es) × (heldIn (length s) es ≡ true)
+  pub list-of-entries : areOctets s → (x : Said) → fromEntryList newer s at ≡ value x → ListRead newer s at x
   unfolding fromEntryList entries
-  list-of-entries small es e =
-      let a = first-value (element s at 0x30) then-entries es e in
+  list-of-entries small x e =
+      let a = first-value (element s at 0x30) then-entries x e in
       let v = a .0 in
       let t = take (v .to) s in
-      let b = first-value (entries t (v .from)) (then-checks v) es (a .2) in
-      let x = b .0 in
-      let c = checked-value (entriesCheck x at) (checked (endCheck s (v .to)) (value x)) es (b .2) in
-      let d = checked-value (endCheck s (v .to)) (value x) es (c .1) in
+      let b = first-value (entries t (v .from)) (then-checks v) x (a .2) in
+      let es = b .0 in
+      let c = checked-value (entriesCheck es at) (andThen (versionAt newer s (v .to)) (then-version es)) x (b .2) in
+      let d = first-value (versionAt newer s (v .to)) (then-version es) x (c .1) in
       let h = read-element s at 0x30 small v (a .1) in
       let places = place-behind s at 0x30 (cut s v) (drop (v .to) s) v h in
       let long : length t ≡ v .to = length-take-le (v .to) s (h .ends-within) in
-      let r = entries-read (suc (length t)) t (v .from) x (octets-before (v .to) s small) (omega (arith, places .1)) (b .1) in
-      let held : heldIn (v .to) x ≡ true = ap (λ (n : ℕ). heldIn n x) (sym long) ∙ r .entries-held in
-      let same : signedIn t x ≡ signedIn s x = signed-before s (v .to) x held in
-      let content : cut s v ≡ allSigned (signedIn s x) = sym (inside s at 0x30 (cut s v) (drop (v .to) s) v h) ∙ r .entries-there
-      ∙ ap allSigned same in
-      let there : drop at s ≡ tlv 0x30 (allSigned (signedIn s x)) =
-      h .octets-there ∙ ap (λ (l : List ℕ). tlv 0x30 (cut s v) ++ l) (nothing-left s (v .to) (d .0))
-      ∙ append-nil (tlv 0x30 (cut s v)) ∙ ap (tlv 0x30) content in
-      subst (λ (q : List GroupHash). (drop at s ≡ tlv 0x30 (allSigned (signedIn s q))) × SignedKept (signedIn s q) ×
-      (heldIn (length s) q ≡ true)) (same-value (d .1))
-      (there, check-kept s x at (subst EachKept same (r .entries-kept)) (c .0), held-more (v .to) (length s) x (places .2) held)
+      let r = entries-read (suc (length t)) t (v .from) es (octets-before (v .to) s small) (omega (arith, places .1)) (b .1) in
+      let held : heldIn (v .to) es ≡ true = ap (λ (n : ℕ). heldIn n es) (sym long) ∙ r .entries-held in
+      let same : signedIn t es ≡ signedIn s es = signed-before s (v .to) es held in
+      let content : cut s v ≡ allSigned (signedIn s es) = sym (inside s at 0x30 (cut s v) (drop (v .to) s) v h)
+      ∙ r .entries-there ∙ ap allSigned same in
+      subst (ListRead newer s at) (same-value (d .2)) (record {
+        behind = v .to;
+        list-there = followed-by 0x30 (drop at s) (cut s v) (allSigned (signedIn s es)) (drop (v .to) s) (drop (v .to) s)
+            (h .octets-there) content refl;
+        list-kept = check-kept s es at (subst EachKept same (r .entries-kept)) (c .0);
+        list-held = held-more (v .to) (length s) es (places .2) held;
+        version-read = d .1;
+      })
 
-  pub entries-listed : length s ≤ 65535 → (xs : List Signed) → drop at s ≡ tlv 0x30 (allSigned xs) → SignedKept xs
-      → (es : List GroupHash) × (fromEntryList s at ≡ value es) × (signedIn s es ≡ xs) × (heldIn (length s) es ≡ true)
+  -- and back, with a version that has what is asked of it
+  pub entries-listed : length s ≤ 65535 → (xs : List Signed) (rest : List ℕ) → drop at s ≡ tlv 0x30 (allSigned xs) ++ rest
+      → SignedKept xs → (Q : Version → Type 0)
+      → ((behind : ℕ) → behind ≤ length s → drop behind s ≡ rest → (y : Version) × (versionAt newer s behind ≡ value y) × Q y)
+      → (x : Said) × (fromEntryList newer s at ≡ value x) × (signedIn s (x .entries) ≡ xs)
+      × (heldIn (length s) (x .entries) ≡ true) × Q (x .version)
   unfolding fromEntryList entries EachKept
-  entries-listed most xs e k =
-      let a = last-read s at 0x30 most (allSigned xs) e in
+  entries-listed most xs rest e k Q version =
+      let a = element-read s at 0x30 most (allSigned xs) rest e in
       let v = a .0 in
       let h = a .2 in
       let t = take (v .to) s in
-      let places = place-behind s at 0x30 (allSigned xs) [] v h in
+      let places = place-behind s at 0x30 (allSigned xs) rest v h in
       let long : length t ≡ v .to = length-take-le (v .to) s (h .ends-within) in
       let b = read-entries (suc (length t)) t (v .from) xs (take-most (v .to) 65535 s most) (omega (arith, places .1))
       (omega arith) (k .each-kept)
-      (inside s at 0x30 (allSigned xs) [] v h) in
+      (inside s at 0x30 (allSigned xs) rest v h) in
       let es = b .0 in
       let held : heldIn (v .to) es ≡ true = ap (λ (n : ℕ). heldIn n es) (sym long) ∙ b .3 in
-      let same : signedIn s es ≡ xs = sym (signed-before s (v .to) es held) ∙ b .2 in (
-        es,
-        value-then (element s at 0x30) then-entries v (value es) (a .1)
-            (value-then (entries t (v .from)) (then-checks v) es (value es) (b .1)
-            (value-checked (entriesCheck es at) (checked (endCheck s (v .to)) (value es)) (value es)
+      let same : signedIn s es ≡ xs = sym (signed-before s (v .to) es held) ∙ b .2 in
+      let y = version (v .to) (places .2) (h .rest-there) in
+      let x : Said = record { entries = es; version = y .0 } in (
+        x,
+        value-then (element s at 0x30) then-entries v (value x) (a .1)
+            (value-then (entries t (v .from)) (then-checks v) es (value x) (b .1)
+            (value-checked (entriesCheck es at) (andThen (versionAt newer s (v .to)) (then-version es)) (value x)
             (kept-check s es at (subst SignedKept (sym same) k))
-            (value-checked (endCheck s (v .to)) (value es) (value es)
-            (left-nothing s (v .to) (places .2) (h .rest-there)) refl))),
+            (value-then (versionAt newer s (v .to)) (then-version es) (y .0) (value x) (y .1) refl))),
         same,
         held-more (v .to) (length s) es (places .2) held,
+        y .2,
       )

@@ -1,7 +1,7 @@
--- Stage 4 as rows: reading the security object is its checks, before its entries.
+-- Stage 4 as rows: reading the security object is its checks, before what it says.
 use Prim.Native.Nat.{ℕ, suc, _≤_, _<_}
 use mathlib.Core.Path.{_≡_, refl, ap, _∙_}
-use mathlib.Core.Bool.{not, _&&_}
+use mathlib.Core.Bool.{Bool, true, false, not, _&&_, _||_}
 use mathlib.Core.List.{List, [], _∷_, _++_, map}
 use native.Mathlib.Omega.{arith}
 use lib.Dec.{eqb, leb}
@@ -10,20 +10,26 @@ use lib.Seq.{length-take-le}
 use Rattle.refusal.specs.Outcome.{passed, orElse, unless}
 use Rattle.refusal.proofs.Outcomes.{both-passed}
 use Rattle.lent.specs.Octets.{stands}
-use Rattle.tlv.specs.Read.{value, checked}
+use Rattle.tlv.specs.Read.{Read, value, andThen, checked}
 use Rattle.tlv.specs.Element.{tagWidth}
 use Rattle.tlv.specs.Cut.{cut, hasOctets, endCheck}
 use Rattle.tlv.specs.Tags as Tag
+use Rattle.tlv.specs.Versions.{both}
+use Rattle.object.specs.declared.strings.Strings.{Strings}
+use Rattle.object.specs.declared.strings.Version.{Version}
+use Rattle.object.specs.declared.strings.Version.the-variants.{One}
 use Rattle.object.specs.Object.{GroupHash, isGroupNumber, digestAt, numberAt, entryAt, entriesFrom, entries, numbersOnce}
-use Rattle.object.specs.Object.{entriesCheck, fromEntryList, isSha256, fromAlgorithm, isZero, fromVersion}
+use Rattle.object.specs.Object.{Said, entriesCheck, stringsAt, sequenceAt, versionAt, fromEntryList, isSha256, fromAlgorithm}
+use Rattle.object.specs.Object.{isVersion, fromVersion}
 use Rattle.text_theorems.proofs.FirstOf.{firstOf}
 use Rattle.row_theorems.specs.Standing.{stretchAt, coded, each}
-use Rattle.presentation_theorems.specs.ObjectChecks.{zeroChecks, algorithmPlace, algorithmChecks, entriesPlace}
+use Rattle.presentation_theorems.specs.ObjectChecks.{versionChecks, isOne, algorithmPlace, algorithmChecks, entriesPlace}
 use Rattle.presentation_theorems.specs.ObjectChecks.{sequenceBytes, numberPlace, numberStretch, digestStretch, groupHash}
 use Rattle.presentation_theorems.specs.ObjectChecks.{entryChecks, entryPlaces, repeatedChecks, placesIn, entriesIn}
-use Rattle.presentation_theorems.specs.ObjectChecks.{entryListChecks, objectChecks}
+use Rattle.presentation_theorems.specs.ObjectChecks.{ldsStretch, unicodeStretch, stringsChecks, behindChecks, versionBehind}
+use Rattle.presentation_theorems.specs.ObjectChecks.{entryListChecks, versionOf, objectChecks}
 use Rattle.presentation_theorems.proofs.Elements.{end-there}
-use Rattle.row_theorems.proofs.Rows.{under, keep, first-then, checked-else, stops, step-then, element-then}
+use Rattle.row_theorems.proofs.Rows.{step-known, under, keep, first-then, checked-else, stops, step-then, element-then}
 use Rattle.row_theorems.proofs.Rows.{element-of-two, some-place, coded-within, lastOf, last-passed}
 use Rattle.row_theorems.proofs.Places.{places-rows}
 
@@ -79,36 +85,78 @@ repeated-rows before (e ∷ es) =
     stops (stands (e .group) before) 12 (e .place) (numbersOnce (e .group ∷ before) es)
     ∙ ap (orElse (unless (not (stands (e .group) before)) 12 (e .place))) (repeated-rows (e .group ∷ before) es)
 
-list-rows : (s : List ℕ) (at : ℕ) → fromEntryList s at ≡ under (entryListChecks s at) (value (entriesIn s at))
-unfolding fromEntryList entriesCheck entryListChecks placesIn sequenceBytes entriesIn under
-list-rows s at =
+-- ---- what stands behind them
+
+sequence-rows : (s : List ℕ) (at : ℕ)
+    → sequenceAt s at ≡ under (stringsChecks s at) (value (record { lds = ldsStretch s at; unicode = unicodeStretch s at }))
+unfolding sequenceAt stringsAt stringsChecks ldsStretch unicodeStretch sequenceBytes under
+sequence-rows s at =
+    let v = stretchAt s at Tag.sequence in
+    let l = take (v .to) s in
+    let a = stretchAt l (v .from) Tag.printableString in
+    let b = stretchAt l (a .to) Tag.printableString in
+    let t : Strings = record { lds = a; unicode = b } in
+    let close : Strings → Read Strings = λ x. checked (endCheck s (v .to)) (value x) in
+    element-then s at Tag.sequence _
+    ∙ keep (coded s at Tag.sequence)
+    (step-known (coded l (v .from) Tag.printableString ∷ coded l (a .to) Tag.printableString ∷ endCheck l (b .to) ∷ [])
+    (stringsAt l (v .from)) t close
+    (element-then l (v .from) Tag.printableString _
+    ∙ keep (coded l (v .from) Tag.printableString) (element-then l (a .to) Tag.printableString _)))
+
+behind-rows : (newer : Bool) (s : List ℕ) (at : ℕ)
+    → versionAt newer s at ≡ under (behindChecks newer s at) (value (versionBehind newer s at))
+unfolding versionAt behindChecks versionBehind under
+behind-rows false s at = refl
+behind-rows true s at =
+    let t : Strings = record { lds = ldsStretch s at; unicode = unicodeStretch s at } in
+    step-known (stringsChecks s at) (sequenceAt s at) t (λ (x : Strings). value (One x)) (sequence-rows s at)
+
+-- ---- the list, and all of it
+
+-- what a list says, and what stands behind it
+unfoldable saidAt : Bool → List ℕ → ℕ → Said
+saidAt newer s at = record {
+  entries = entriesIn s at;
+  version = versionBehind newer s (stretchAt s at Tag.sequence .to);
+}
+
+list-rows : (newer : Bool) (s : List ℕ) (at : ℕ)
+    → fromEntryList newer s at ≡ under (entryListChecks newer s at) (value (saidAt newer s at))
+unfolding fromEntryList entriesCheck entryListChecks placesIn sequenceBytes entriesIn saidAt under
+list-rows newer s at =
     let v = stretchAt s at Tag.sequence in
     let l = take (v .to) s in
     let ps = entryPlaces l (v .from) in
     let es = map (groupHash l) ps in
-    let last = unless (leb 2 (length es)) 12 at ∷ endCheck s (v .to) ∷ [] in
     let few = unless (leb 2 (length es)) 12 at in
-    let end = checked (endCheck s (v .to)) (value es) in
+    let last = few ∷ behindChecks newer s (v .to) in
+    let go : Version → Read Said = λ x. value (record { entries = es; version = x }) in
+    let end = andThen (versionAt newer s (v .to)) go in
+    let all : Said = record { entries = es; version = versionBehind newer s (v .to) } in
     element-then s at Tag.sequence _
     ∙ keep (coded s at Tag.sequence)
-    (step-then (each (entryChecks l) ps) (repeatedChecks [] es ++ last) (entries l (v .from)) es _ (value es)
+    (step-then (each (entryChecks l) ps) (repeatedChecks [] es ++ last) (entries l (v .from)) es _ (value all)
     (entries-rows l (v .from))
     (checked-else (numbersOnce [] es) few end
-    ∙ first-then (numbersOnce [] es) (repeatedChecks [] es) last (checked few end) (value es) (repeated-rows [] es) refl))
+    ∙ first-then (numbersOnce [] es) (repeatedChecks [] es) last (checked few end) (value all) (repeated-rows [] es)
+    (keep few (step-known (behindChecks newer s (v .to)) (versionAt newer s (v .to)) (versionBehind newer s (v .to)) go
+    (behind-rows newer s (v .to))))))
 
--- ---- all of it
-
-algorithm-rows : (s : List ℕ) (at : ℕ) → fromAlgorithm s at
-    ≡ under (algorithmChecks s at ++ entryListChecks s (stretchAt s at Tag.sequence .to))
-    (value (entriesIn s (stretchAt s at Tag.sequence .to)))
+algorithm-rows : (newer : Bool) (s : List ℕ) (at : ℕ) → fromAlgorithm newer s at
+    ≡ under (algorithmChecks s at ++ entryListChecks newer s (stretchAt s at Tag.sequence .to))
+    (value (saidAt newer s (stretchAt s at Tag.sequence .to)))
 unfolding fromAlgorithm algorithmChecks under
-algorithm-rows s at =
+algorithm-rows newer s at =
     let v = stretchAt s at Tag.sequence in
     element-then s at Tag.sequence _
-    ∙ keep (coded s at Tag.sequence) (keep (unless (isSha256 (cut s v)) 13 at) (list-rows s (v .to)))
+    ∙ keep (coded s at Tag.sequence) (keep (unless (isSha256 (cut s v)) 13 at) (list-rows newer s (v .to)))
 
-pub object-rows : (s : List ℕ) (at : ℕ) → fromVersion s at ≡ under (objectChecks s at) (value (entriesIn s (entriesPlace s at)))
-unfolding fromVersion isZero objectChecks zeroChecks algorithmPlace entriesPlace
+pub object-rows : (s : List ℕ) (at : ℕ) → fromVersion both s at
+    ≡ under (objectChecks s at) (value (record { entries = entriesIn s (entriesPlace s at); version = versionOf s at }))
+unfolding fromVersion isVersion objectChecks versionChecks isOne algorithmPlace entriesPlace versionOf saidAt
 object-rows s at =
-    element-of-two s at Tag.integer (hasOctets 1) (λ v. eqb (getD s (v .from) 0) 0) 12 (λ v. fromAlgorithm s (v .to)) _ _
-    (algorithm-rows s (stretchAt s at Tag.integer .to))
+    let v = stretchAt s at Tag.integer in
+    element-of-two s at Tag.integer (hasOctets 1) (λ v. eqb (getD s (v .from) 0) 0 || eqb (getD s (v .from) 0) 1) 12
+    (λ v. fromAlgorithm (eqb (getD s (v .from) 0) 1) s (v .to)) _ _
+    (algorithm-rows (eqb (getD s (v .from) 0) 1) s (v .to))

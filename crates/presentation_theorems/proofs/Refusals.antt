@@ -23,11 +23,13 @@ use Rattle.tlv.proofs.Past.{value-within}
 use Rattle.tlv.proofs.Stretches.{cut-within}
 use Rattle.tlv.proofs.Joined.{first-value, checked-value, kept-value, never-value, same-value}
 use Rattle.tlv.proofs.Each.{EachRead, each-value, each-refusal, each-then, each-checked, each-element, each-end}
+use Rattle.tlv.specs.Versions.{both}
 use Rattle.efcom.specs.EfCom as efcom
 use Rattle.object.specs.Object as object
 use Rattle.object.proofs.EntryPlaces.{entry-stands}
 use Rattle.outer.specs.declared.Outer.{Outer}
 use Rattle.outer.specs.Outer.{File, sizeCheck, fileAt, filesFrom, files, outer, walked}
+use Rattle.chip.specs.Versions.{agrees, versionsCheck}
 use Rattle.chip.specs.Files.{isExpected, isDigested, fileCheck, filesCheck}
 use Rattle.chip.specs.Presentation.{firstFile}
 use Rattle.presentation_theorems.specs.Expected.{textStretch}
@@ -103,7 +105,7 @@ module _ (last : ℕ) where
       go false q below = below q
 
   outer-ends : (w : List ℕ) → length w ≤ last → (o : Outer) → walked w ≡ value o
-      → (o .efcom .from ≤ last) × (o .object .from ≤ last) × (o .object .to ≤ last)
+      → (o .efcom .from ≤ last) × (o .object .from ≤ last) × (o .object .to ≤ last) × (o .efcom .to ≤ last)
   unfolding walked outer
   outer-ends w most o e =
       let size = checked-value (sizeCheck w) _ o e in
@@ -113,7 +115,7 @@ module _ (last : ℕ) where
       let same : record { efcom = one .0; object = two .0 } ≡ o = same-value (all .2) in
       let a = value-within w 0 Tag.efCom (one .0) (one .1) in
       let b = value-within w (one .0 .to) Tag.sequence (two .0) (two .1) in
-      rw (← same) (omega (arith, a .1, a .2), omega (arith, b .1, b .2), omega (arith, b .2))
+      rw (← same) (omega (arith, a .1, a .2), omega (arith, b .1, b .2), omega (arith, b .2), omega (arith, a .2))
 
 -- ---- the refusals
 
@@ -157,7 +159,7 @@ module _ (P : Why → ℕ → Type 0) (last : ℕ)
       (each-else P (efcom.knownFrom (v .from) (cut s v)) _ (known (v .from) (cut s v) list) (once (v .from) [] (cut s v) list))
       (each-checked P _ _ (each-end P s (v .to) (plain 10 (v .to) refl (k .2))) (each-value P v)))
 
-  efcom-each : (w : List ℕ) (v : Stretch) → length w ≤ last → v .from ≤ last → EachRead P (efcom.readEfCom w v)
+  efcom-each : (w : List ℕ) (v : Stretch) → length w ≤ last → v .from ≤ last → EachRead P (efcom.readEfCom both w v)
   unfolding efcom.readEfCom efcom.fromVersion efcom.fromUnicode
   efcom-each w v most h =
       let s = take (v .to) w in
@@ -165,10 +167,11 @@ module _ (P : Why → ℕ → Type 0) (last : ℕ)
       let less = take-most (v .to) last w most in
       each-then P (element s at Tag.ldsVersion) _ (at-element s at Tag.ldsVersion h) (λ a e.
       let j = ends s at Tag.ldsVersion less a e .2 in
-      each-checked P (unless (efcom.isVersion s a) 11 at) _ (rule (efcom.isVersion s a) 11 at refl h)
+      each-checked P (unless (efcom.isVersion both s a) 11 at) _ (rule (efcom.isVersion both s a) 11 at refl h)
       (each-then P (element s (a .to) Tag.unicodeVersion) _ (at-element s (a .to) Tag.unicodeVersion j) (λ b f.
       each-checked P (unless (efcom.isUnicode s b) 11 (a .to)) _ (rule (efcom.isUnicode s b) 11 (a .to) refl j)
-      (tag-list s (b .to) less (ends s (a .to) Tag.unicodeVersion less b f .2)))))
+      (each-then P (efcom.fromTagList s (b .to)) _
+      (tag-list s (b .to) less (ends s (a .to) Tag.unicodeVersion less b f .2)) (λ t g. each-value P _)))))
 
   -- ---- stage 4
 
@@ -203,7 +206,28 @@ module _ (P : Why → ℕ → Type 0) (last : ℕ)
       either-way (Each P) (stands (e .group) before) _ _ (each-refused P (by 12) (e .place) (plain 12 (e .place) refl (h .0)))
       (numbers-each (e .group ∷ before) es (h .1))
 
-  object-each : (w : List ℕ) (v : Stretch) → length w ≤ last → v .from ≤ last → EachRead P (object.readObject w v)
+  strings-each : (s : List ℕ) (at : ℕ) → length s ≤ last → at ≤ last → EachRead P (object.stringsAt s at)
+  unfolding object.stringsAt
+  strings-each s at most h =
+      each-then P (element s at Tag.printableString) _ (at-element s at Tag.printableString h) (λ a e.
+      let j = ends s at Tag.printableString most a e .2 in
+      each-then P (element s (a .to) Tag.printableString) _ (at-element s (a .to) Tag.printableString j) (λ b f.
+      each-checked P _ _ (each-end P s (b .to) (plain 10 (b .to) refl (ends s (a .to) Tag.printableString most b f .2)))
+      (each-value P _)))
+
+  version-each : (newer : Bool) (s : List ℕ) (at : ℕ) → length s ≤ last → at ≤ last → EachRead P (object.versionAt newer s at)
+  unfolding object.versionAt object.sequenceAt
+  version-each false s at most h = each-checked P _ _ (each-end P s at (plain 10 at refl h)) (each-value P _)
+  version-each true s at most h =
+      each-then P (object.sequenceAt s at) _
+      (each-then P (element s at Tag.sequence) _ (at-element s at Tag.sequence h) (λ v e.
+      let k = ends s at Tag.sequence most v e in
+      each-then P (object.stringsAt (take (v .to) s) (v .from)) _
+      (strings-each (take (v .to) s) (v .from) (take-most (v .to) last s most) (k .1)) (λ t f.
+      each-checked P _ _ (each-end P s (v .to) (plain 10 (v .to) refl (k .2))) (each-value P t))))
+      (λ t e. each-value P _)
+
+  object-each : (w : List ℕ) (v : Stretch) → length w ≤ last → v .from ≤ last → EachRead P (object.readObject both w v)
   unfolding object.readObject object.fromVersion object.fromAlgorithm object.fromEntryList object.entries object.entriesCheck
   object-each w v most h =
       let s = take (v .to) w in
@@ -211,7 +235,7 @@ module _ (P : Why → ℕ → Type 0) (last : ℕ)
       let less = take-most (v .to) last w most in
       each-then P (element s at Tag.integer) _ (at-element s at Tag.integer h) (λ a e.
       let i = ends s at Tag.integer less a e .2 in
-      each-checked P (unless (object.isZero s a) 12 at) _ (rule (object.isZero s a) 12 at refl h)
+      each-checked P (unless (object.isVersion both s a) 12 at) _ (rule (object.isVersion both s a) 12 at refl h)
       (each-then P (element s (a .to) Tag.sequence) _ (at-element s (a .to) Tag.sequence i) (λ b f.
       let j = ends s (a .to) Tag.sequence less b f .2 in
       each-checked P (unless (object.isSha256 (cut s b)) 13 (a .to)) _ (rule (object.isSha256 (cut s b)) 13 (a .to) refl i)
@@ -223,7 +247,7 @@ module _ (P : Why → ℕ → Type 0) (last : ℕ)
       each-checked P (object.entriesCheck es (b .to)) _
       (each-else P (object.numbersOnce [] es) _ (numbers-each [] es (entries-in last _ (take (l .to) s) inner (l .from) es m))
       (rule (leb 2 (length es)) 12 (b .to) refl j))
-      (each-checked P _ _ (each-end P s (l .to) (plain 10 (l .to) refl (k .2))) (each-value P es))))))))
+      (each-then P (object.versionAt _ s (l .to)) _ (version-each _ s (l .to) less (k .2)) (λ y q. each-value P _))))))))
 
   -- ---- stages 1 and 2
 
@@ -274,19 +298,22 @@ module _ (P : Why → ℕ → Type 0) (last : ℕ)
       either-way (EachRead P) (eqb (groupOf (getD w (f .start) 0)) g) _ _ (each-value P f) (first-each w g fs most)
 
   pub before-text : (w : List ℕ) → length w ≤ last → EachRead P (textStretch w)
-  unfolding textStretch files
+  unfolding textStretch files versionsCheck
   before-text w most =
       each-then P (walked w) _ (outer-each w most) (λ o e.
       let parts = outer-ends last w most o e in
-      each-then P (efcom.readEfCom w (o .efcom)) _ (efcom-each w (o .efcom) most (parts .0)) (λ tags f.
-      each-then P (object.readObject w (o .object)) _ (object-each w (o .object) most (parts .1)) (λ es g.
-      each-then P (files w (o .object .to)) _ (files-each _ w (o .object .to) most (parts .2)) (λ fs h.
+      each-then P (efcom.readEfCom both w (o .efcom)) _ (efcom-each w (o .efcom) most (parts .0)) (λ c f.
+      each-then P (object.readObject both w (o .object)) _ (object-each w (o .object) most (parts .1)) (λ y g.
+      each-checked P (versionsCheck w (o .efcom .to) c (y .version)) _
+      (rule (agrees w c (y .version)) 19 (o .efcom .to) refl (parts .3))
+      (each-then P (files w (o .object .to)) _ (files-each _ w (o .object .to) most (parts .2)) (λ fs h.
       let inside = files-in last _ w most (o .object .to) fs h in
-      each-checked P (filesCheck w (cut w tags) [] es fs) _ (signed-each w (cut w tags) [] es fs inside)
+      each-checked P (filesCheck w (cut w (c .tags)) [] (y .entries) fs) _
+      (signed-each w (cut w (c .tags)) [] (y .entries) fs inside)
       (each-then P (firstFile w 1 fs) _ (first-each w 1 fs most) (λ x i.
       let s = take (x .held .to) w in
       let less = take-most (x .held .to) last w most in
       let at = first-in last w 1 fs x inside i .1 in
       each-then P (element s (x .held .from) Tag.text) _ (at-element s (x .held .from) Tag.text at) (λ v j.
       each-checked P _ _
-      (each-end P s (v .to) (plain 10 (v .to) refl (ends s (x .held .from) Tag.text less v j .2))) (each-value P v))))))))
+      (each-end P s (v .to) (plain 10 (v .to) refl (ends s (x .held .from) Tag.text less v j .2))) (each-value P v)))))))))

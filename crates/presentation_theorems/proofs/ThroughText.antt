@@ -15,9 +15,11 @@ use Rattle.tlv.specs.Cut.{cut, endCheck}
 use Rattle.tlv.specs.Tags as Tag
 use Rattle.tlv.proofs.Past.{value-within}
 use Rattle.tlv.proofs.Joined.{first-value, checked-value, same-value}
+use Rattle.tlv.specs.Versions.{both}
 use Rattle.efcom.specs.EfCom.{readEfCom}
 use Rattle.object.specs.Object.{readObject}
 use Rattle.outer.specs.Outer.{files, walked}
+use Rattle.chip.specs.Versions.{versionsCheck}
 use Rattle.chip.specs.Files.{filesCheck}
 use Rattle.group_text.specs.Text.{moved, textAt}
 use Rattle.chip.specs.Presentation.{firstFile, groupOne, decided, readStages}
@@ -43,25 +45,27 @@ module _ (w : List ℕ) where
       (ap (λ (t : List ℕ). moved (v .from) (readText GroupOne t)) (cut-same w k v (omega (arith, in-s .2, length-take k w))
       (in-s .1))))
 
-  pub through-text : readStages w ≡ andThen (textStretch w) onwards
+  pub through-text : readStages both w ≡ andThen (textStretch w) onwards
   unfolding textStretch readStages decided groupOne
   through-text =
       then-behind (walked w) _ onwards _ (λ o e.
-      then-behind (readEfCom w (o .efcom)) _ onwards _ (λ tags f.
-      then-behind (readObject w (o .object)) _ onwards _ (λ es g.
-      then-behind (files w (o .object .to)) _ onwards _ (λ fs h.
-      checked-behind (filesCheck w (cut w tags) [] es fs) _ onwards _
-      (then-behind (firstFile w 1 fs) _ onwards _ (λ file i. text-behind (file .held .to) (file .held .from)))))))
+      then-behind (readEfCom both w (o .efcom)) _ onwards _ (λ c f.
+      then-behind (readObject both w (o .object)) _ onwards _ (λ x g.
+      checked-behind (versionsCheck w (o .efcom .to) c (x .version)) _ onwards _
+      (then-behind (files w (o .object .to)) _ onwards _ (λ fs h.
+      checked-behind (filesCheck w (cut w (c .tags)) [] (x .entries) fs) _ onwards _
+      (then-behind (firstFile w 1 fs) _ onwards _ (λ file i. text-behind (file .held .to) (file .held .from))))))))
 
 -- the text stands in the presentation
 pub text-stands : (w : List ℕ) (v : Stretch) → textStretch w ≡ value v → (v .from ≤ v .to) × (v .to ≤ length w)
 unfolding textStretch
 text-stands w v e =
     let a = first-value (walked w) _ v e in
-    let b = first-value (readEfCom w (a .0 .efcom)) _ v (a .2) in
-    let c = first-value (readObject w (a .0 .object)) _ v (b .2) in
-    let d = first-value (files w (a .0 .object .to)) _ v (c .2) in
-    let g = checked-value (filesCheck w (cut w (b .0)) [] (c .0) (d .0)) _ v (d .2) in
+    let b = first-value (readEfCom both w (a .0 .efcom)) _ v (a .2) in
+    let c = first-value (readObject both w (a .0 .object)) _ v (b .2) in
+    let j = checked-value (versionsCheck w (a .0 .efcom .to) (b .0) (c .0 .version)) _ v (c .2) in
+    let d = first-value (files w (a .0 .object .to)) _ v (j .1) in
+    let g = checked-value (filesCheck w (cut w (b .0 .tags)) [] (c .0 .entries) (d .0)) _ v (d .2) in
     let f = first-value (firstFile w 1 (d .0)) _ v (g .1) in
     let s = take (f .0 .held .to) w in
     let h = first-value (element s (f .0 .held .from) Tag.text) _ v (f .2) in

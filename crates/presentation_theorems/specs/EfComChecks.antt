@@ -1,8 +1,9 @@
--- Stage 3, the checks of EF.COM one after the other: document 01, "Stages of a presentation", whose words are those in quotes. 11
--- stands "at the element's tag", and of each element the "encoding before its content". s: the bytes up to the end of EF.COM. No
--- row has "more than fifteen": the rows before it leave none to refuse (`fifteen-tags`; document 02, 2026-09).
+-- Stage 3, the checks of EF.COM one after the other: document 01, "Stages of a presentation", whose words are those in quotes;
+-- `0108` document 02, 2026-04. 11 stands "at the element's tag", and of each element the "encoding before its content". s: the
+-- bytes up to the end of EF.COM. No row has "more than fifteen": the rows before it leave none to refuse (`fifteen-tags`;
+-- document 02, 2026-09).
 use Prim.Native.Nat.{ℕ, suc}
-use mathlib.Core.Bool.{not}
+use mathlib.Core.Bool.{not, _||_}
 use mathlib.Core.List.{List, [], _∷_, _++_}
 use Rattle.refusal.specs.Outcome.{Outcome, unless}
 use Rattle.zone.specs.Alphabet.{isDigit, every}
@@ -11,15 +12,17 @@ use Rattle.tlv.specs.declared.Stretch.{Stretch}
 use Rattle.tlv.specs.Cut.{cut, hasOctets, endCheck}
 use Rattle.tlv.specs.Tags.{isGroup}
 use Rattle.tlv.specs.Tags as Tag
+use Rattle.tlv.specs.Versions.{lds17, lds18}
+use Rattle.efcom.specs.declared.Common.{Common}
 use Rattle.row_theorems.specs.Standing.{stretchAt, coded}
 
--- "5F01 of length 4, `0107`"
+-- "5F01 of length 4, `0107`", or `0108`
 unfoldable pub versionChecks : List ℕ → ℕ → List Outcome
 versionChecks s at =
     let v = stretchAt s at Tag.ldsVersion in
     coded s at Tag.ldsVersion
     ∷ unless (hasOctets 4 v) 11 at
-    ∷ unless (alike (cut s v) (0x30 ∷ 0x31 ∷ 0x30 ∷ 0x37 ∷ [])) 11 at
+    ∷ unless (alike (cut s v) lds17 || alike (cut s v) lds18) 11 at
     ∷ []
 
 -- where 5F36 stands
@@ -57,6 +60,10 @@ tagListChecks s at =
 unfoldable pub efComChecks : List ℕ → ℕ → List Outcome
 efComChecks s at = versionChecks s at ++ (unicodeChecks s (unicodePlace s at) ++ tagListChecks s (listPlace s at))
 
--- where the value of 5C stands
-unfoldable pub tagList : List ℕ → ℕ → Stretch
-tagList s at = stretchAt s (listPlace s at) Tag.tagList
+-- what EF.COM says: whether not `0107`, where the value of 5F36 stands, and where that of 5C
+unfoldable pub common : List ℕ → ℕ → Common
+common s at = record {
+  newer = not (alike (cut s (stretchAt s at Tag.ldsVersion)) lds17);
+  unicode = stretchAt s (unicodePlace s at) Tag.unicodeVersion;
+  tags = stretchAt s (listPlace s at) Tag.tagList;
+}

@@ -13,9 +13,11 @@ use Rattle.tlv.specs.Read.{Read, value, andThen, checked}
 use Rattle.tlv.specs.Element.{element}
 use Rattle.tlv.specs.Cut.{cut, endCheck}
 use Rattle.tlv.specs.Tags as Tag
+use Rattle.tlv.specs.Versions.{both}
 use Rattle.efcom.specs.EfCom.{readEfCom}
 use Rattle.object.specs.Object.{readObject}
 use Rattle.outer.specs.Outer.{files, walked}
+use Rattle.chip.specs.Versions.{versionsCheck}
 use Rattle.chip.specs.Files.{filesCheck}
 use Rattle.chip.specs.Presentation.{firstFile}
 
@@ -23,13 +25,14 @@ use Rattle.chip.specs.Presentation.{firstFile}
 unfoldable pub textStretch : List ℕ → Read Stretch
 textStretch w =
     andThen (walked w) (λ o.
-    andThen (readEfCom w (o .efcom)) (λ tags.
-    andThen (readObject w (o .object)) (λ es.
-    andThen (files w (o .object .to)) (λ fs.
-    checked (filesCheck w (cut w tags) [] es fs)
+    andThen (readEfCom both w (o .efcom)) (λ c.
+    andThen (readObject both w (o .object)) (λ x.
+    checked (versionsCheck w (o .efcom .to) c (x .version))
+    (andThen (files w (o .object .to)) (λ fs.
+    checked (filesCheck w (cut w (c .tags)) [] (x .entries) fs)
     (andThen (firstFile w 1 fs) (λ f.
     andThen (element (take (f .held .to) w) (f .held .from) Tag.text) (λ v.
-    checked (endCheck (take (f .held .to) w) (v .to)) (value v))))))))
+    checked (endCheck (take (f .held .to) w) (v .to)) (value v)))))))))
 
 -- the presentation's text is refused by 9 with this digit, at this place of the presentation
 pub record FromText (w : List ℕ) (d place : ℕ) : Type 0 where

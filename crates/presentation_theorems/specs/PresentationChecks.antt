@@ -1,6 +1,6 @@
 -- The checks of a presentation one after the other, a row for each sentence that can refuse: document 01, "Stages of a
--- presentation", whose words are those in quotes. Which of them a refusal names is `FirstFailing` (text_theorems). Every row is
--- said of the octets; where one fails, those behind it decide nothing.
+-- presentation", and document 02, 2026-04, whose words are those in quotes. Which of them a refusal names is `FirstFailing`
+-- (text_theorems). Every row is said of the octets; where one fails, those behind it decide nothing.
 use Prim.Native.Nat.{ℕ, _+_}
 use mathlib.Core.Bool.{cond, not}
 use mathlib.Core.List.{List, [], _∷_, _++_, map}
@@ -8,19 +8,23 @@ use lib.Dec.{eqb, leb}
 use lib.ListN.{length, take, getD}
 use Rattle.zone.specs.declared.form.Source.the-variants.{GroupOne}
 use Rattle.refusal.specs.Outcome.{Outcome, unless}
-use Rattle.lent.specs.Octets.{stands}
+use Rattle.lent.specs.Octets.{alike, stands}
 use Rattle.tlv.specs.declared.Stretch.{Stretch}
 use Rattle.tlv.specs.Cut.{cut, endCheck}
 use Rattle.tlv.specs.Tags.{isGroup, groupOf}
 use Rattle.tlv.specs.Tags as Tag
+use Rattle.tlv.specs.Versions.{lds18}
+use Rattle.efcom.specs.declared.Common.{Common}
+use Rattle.object.specs.declared.strings.Version.{Version}
+use Rattle.object.specs.declared.strings.Version.the-variants.{Zero, One}
 use Rattle.object.specs.Object.{GroupHash}
 use Rattle.outer.specs.Outer.{File}
 use Rattle.chip.specs.Files.{isDigested}
 use Rattle.group_text.specs.Text.{movedTo}
 use Rattle.text_theorems.specs.Ordered.{checksOf}
 use Rattle.row_theorems.specs.Standing.{stretchAt, coded, places, each}
-use Rattle.presentation_theorems.specs.EfComChecks.{tagList, efComChecks}
-use Rattle.presentation_theorems.specs.ObjectChecks.{entriesPlace, entriesIn, objectChecks}
+use Rattle.presentation_theorems.specs.EfComChecks.{common, efComChecks}
+use Rattle.presentation_theorems.specs.ObjectChecks.{entriesPlace, entriesIn, versionOf, objectChecks}
 
 -- ---- stage 2
 
@@ -46,6 +50,18 @@ groupChecks w at = unless (isGroup (getD w at 0)) 10 at ∷ coded w at (getD w a
 -- "2. Outer walk (10): tag 60, tag 30, then group tags only, every file ending within the bytes."
 unfoldable pub outerChecks : List ℕ → List Outcome
 outerChecks w = coded w 0 Tag.efCom ∷ coded w (efCom w .to) Tag.sequence ∷ each (groupChecks w) (filePlaces w (object w .to))
+
+-- ---- after stage 4
+
+-- "`0107` goes with object version 0, `0108` with version 1 and strings equal to EF.COM's." Else 19, "at the object's start": a
+-- row for the versions, and one for each of the strings
+unfoldable pub versionsChecks : List ℕ → (start : ℕ) → Common → Version → List Outcome
+versionsChecks w start c Zero = unless (not (c .newer)) 19 start ∷ []
+versionsChecks w start c (One t) =
+    unless (c .newer) 19 start
+    ∷ unless (alike (cut w (t .lds)) lds18) 19 start
+    ∷ unless (alike (cut w (t .unicode)) (cut w (c .unicode))) 19 start
+    ∷ []
 
 -- ---- stage 5
 
@@ -85,16 +101,17 @@ groupOneChecks w ps =
 
 -- ---- all of them
 
--- "1. Size (1)": over 65,535, at 0; "Stages go in number order."
+-- "1. Size (1)": over 65,535, at 0; "Stages go in number order."; 19 "after all of stage 4"
 unfoldable pub presentationChecks : List ℕ → List Outcome
 presentationChecks w =
-    let common = take (efCom w .to) w in
+    let header = take (efCom w .to) w in
     let security = take (object w .to) w in
     let ps = filePlaces w (object w .to) in
-    let tags = cut w (tagList common (efCom w .from)) in
+    let c = common header (efCom w .from) in
     let es = entriesIn security (entriesPlace security (object w .from)) in
     unless (leb (length w) 65535) 1 0
     ∷ (outerChecks w
-    ++ (efComChecks common (efCom w .from)
+    ++ (efComChecks header (efCom w .from)
     ++ (objectChecks security (object w .from)
-    ++ (filesChecks w tags [] es ps ++ groupOneChecks w ps))))
+    ++ (versionsChecks w (efCom w .to) c (versionOf security (object w .from))
+    ++ (filesChecks w (cut w (c .tags)) [] es ps ++ groupOneChecks w ps)))))

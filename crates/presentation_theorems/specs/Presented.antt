@@ -1,5 +1,6 @@
 -- Demand 2 for a presentation: what it is to be the joined encodings of an EF.COM, a security object and group files that belong
--- together, said with encoders and without the reader. The words in quotes are those of document 01, "Stages of a presentation".
+-- together, said with encoders and without the reader. The words in quotes are those of document 01, "Stages of a presentation",
+-- and of document 02, 2026-04.
 use Prim.Native.Nat.{ℕ, _≤_}
 use mathlib.Core.Path.{_≡_}
 use mathlib.Core.Logic.{_⊎_}
@@ -14,6 +15,7 @@ use Rattle.sha256.specs.Hash.{sha256}
 use Rattle.tlv.specs.Element.{tlv}
 use Rattle.tlv.specs.Tags.{groupOf, isGroup}
 use Rattle.tlv.specs.Tags as Tag
+use Rattle.tlv.specs.Versions.{lds17, lds18}
 use Rattle.lent.specs.Octets.{stands}
 use Rattle.object.specs.Object.{sha256Name}
 use Rattle.text_theorems.specs.Accepted.{Keeps}
@@ -32,6 +34,8 @@ pub record Lent : Type 0 where
 
 -- all of it
 pub record Contents : Type 0 where
+  -- whether "`0108` with version 1", or "`0107` [..] with object version 0"
+  pub newer : Bool
   -- "5C, the tag list"
   pub tags : List ℕ
   -- "5F36 of length 6, six digits"
@@ -47,14 +51,17 @@ pub record Contents : Type 0 where
 
 -- ---- its bytes
 
+-- `0108` or `0107`
+unfoldable pub ldsOf : (newer : Bool) → List ℕ
+ldsOf newer = cond newer lds18 lds17
+
 -- "5F01 of length 4, `0107`; 5F36 of length 6, six digits; 5C, the tag list"
-unfoldable pub commonInside : List ℕ → List ℕ → List ℕ
-commonInside digits tags = tlv Tag.ldsVersion (0x30 ∷ 0x31 ∷ 0x30 ∷ 0x37 ∷ [])
-    ++ (tlv Tag.unicodeVersion digits ++ tlv Tag.tagList tags)
+unfoldable pub commonInside : (newer : Bool) → (digits tags : List ℕ) → List ℕ
+commonInside newer digits tags = tlv Tag.ldsVersion (ldsOf newer) ++ (tlv Tag.unicodeVersion digits ++ tlv Tag.tagList tags)
 
 -- EF.COM, "tag 60"
 unfoldable pub commonOf : Contents → List ℕ
-commonOf p = tlv Tag.efCom (commonInside (p .digits) (p .tags))
+commonOf p = tlv Tag.efCom (commonInside (p .newer) (p .digits) (p .tags))
 
 -- "each itself a sequence of a one-octet integer 1-16 and an octet string of 32"
 unfoldable pub signedOf : Signed → List ℕ
@@ -69,14 +76,20 @@ allSigned (e ∷ es) = signedOf e ++ allSigned es
 unfoldable pub algorithmOf : Bool → List ℕ
 algorithmOf followed = cond followed (sha256Name ++ (0x05 ∷ 0x00 ∷ [])) sha256Name
 
--- "version integer 0; AlgorithmIdentifier of SHA-256; a sequence of entries"
-unfoldable pub objectInside : Bool → List Signed → List ℕ
-objectInside followed entries = tlv Tag.integer (0x00 ∷ [])
-    ++ (tlv Tag.sequence (algorithmOf followed) ++ tlv Tag.sequence (allSigned entries))
+-- version 1 "ends with a sequence of two printable strings, LDS version and Unicode version"; "version 0 has no such sequence"
+unfoldable pub stringsOf : (newer : Bool) → (lds unicode : List ℕ) → List ℕ
+stringsOf newer lds unicode =
+    cond newer (tlv Tag.sequence (tlv Tag.printableString lds ++ tlv Tag.printableString unicode)) []
 
--- the content of the security object, "tag 30"
+-- "version integer 0", or 1; "AlgorithmIdentifier of SHA-256; a sequence of entries"; of version 1 the strings
+unfoldable pub objectInside : (newer followed : Bool) → List Signed → (lds unicode : List ℕ) → List ℕ
+objectInside newer followed entries lds unicode =
+    tlv Tag.integer (cond newer 0x01 0x00 ∷ [])
+    ++ (tlv Tag.sequence (algorithmOf followed) ++ (tlv Tag.sequence (allSigned entries) ++ stringsOf newer lds unicode))
+
+-- the content of the security object, "tag 30"; its strings are "equal to EF.COM's"
 unfoldable pub objectOf : Contents → List ℕ
-objectOf p = tlv Tag.sequence (objectInside (p .followed) (p .entries))
+objectOf p = tlv Tag.sequence (objectInside (p .newer) (p .followed) (p .entries) (ldsOf (p .newer)) (p .digits))
 
 -- a whole file, "tag and length included"
 unfoldable pub fileOf : Lent → List ℕ
@@ -170,11 +183,13 @@ placeOf c d before = length (tlv Tag.efCom c ++ (tlv Tag.sequence d ++ allLent b
 
 -- ---- a presentation of a text
 
--- the least that carries a text: group 1 alone, listed and signed, and a second entry, since "fewer than 2" are refused
-unfoldable pub around : List ℕ → Contents
-around t =
+-- the least that carries a text, of either version: group 1 alone, listed and signed, and a second entry, since "fewer than 2"
+-- are refused
+unfoldable pub around : (newer : Bool) → List ℕ → Contents
+around newer t =
     let one : Lent = record { tag = Tag.group1; content = tlv Tag.text t } in
     record {
+      newer = newer;
       tags = Tag.group1 ∷ [];
       digits = 0x30 ∷ 0x34 ∷ 0x30 ∷ 0x30 ∷ 0x30 ∷ 0x30 ∷ [];
       followed = false;

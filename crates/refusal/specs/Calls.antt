@@ -1,5 +1,5 @@
--- By which numbers each call refuses, a list for each: document 01, "Refusal numbers" and "What the server lends and gets"; of a
--- seal document 02, 2026-08. A new cause moves the lists of the calls that tell it.
+-- By which numbers each call refuses, a list for each: document 01, "Refusal numbers" and "What the server lends and gets"; 19
+-- document 02, 2026-04, and of a seal 2026-08. A new cause moves the lists of the calls that tell it.
 use Prim.Native.Nat.{ℕ}
 use mathlib.Core.Bool.{Bool, false, not, _&&_, _||_}
 use mathlib.Core.List.{List, [], _∷_}
@@ -16,9 +16,9 @@ ofFields = 3 ∷ 4 ∷ 5 ∷ 6 ∷ 7 ∷ 8 ∷ []
 abbrev pub ofText : List ℕ
 ofText = 1 ∷ 2 ∷ 9 ∷ ofFields
 
--- its elements and files, and its size and text
+-- its elements and files, whether its versions agree, and its size and text
 abbrev pub ofPresentation : List ℕ
-ofPresentation = 10 ∷ 11 ∷ 12 ∷ 13 ∷ 14 ∷ 15 ∷ ofText
+ofPresentation = 10 ∷ 11 ∷ 12 ∷ 13 ∷ 14 ∷ 15 ∷ 19 ∷ ofText
 
 -- its size, the check digits of its text, its own parts, the fields of its text; not 2, since C40 has no character that a text
 -- cannot have

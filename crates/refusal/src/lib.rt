@@ -6,8 +6,8 @@ ghost use Rattle.refusal.specs.Outcome.{outcomeOf, orElse, refusedUnless
 // What stands where no digit is expected.
 pub const NO_DIGIT: u32 = 255;
 
-// The causes in the order of their numbers: 1 to 18 of document 01, "Refusal numbers", 24 to 27 of document 02, 2026-08. A check
-// digit holds the one that was expected, 0 to 9.
+// The causes in the order of their numbers: 1 to 18 of document 01, "Refusal numbers", 19 of document 02, 2026-04, 24 to 27 of
+// 2026-08. A check digit holds the one that was expected, 0 to 9.
 pub enum Cause {
     Length,
     Character,
@@ -27,6 +27,7 @@ pub enum Cause {
     Output,
     Unsound,
     Entry,
+    Versions,
     SealHeader,
     SealFeature,
     SealText,
@@ -57,6 +58,7 @@ impl Cause {
             Cause::Output => 16,
             Cause::Unsound => 17,
             Cause::Entry => 18,
+            Cause::Versions => 19,
             Cause::SealHeader => 24,
             Cause::SealFeature => 25,
             Cause::SealText => 26,

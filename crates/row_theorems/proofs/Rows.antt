@@ -14,7 +14,7 @@ use Rattle.tlv.specs.declared.Size.{Size}
 use Rattle.tlv.specs.declared.Size.the-variants.{Of, Unknown}
 use Rattle.tlv.specs.Read.{Read, value, refusal, andThen, checked, outcomeIn}
 use Rattle.tlv.specs.Element.{element, sized, endsWithin, sizeAt, tagAt, tagWidth}
-use Rattle.tlv.proofs.Joined.{checked-outcome}
+use Rattle.tlv.proofs.Joined.{checked-outcome, same-value, checked-value}
 use Rattle.tlv.proofs.Past.{value-within}
 use Rattle.text_theorems.proofs.FirstOf.{firstOf}
 use Rattle.row_theorems.specs.Standing.{isLength, stretchBy, stretchAt, isCoded, coded}
@@ -68,6 +68,12 @@ module _ {A : Type 0} where
   under-passed [] m e = refl
   under-passed (passed ∷ os) m e = under-passed os m e
   under-passed (refused n p ∷ os) m e = absurd (refused-not-passed e)
+
+  -- a value behind rows is the one that stands there
+  pub under-value : (os : List Outcome) (a b : A) → under os (value a) ≡ value b → a ≡ b
+  unfolding under
+  under-value [] a b e = same-value e
+  under-value (o ∷ os) a b e = under-value os a b (checked-value o (under os (value a)) b e .1)
 
   -- what goes on is looked at only where the rows pass
   pub under-same : (os : List Outcome) (m n : Read A) → (firstOf os ≡ passed → m ≡ n) → under os m ≡ under os n

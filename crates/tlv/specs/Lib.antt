@@ -6,5 +6,7 @@ pub mod Tags
 pub mod Element
 -- a stretch of lent octets
 pub mod Cut
+-- the versions of the LDS
+pub mod Versions
 -- no words of the paper
 pub mod Inner

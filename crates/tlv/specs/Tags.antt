@@ -27,6 +27,10 @@ integer = 0x02
 abbrev pub octetString : ℕ
 octetString = 0x04
 
+-- "a sequence of two printable strings" (document 02, 2026-04; DER)
+abbrev pub printableString : ℕ
+printableString = 0x13
+
 -- "5F1F and the text, exactly filling 61"
 abbrev pub text : ℕ
 text = 0x5F1F

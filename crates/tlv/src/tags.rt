@@ -1,4 +1,4 @@
-// Tags as document 01 names them, and the groups of theirs.
+// Tags as document 01 and, of printable strings, document 02 (2026-04) name them, and the groups of theirs.
 ghost use mathlib.Core.Path.{_≡_};
 ghost use Prim.Native.Nat.{_≤_};
 ghost use Rattle.tlv.specs.Tags.{groupOf, isGroup};
@@ -16,6 +16,8 @@ pub const TAG_LIST: u16 = 0x5C;
 pub const INTEGER: u16 = 0x02;
 
 pub const OCTET_STRING: u16 = 0x04;
+
+pub const PRINTABLE_STRING: u16 = 0x13;
 
 pub const TEXT: u16 = 0x5F1F;
 

@@ -21,7 +21,7 @@ from-unicode-spec =
     (λ c.
     let told = sym (c .before .before .before .before .before .before .element .ensures)
     ∙ ap takenOf (c .before .before .before .before .v .given .1) in
-    rw (told, sym (c .before .before .is-unicode .ensures) ∙ c .before .if1 .taken) (c .from-tag-list .ensures))
+    rw (told, sym (c .before .before .is-unicode .ensures) ∙ c .before .if1 .taken) (c .with-list .ensures))
     (λ c.
     let told = sym (c .before .before .before .before .before .before .element .ensures)
     ∙ ap takenOf (c .before .before .before .before .v .given .1) in

@@ -18,16 +18,21 @@ from-version-spec =
     (λ c κs. search needs)
     (λ c κs. search needs)
     (λ c κs. search needs)
+    (λ c κs. search needs)
     (λ c. search needs)
     (λ c κs. search needs)
     (λ c.
-    let told = sym (c .before .before .before .before .before .before .element .ensures)
-    ∙ ap takenOf (c .before .before .before .before .v .given .1) in
-    rw (told, sym (c .before .before .is-zero .ensures) ∙ c .before .if1 .taken) (c .from-algorithm .ensures))
+    let told = sym (c .before .before .before .before .before .before .before .element .ensures)
+    ∙ ap takenOf (c .before .before .before .before .before .v .given .1) in
+    rw (
+      told,
+      sym (c .before .before .before .is-version .ensures) ∙ c .before .before .if1 .taken,
+      ← c .before .octet .ensures,
+    ) (c .from-algorithm .ensures))
     (λ c.
     let told = sym (c .before .before .before .before .before .before .before .element .ensures)
     ∙ ap takenOf (c .before .before .before .before .before .v .given .1) in
-    rw (told, sym (c .before .before .before .is-zero .ensures) ∙ c .before .before .if1 .left)
+    rw (told, sym (c .before .before .before .is-version .ensures) ∙ c .before .before .if1 .left)
     (rw (c .before .at .ensures) at (c .refused .ensures)))
     (λ c.
     let told = sym (c .before .before .before .before .element .ensures) ∙ ap takenOf (c .before .before .refusal .given .1) in

@@ -9,10 +9,16 @@ use Rattle.refusal.specs.Numbers.{whyOf}
 use Rattle.refusal.specs.Outcome.{Outcome, passed, refused, unless, orElse, outcomeOf}
 use Rattle.tlv.specs.declared.Stretch.{Stretch}
 use Rattle.tlv.specs.Read.{Read, value, refusal, andThen, checked, outcomeIn}
-use Rattle.tlv.specs.Cut.{endCheck}
 use Rattle.object.specs.declared.entries.Seen.{Seen}
 use Rattle.object.specs.declared.entries.HashRead.{HashRead}
 use Rattle.object.specs.declared.entries.HashRead.the-variants.{Value, Refused}
+use Rattle.object.specs.declared.strings.Strings.{Strings}
+use Rattle.object.specs.declared.strings.Version.{Version}
+use Rattle.object.specs.declared.strings.Version.the-variants.{Zero}
+use Rattle.object.specs.declared.strings.StringsRead.{StringsRead}
+use Rattle.object.specs.declared.strings.StringsRead.the-variants.{Value as Found, Refused as NotFound}
+use Rattle.object.specs.declared.strings.VersionRead.{VersionRead}
+use Rattle.object.specs.declared.strings.VersionRead.the-variants.{Value as Told, Refused as NotTold}
 use Rattle.object.specs.declared.ObjectRead.{ObjectRead}
 use Rattle.object.specs.Object as O
 use Rattle.object.specs.Object.{digestFor}
@@ -59,6 +65,21 @@ seenIn (refusal n p) = none
 unfoldable pub seenCheck : Seen → ℕ → Outcome
 seenCheck t at = orElse (unless (eqb (t .repeated) 0) 12 (t .repeated)) (unless (leb 2 (t .count)) 12 at)
 
+-- ---- the version, with its strings
+
+abbrev pub stringsOf : StringsRead → Read Strings
+stringsOf (Found t) = value t
+stringsOf (NotFound r) = refusal (whyOf (r .cause)) (r .place)
+
+abbrev pub versionOf : VersionRead → Read Version
+versionOf (Told x) = value x
+versionOf (NotTold r) = refusal (whyOf (r .cause)) (r .place)
+
+-- 0 where it is refused
+unfoldable pub versionIn : Read Version → Version
+versionIn (value x) = x
+versionIn (refusal n p) = Zero
+
 -- ---- the whole object
 
 -- where the digests of so many groups begin
@@ -67,27 +88,34 @@ digestsFrom zero group es = []
 digestsFrom (suc more) group es = digestFor group es ∷ digestsFrom more (suc group) es
 
 -- for each group from 0 to 16 where its digest begins, 0 where it has no entry or the object is refused
-unfoldable pub tableOf : Read (List O.GroupHash) → List ℕ
-tableOf (value es) = digestsFrom 17 0 es
+unfoldable pub tableOf : Read O.Said → List ℕ
+tableOf (value x) = digestsFrom 17 0 (x .entries)
 tableOf (refusal n p) = replicate 17 0
+
+-- the version, 0 where the object is refused
+unfoldable pub saidVersion : Read O.Said → Version
+saidVersion (value x) = x .version
+saidVersion (refusal n p) = Zero
 
 pub record ObjectAnswer : Type 0 where
   pub outcome : Outcome
   pub digests : List ℕ
+  pub version : Version
 
 abbrev pub objectAnswerOf : ObjectRead → ObjectAnswer
-objectAnswerOf r = record { outcome = outcomeOf (r .verdict); digests = r .digests }
+objectAnswerOf r = record { outcome = outcomeOf (r .verdict); digests = r .digests; version = r .version }
 
-unfoldable pub objectAnswer : Read (List O.GroupHash) → ObjectAnswer
-objectAnswer x = record { outcome = outcomeIn x; digests = tableOf x }
+unfoldable pub objectAnswer : Read O.Said → ObjectAnswer
+objectAnswer x = record { outcome = outcomeIn x; digests = tableOf x; version = saidVersion x }
 
--- the entries in a list's content, then the tests on all of them, and nothing follows
-abbrev pub fromEntries : List ℕ → ℕ → Stretch → Read (List O.GroupHash)
-fromEntries s at v =
+-- the entries in a list's content, then the tests on all of them, then the version
+abbrev pub fromEntries : Bool → List ℕ → ℕ → Stretch → Read O.Said
+fromEntries newer s at v =
     andThen (O.entries (take (v .to) s) (v .from)) (λ es.
-    checked (O.entriesCheck es at) (checked (endCheck s (v .to)) (value es)))
+    checked (O.entriesCheck es at)
+    (andThen (O.versionAt newer s (v .to)) (λ x. value (record { entries = es; version = x }))))
 
--- a refusal has no digests
-unfoldable pub settled : Outcome → List ℕ → ObjectAnswer
-settled passed digests = record { outcome = passed; digests = digests }
-settled (refused n p) digests = record { outcome = refused n p; digests = replicate 17 0 }
+-- a refusal has no digests, and version 0
+unfoldable pub settled : Outcome → List ℕ → Version → ObjectAnswer
+settled passed digests x = record { outcome = passed; digests = digests; version = x }
+settled (refused n p) digests x = record { outcome = refused n p; digests = replicate 17 0; version = Zero }

@@ -1,12 +1,10 @@
 -- Both tests.
-use Rattle.efcom.specs.EfCom.{isVersion}
 use borrow.Author.Needs.{needs}
-use Rattle.efcom.proofs.is_version.Statement.{statement}
-use Rattle.efcom.proofs.is_version.Tie as tie
+use Rattle.efcom.proofs.is_older.Statement.{statement}
+use Rattle.efcom.proofs.is_older.Tie as tie
 
-pub is-version-spec : {M : Type 1} → statement M
-unfolding isVersion
-is-version-spec =
+pub is-older-spec : {M : Type 1} → statement M
+is-older-spec =
     tie.close
     (tie.spec
     (λ c κs. search needs)
