@@ -5,8 +5,9 @@
 #     ./remake.sh check    makes them aside and tests that they are the ones kept here
 #     ./remake.sh list     prints what the reader finds in each security object, with the offset of each element
 #
-# A presentation is com.hex (made by hand: 5F01 is not DER, so no DER encoder writes it), the security object of its
-# .conf, and the group files that the line `# lends:` names, each made from its own .conf.
+# A presentation is com.hex, or the EF.COM that the line `# com:` names (made by hand: 5F01 is not DER, so no DER encoder
+# writes it), the security object of its .conf, and the group files that the line `# lends:` names, each made from its own
+# .conf.
 # source-000 has what that document prints, and is not made.
 set -eu
 cd "$(dirname "$0")"
@@ -23,11 +24,12 @@ grep -qx "inside1 = $digest" digests.conf || { echo 'digests.conf has another di
 
 for conf in $(grep -l '^# lends:' *.conf); do
     name=${conf%.conf}
+    com=$(sed -n 's/^# com: //p' "$conf")
     openssl asn1parse -genconf "$conf" -noout -out "$made/object"
     # OpenSSL's reader goes through all of it. What it cannot read ends this script.
     openssl asn1parse -inform DER -in "$made/object" > "$made/listing"
     {
-        tr -d '\n' < com.hex
+        tr -d '\n' < "${com:-com}.hex"
         for part in object $(sed -n 's/^# lends: //p' "$conf"); do
             od -An -v -tx1 "$made/$part" | tr -d ' \n'
         done

@@ -1,7 +1,8 @@
 //! Every kind of damage at every place of one presentation, to be taken alone and in pairs.
 
-use crate::cases::presentations::{self, entry, seal};
+use crate::cases::presentations::{self, entry, seal, strings};
 use crate::cases::trees::{Held, Length, Tree};
+use paper::lds::Lds;
 use paper::presentation::write_text_element;
 use paper::specimens;
 use shared::seeds::Seeds;
@@ -28,10 +29,15 @@ enum Kind {
     Swapped,
 }
 
-/// The presentation that the list spoils. Groups 1, 2 and 16 are lent; 3 is listed besides, and 5 has an entry.
+/// The presentation that the list spoils.
 pub fn sample(seeds: &mut Seeds) -> Tree {
+    sample_as(Lds::V17, seeds)
+}
+
+/// Groups 1, 2 and 16 are lent; 3 is listed besides, and 5 has an entry.
+pub fn sample_as(lds: Lds, seeds: &mut Seeds) -> Tree {
     let files = [(1, write_text_element(specimens::T3.as_bytes())), (2, seeds.octets(20)), (16, seeds.octets(130))];
-    let mut tree = presentations::tree(seeds, &files);
+    let mut tree = presentations::tree_as(lds, seeds, &files);
     set(&mut tree, &[0, 2], Held::Octets(vec![0x75, 0x61, 0x63, 0x70]));
     let entries = [16, 1, 5, 2].map(|number| entry(number, &[number; 32]));
     set(&mut tree, &[1, 2], Held::Trees(entries.to_vec()));
@@ -89,7 +95,23 @@ fn over_of(kind: &Kind) -> &[u8] {
 
 /// Every kind of damage at every place of the sample.
 pub fn all() -> Vec<Damage> {
-    [everywhere(), com(), object(), entries(), files()].concat()
+    [everywhere(&PLACES), com(), object(), entries(), files()].concat()
+}
+
+/// Of a newer sample: what can be wrong with its versions, and at every place of its strings.
+pub fn versions() -> Vec<Damage> {
+    let told: [&[u8]; 4] = [b"0107", b"0106", b"0109", b"0118"];
+    let told = told.iter().map(|octets| at(&[0, 0], Kind::Content(octets.to_vec())));
+    let unicodes = [0, 7, 40, 47].into_iter().map(|bit| at(&[0, 1], Kind::Bit(bit)));
+    let numbers: [&[u8]; 4] = [&[0], &[2], &[0x81], &[1, 1]];
+    let numbers = numbers.iter().map(|octets| at(&[1, 0], Kind::Content(octets.to_vec())));
+    let texts: [&[u8]; 6] = [b"0108", b"0107", b"010", b"01080", b"040000", b"\xb0108"];
+    let texts =
+        [[1, 3, 0], [1, 3, 1]].into_iter().flat_map(|path| texts.map(|text| at(&path, Kind::Content(text.to_vec()))));
+    let bits = [[1, 3, 0], [1, 3, 1]].into_iter().flat_map(|path| [0, 15, 31].map(|bit| at(&path, Kind::Bit(bit))));
+    let held = [at(&[1, 3], Kind::Trees(vec![strings(b"0108", b"040000")]))];
+    let all = told.chain(unicodes).chain(numbers).chain(texts).chain(bits).chain(held);
+    all.chain(everywhere(&[&[1, 3], &[1, 3, 0], &[1, 3, 1]])).collect()
 }
 
 fn at(path: &[usize], kind: Kind) -> Damage {
@@ -118,7 +140,7 @@ const PLACES: [&[usize]; 17] = [
 ];
 
 /// What can be wrong with any element.
-fn everywhere() -> Vec<Damage> {
+fn everywhere(places: &[&[usize]]) -> Vec<Damage> {
     let kinds = [
         Kind::Tag(vec![0x05]),
         Kind::Tag(vec![]),
@@ -136,10 +158,11 @@ fn everywhere() -> Vec<Damage> {
         Kind::Doubled,
         Kind::Swapped,
     ];
-    PLACES.iter().flat_map(|path| kinds.iter().map(move |kind| at(path, kind.clone()))).collect()
+    places.iter().flat_map(|path| kinds.iter().map(move |kind| at(path, kind.clone()))).collect()
 }
 
 fn com() -> Vec<Damage> {
+    // The first is the newer version, with which this object does not go.
     let versions: [&[u8]; 6] = [b"0108", b"0106", b"1107", b"107", b"00107", b"\x30\x31\x30\xb7"];
     let unicodes: [&[u8]; 6] = [b"04000", b"0400000", b"04000:", b"/40000", b"04 000", b"99999A"];
     // Known and in another order, none, too few, unknown, repeated, and both in either order.
@@ -166,7 +189,7 @@ fn com() -> Vec<Damage> {
 }
 
 fn object() -> Vec<Damage> {
-    let versions: [&[u8]; 5] = [&[1], &[0, 0], &[0x80], &[0xff], &[0, 1]];
+    let versions: [&[u8]; 6] = [&[1], &[2], &[0, 0], &[0x80], &[0xff], &[0, 1]];
     let algorithms: [&[u8]; 10] = [
         // Both spellings that are right.
         b"\x06\x09\x60\x86\x48\x01\x65\x03\x04\x02\x01",
@@ -205,7 +228,7 @@ fn entries() -> Vec<Damage> {
     let sixteen: Vec<u8> = (1..=16).collect();
     let lists: [&[u8]; 6] = [&[1], &[17], &[1, 1], &[1, 1, 17], &sixteen, &[&sixteen[..], &[1]].concat()];
     all.extend(lists.map(listed));
-    // Behind the list, as later versions of the object have it: a sequence of two printable strings.
+    // Behind the list, as version 1 has it: a sequence of two printable strings.
     all.push(at(&[1], Kind::Over(b"\x30\x0e\x13\x040108\x13\x06040000".to_vec())));
     all
 }
@@ -248,22 +271,29 @@ mod tests {
     use std::collections::BTreeSet;
 
     #[test]
-    fn the_sample_is_sound() {
-        let made = sample(&mut Seeds::new(1)).encoded();
-        assert!(presentation::read(&made).is_ok());
+    fn the_samples_are_sound() {
+        for lds in Lds::ALL {
+            let made = sample_as(lds, &mut Seeds::new(1)).encoded();
+            assert!(presentation::read(&made).is_ok());
+        }
+    }
+
+    fn numbers(lds: Lds, damages: Vec<Damage>) -> BTreeSet<u32> {
+        let sample = sample_as(lds, &mut Seeds::new(1));
+        let answers = damages.into_iter().map(|damage| {
+            let mut tree = sample.clone();
+            spoil(&mut tree, &[&damage]);
+            presentation::read(&tree.encoded()).map_or_else(|refusal| refusal.number, |_| 0)
+        });
+        answers.collect()
     }
 
     /// Damage that only ever gave one refusal would try little.
     #[test]
     fn the_list_reaches_every_refusal() {
-        let sample = sample(&mut Seeds::new(1));
-        let answers = all().into_iter().map(|damage| {
-            let mut tree = sample.clone();
-            spoil(&mut tree, &[&damage]);
-            presentation::read(&tree.encoded()).map_or_else(|refusal| refusal.number, |_| 0)
-        });
-        let numbers: BTreeSet<u32> = answers.collect();
-        let every = [0, 1, 2, 3, 4, 5, 7, 9, 10, 11, 12, 13, 14, 15];
-        assert_eq!(numbers, BTreeSet::from(every));
+        let every = [0, 1, 2, 3, 4, 5, 7, 9, 10, 11, 12, 13, 14, 15, 19];
+        assert_eq!(numbers(Lds::V17, all()), BTreeSet::from(every));
+        // A string may be spoilt into what it was.
+        assert_eq!(numbers(Lds::V18, versions()), BTreeSet::from([0, 10, 11, 12, 19]));
     }
 }

@@ -25,5 +25,6 @@ pub mod trees;
 pub mod trials;
 pub mod vector;
 pub mod version;
+pub mod versions;
 pub mod visas;
 pub mod write_text;

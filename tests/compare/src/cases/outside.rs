@@ -1,8 +1,9 @@
 //! Presentations whose security object and group files were made by OpenSSL's DER encoder, each with the answer that
-//! document 01 gives it. `vectors/` has them beside the configurations that made them, and `remake.sh`, which makes them
-//! again.
+//! document 01 or, of LDS 1.8, document 02 (2026-04) gives it. `vectors/` has them beside the configurations that made
+//! them, and `remake.sh`, which makes them again.
 //!
-//! EF.COM has 23 octets and lists groups 1, 2 and 16, so the object begins at 23. The offsets in the object are those that
+//! EF.COM has 23 octets and lists groups 1, 2 and 16, so the object begins at 23. It says 0108 in those whose names begin
+//! with v1, and in version-2; in all others 0107. The offsets in the object are those that
 //! `openssl asn1parse` prints (`remake.sh list`).
 
 use crate::cases::vector::{octets, refused, Vector};
@@ -22,7 +23,8 @@ macro_rules! vector {
 }
 
 pub fn all() -> Vec<Vector> {
-    accepted().into_iter().chain(refused_in_the_object()).chain(refused_behind_the_object()).collect()
+    let older = accepted().into_iter().chain(refused_in_the_object()).chain(refused_behind_the_object());
+    older.chain(versions()).chain(strings()).collect()
 }
 
 fn accepted() -> Vec<Vector> {
@@ -43,9 +45,7 @@ fn refused_in_the_object() -> Vec<Vector> {
         vector!("sha-1", refused(13, OBJECT + 5)),
         // "exactly 06 .. 01, alone or followed by 05 00": 30 00 follows.
         vector!("other-parameters", refused(13, OBJECT + 5)),
-        // "a version of another value, is .. 12 at that element", before what follows it.
-        vector!("version-1", refused(12, OBJECT + 2)),
-        // "Nothing follows": 10 at the first octet left over, which is the first behind the list.
+        // "version 0 has no such sequence (else 10)": at the first octet left over, which is the first behind the list.
         vector!("versions-behind", refused(10, OBJECT + 100)),
         // "a one-octet integer 1-16 .., else 12 at the bad element": 17, then 128 in two octets, then 0.
         vector!("number-17", refused(12, OBJECT + 64)),
@@ -80,6 +80,45 @@ fn refused_behind_the_object() -> Vec<Vector> {
     ]
 }
 
+/// "`0107` goes with object version 0, `0108` with version 1 and strings equal to EF.COM's."
+fn versions() -> Vec<Vector> {
+    vec![
+        vector!("v1", None),
+        vector!("v1-sixteen-entries", None),
+        // "19, versions or strings disagree, at the object's start": 0107 with version 1, whatever its strings say, and 0108
+        // with version 0.
+        vector!("version-1", refused(19, OBJECT)),
+        vector!("v1-version-0", refused(19, OBJECT)),
+        vector!("v1-lds-0107", refused(19, OBJECT)),
+        vector!("v1-other-unicode", refused(19, OBJECT)),
+        vector!("v1-swapped", refused(19, OBJECT)),
+        vector!("v1-empty-strings", refused(19, OBJECT)),
+        vector!("v1-short-lds", refused(19, OBJECT)),
+        vector!("v1-long-unicode", refused(19, OBJECT)),
+        // "12 for an object version other than 0 or 1", before what follows it.
+        vector!("version-2", refused(12, OBJECT + 2)),
+    ]
+}
+
+/// "ends with a sequence of two printable strings", "after all of stage 4".
+fn strings() -> Vec<Vector> {
+    vec![
+        // 10 at the tag of the element that should stand there: 0C for 13, 31 for 30.
+        vector!("v1-utf8", refused(10, OBJECT + 108)),
+        vector!("v1-set", refused(10, OBJECT + 100)),
+        // The sequence ends where a string should stand, and the object where the sequence should: with either EF.COM.
+        vector!("v1-one-string", refused(10, OBJECT + 108)),
+        vector!("v1-no-string", refused(10, OBJECT + 102)),
+        vector!("v1-no-versions", refused(10, OBJECT + 100)),
+        vector!("v0-no-versions", refused(10, OBJECT + 100)),
+        // The first octet left over, in the sequence and behind it.
+        vector!("v1-three-strings", refused(10, OBJECT + 116)),
+        vector!("v1-behind", refused(10, OBJECT + 116)),
+        // "After all entries: a repeated number (12 at its integer)", and then what should stand behind them.
+        vector!("v1-repeated-entry", refused(12, OBJECT + 103)),
+    ]
+}
+
 #[cfg(test)]
 mod tests {
     use super::*;
@@ -96,7 +135,7 @@ mod tests {
             walk.take(&[0x60]).unwrap();
             let element = walk.take(&[0x30]).unwrap();
             let object = object::read(&vector.octets, &element).unwrap();
-            let null = vector.name != "no-parameters";
+            let null = !["no-parameters", "v1-sixteen-entries"].contains(&vector.name);
             assert_eq!(object::write(&object, null), vector.octets[element.whole], "{}", vector.name);
         }
     }

@@ -2,11 +2,18 @@
 
 use crate::cases::trees::{Held, Length, Tree};
 use paper::group;
+use paper::lds::Lds;
 use paper::sha256::sha256;
 use shared::seeds::Seeds;
 
-/// A sound presentation of these files as a tree. The list may name more, and the object may have more entries.
+/// A sound presentation of these files as a tree, of LDS 1.7 or 1.8.
 pub fn tree(seeds: &mut Seeds, files: &[(u8, Vec<u8>)]) -> Tree {
+    let lds = seeds.pick(&Lds::ALL);
+    tree_as(lds, seeds, files)
+}
+
+/// A sound presentation of these files as a tree. The list may name more, and the object may have more entries.
+pub fn tree_as(lds: Lds, seeds: &mut Seeds, files: &[(u8, Vec<u8>)]) -> Tree {
     let lent: Vec<u8> = files.iter().map(|(group, _)| *group).collect();
     let listed = more(seeds, &lent, &group::ALL);
     let every: Vec<u8> = (1..=16).collect();
@@ -15,7 +22,8 @@ pub fn tree(seeds: &mut Seeds, files: &[(u8, Vec<u8>)]) -> Tree {
         numbers = more(seeds, &lent, &every);
     }
     let tags: Vec<u8> = listed.into_iter().map(tag).collect();
-    let mut parts = vec![com(seeds, &tags), object(seeds, &numbers)];
+    let unicode: Vec<u8> = (0..6).map(|_| seeds.pick(b"0123456789")).collect();
+    let mut parts = vec![com(lds, &unicode, &tags), object(lds, seeds, &unicode, &numbers)];
     parts.extend(files.iter().map(|(group, content)| file(*group, content)));
     let mut tree = Tree { length: Length::None, ..Tree::holding(&[], parts) };
     seal(&mut tree);
@@ -36,18 +44,27 @@ fn more(seeds: &mut Seeds, must: &[u8], of: &[u8]) -> Vec<u8> {
     taken
 }
 
-fn com(seeds: &mut Seeds, tags: &[u8]) -> Tree {
-    let unicode: Vec<u8> = (0..6).map(|_| seeds.pick(b"0123456789")).collect();
-    let held = vec![Tree::leaf(&[0x5f, 0x01], b"0107"), Tree::leaf(&[0x5f, 0x36], &unicode), Tree::leaf(&[0x5c], tags)];
-    Tree::holding(&[0x60], held)
+fn com(lds: Lds, unicode: &[u8], tags: &[u8]) -> Tree {
+    let versions = vec![Tree::leaf(&[0x5f, 0x01], lds.told()), Tree::leaf(&[0x5f, 0x36], unicode)];
+    Tree::holding(&[0x60], [versions, vec![Tree::leaf(&[0x5c], tags)]].concat())
 }
 
-fn object(seeds: &mut Seeds, numbers: &[u8]) -> Tree {
+fn object(lds: Lds, seeds: &mut Seeds, unicode: &[u8], numbers: &[u8]) -> Tree {
     let mut algorithm = vec![0x06, 0x09, 0x60, 0x86, 0x48, 0x01, 0x65, 0x03, 0x04, 0x02, 0x01];
     algorithm.extend(seeds.pick(&[&[][..], &[0x05, 0x00]]));
     let entries = numbers.iter().map(|number| entry(*number, &seeds.octets(32))).collect();
-    let held = vec![Tree::leaf(&[0x02], &[0]), Tree::leaf(&[0x30], &algorithm), Tree::holding(&[0x30], entries)];
+    let version = u8::from(lds == Lds::V18);
+    let mut held =
+        vec![Tree::leaf(&[0x02], &[version]), Tree::leaf(&[0x30], &algorithm), Tree::holding(&[0x30], entries)];
+    if lds == Lds::V18 {
+        held.push(strings(lds.told(), unicode));
+    }
     Tree::holding(&[0x30], held)
+}
+
+/// What an object of version 1 ends with.
+pub fn strings(lds: &[u8], unicode: &[u8]) -> Tree {
+    Tree::holding(&[0x30], vec![Tree::leaf(&[0x13], lds), Tree::leaf(&[0x13], unicode)])
 }
 
 pub fn entry(number: u8, digest: &[u8]) -> Tree {
@@ -121,16 +138,17 @@ mod tests {
     fn a_tree_and_the_encoder_agree() {
         let mut seeds = Seeds::new(1);
         let files = files(&mut seeds, 2);
-        let written = presentation::write(&files);
-        let mut tree = tree(&mut seeds, &files);
-        tree.at(&[0, 1]).unwrap().held = Held::Octets(b"040000".to_vec());
-        tree.at(&[0, 2]).unwrap().held = Held::Octets(files.iter().map(|(group, _)| tag(*group)).collect());
-        let lent = files.iter().map(|(group, _)| *group).collect::<Vec<_>>();
-        *tree.at(&[1]).unwrap() = object(&mut seeds, &lent);
-        let algorithm = tree.at(&[1, 1]).and_then(Tree::octets_mut).unwrap();
-        algorithm.truncate(11);
-        algorithm.extend([0x05, 0x00]);
-        seal(&mut tree);
-        assert_eq!(tree.encoded(), written);
+        for lds in Lds::ALL {
+            let mut tree = tree_as(lds, &mut seeds, &files);
+            tree.at(&[0, 1]).unwrap().held = Held::Octets(b"040000".to_vec());
+            tree.at(&[0, 2]).unwrap().held = Held::Octets(files.iter().map(|(group, _)| tag(*group)).collect());
+            let lent = files.iter().map(|(group, _)| *group).collect::<Vec<_>>();
+            *tree.at(&[1]).unwrap() = object(lds, &mut seeds, b"040000", &lent);
+            let algorithm = tree.at(&[1, 1]).and_then(Tree::octets_mut).unwrap();
+            algorithm.truncate(11);
+            algorithm.extend([0x05, 0x00]);
+            seal(&mut tree);
+            assert_eq!(tree.encoded(), presentation::write_as(lds, &files));
+        }
     }
 }

@@ -4,13 +4,15 @@ use crate::border;
 use crate::cases::houses::HOUSES;
 use crate::cases::reading::{self, Reader, Reading, ROOM};
 use crate::cases::trials::{self, Trials};
+use crate::cases::versions::{self, Spoilt};
 use crate::cases::visas::{visa, Wrong};
 use crate::cases::{chance, damage, digits, octets, personal, presentations, vector};
 use crate::guard::{Lent, Side};
 use crate::report::Tally;
 use paper::answer::{Answer, Outcome};
 use paper::form::Form;
-use paper::presentation::{write, write_file, write_text_element};
+use paper::lds::Lds;
+use paper::presentation::{write, write_as, write_file, write_text_element};
 use paper::refusal::LONGEST;
 use paper::sha256::sha256;
 use paper::{calls, group, specimens};
@@ -27,10 +29,13 @@ pub fn compare(seed: u64) -> Tally {
     trials.limit();
     trials.worst();
     trials.length_edges();
+    trials.versions();
     trials.damage();
     trials.pairs();
+    trials.newer_pairs();
     trials.cut();
     trials.one_octet();
+    trials.one_octet_of_versions();
     trials.bits();
     trials.lists();
     trials.numbers();
@@ -75,7 +80,19 @@ impl Trials<ReadPresentation> {
             let made = presentations::tree(&mut self.seeds, &files).encoded();
             self.together(|trials| {
                 trials.case(&made);
-                trials.plain(&write(&files));
+                Lds::ALL.iter().for_each(|lds| trials.plain(&write_as(*lds, &files)));
+            });
+        }
+    }
+
+    /// Versions that agree, and that disagree in every way; alone, and with what goes before and behind them.
+    fn versions(&mut self) {
+        for said in versions::all() {
+            self.together(|trials| {
+                for spoilt in Spoilt::ALL {
+                    let made = said.presentation(&mut trials.seeds, spoilt);
+                    trials.plain(&made);
+                }
             });
         }
     }
@@ -158,16 +175,18 @@ impl Trials<ReadPresentation> {
 
     /// Each kind of damage at each place, and each house with it.
     fn damage(&mut self) {
-        let sample = damage::sample(&mut self.seeds);
-        self.plain(&sample.encoded());
-        for damage in damage::all() {
-            let mut tree = sample.clone();
-            damage::spoil(&mut tree, &[&damage]);
-            let made = tree.encoded();
-            self.together(|trials| {
-                HOUSES.iter().for_each(|house| trials.with_room(*house, &made, ROOM));
-                trials.with_room(0, &made, 0);
-            });
+        for (lds, damages) in [(Lds::V17, damage::all()), (Lds::V18, [damage::all(), damage::versions()].concat())] {
+            let sample = damage::sample_as(lds, &mut self.seeds);
+            self.plain(&sample.encoded());
+            for damage in damages {
+                let mut tree = sample.clone();
+                damage::spoil(&mut tree, &[&damage]);
+                let made = tree.encoded();
+                self.together(|trials| {
+                    HOUSES.iter().for_each(|house| trials.with_room(*house, &made, ROOM));
+                    trials.with_room(0, &made, 0);
+                });
+            }
         }
     }
 
@@ -187,8 +206,27 @@ impl Trials<ReadPresentation> {
         }
     }
 
+    /// What can be wrong with the versions of a newer one, and anything else with it.
+    fn newer_pairs(&mut self) {
+        let sample = damage::sample_as(Lds::V18, &mut self.seeds);
+        let all = [damage::versions(), damage::all()].concat();
+        for one in &damage::versions() {
+            self.together(|trials| {
+                for other in &all {
+                    let mut tree = sample.clone();
+                    damage::spoil(&mut tree, &[one, other]);
+                    trials.plain(&tree.encoded());
+                }
+            });
+        }
+    }
+
     fn cut(&mut self) {
-        let sample = damage::sample(&mut self.seeds).encoded();
+        Lds::ALL.iter().for_each(|lds| self.cut_as(*lds));
+    }
+
+    fn cut_as(&mut self, lds: Lds) {
+        let sample = damage::sample_as(lds, &mut self.seeds).encoded();
         for length in 0..sample.len() {
             self.together(|trials| {
                 trials.case(&sample[..length]);
@@ -218,6 +256,16 @@ impl Trials<ReadPresentation> {
                     }
                 }
             });
+        }
+    }
+
+    /// Every octet of EF.COM, of the object's version and of its strings with every value, in a newer one.
+    fn one_octet_of_versions(&mut self) {
+        let first = write_text_element(specimens::T3.as_bytes());
+        let made = write_as(Lds::V18, &[(1, first), (2, b"abc".to_vec())]);
+        assert_eq!((made[22..24].to_vec(), made[122..124].to_vec()), (vec![0x30, 0x72], vec![0x30, 0x0e]));
+        for place in (0..27).chain(122..138) {
+            self.together(|trials| octets::with_each(&made, place).iter().for_each(|other| trials.plain(other)));
         }
     }
 
