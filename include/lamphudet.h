@@ -25,8 +25,8 @@
  *     in: the layout changed, and an old entry is not always refused. See LAMPHUDET_ENTRY_MAX.
  *
  * What is covered: texts of TD1, TD2 and TD3, alone and in group 1, and of the visas MRV-A and MRV-B,
- * alone; SHA-256 as digest, LDS version 0107, security object version 0. Other digests, 0108 and
- * version 1 are refused, 13, 11 and 12.
+ * alone; SHA-256 as digest; LDS version 0107 with security object version 0, and 0108 with version 1.
+ * Other digests are refused by 13, other versions by 11 and 12, and versions that disagree by 19.
  */
 #ifndef LAMPHUDET_H
 #define LAMPHUDET_H
@@ -188,6 +188,7 @@ LAMPHUDET_ASSERT_SIZE(lamphudet_record, 112);
  *   17   house or record not sound; of a call that reads it is the        0
  *        house, since a record that was read is sound
  *   18   not an entry                                                     start of that entry
+ *   19   versions of EF.COM and security object disagree                  the object's tag
  *   24   header field of a seal                                           field start
  *   25   feature wrongly coded or cut off; feature 02 absent, repeated    its tag; where absent FF,
  *        or not 48 octets                                                 or the seal's length
@@ -215,6 +216,7 @@ enum lamphudet_refusal {
     LAMPHUDET_REFUSED_OUTPUT = 16,
     LAMPHUDET_REFUSED_UNSOUND = 17,
     LAMPHUDET_REFUSED_ENTRY = 18,
+    LAMPHUDET_REFUSED_VERSIONS = 19,
     LAMPHUDET_REFUSED_SEAL_HEADER = 24,
     LAMPHUDET_REFUSED_SEAL_FEATURE = 25,
     LAMPHUDET_REFUSED_SEAL_TEXT = 26,
@@ -244,6 +246,7 @@ static inline const char *lamphudet_words(uint32_t number)
     case LAMPHUDET_REFUSED_OUTPUT: return "lent output too short";
     case LAMPHUDET_REFUSED_UNSOUND: return "house or record not sound";
     case LAMPHUDET_REFUSED_ENTRY: return "not an entry";
+    case LAMPHUDET_REFUSED_VERSIONS: return "versions of EF.COM and security object disagree";
     case LAMPHUDET_REFUSED_SEAL_HEADER: return "header field of a seal";
     case LAMPHUDET_REFUSED_SEAL_FEATURE:
         return "feature wrongly coded or cut off; feature 02 absent, repeated or not 48 octets";
@@ -439,8 +442,9 @@ lamphudet_answer lamphudet_read_text(uint32_t house, const uint8_t *text, size_t
  *
  * What is accepted: every lent group is listed in EF.COM, is lent once, and has an entry in the
  * security object with the SHA-256 digest of its whole file; group 1 is lent, and holds exactly a
- * text of TD1, TD2 or TD3 that lamphudet_read_text accepts. Signatures over the security object and
- * the inside of other groups are not looked at.
+ * text of TD1, TD2 or TD3 that lamphudet_read_text accepts. EF.COM says 0107 and the object has
+ * version 0, or 0108 and the object has version 1 and ends with that and EF.COM's Unicode version.
+ * Signatures over the security object and the inside of other groups are not looked at.
  *
  * Refuses, in the order of the stages, and in a stage from left to right: an element's encoding,
  * then its content, then what follows it. Encoding is the tag named, the length in its one shortest
@@ -453,17 +457,20 @@ lamphudet_answer lamphudet_read_text(uint32_t house, const uint8_t *text, size_t
  *   10  EF.COM (60), the security object (30) and group files, seen from outside
  *   Stage 3, EF.COM:
  *   10  the version (5F01), the Unicode version (5F36), the tag list (5C), and nothing more
- *   11  at the version unless it is 0107, at the Unicode version unless it is six digits
+ *   11  at the version unless it is 0107 or 0108, at the Unicode version unless it is six digits
  *   11  in the list: at the first tag that is no group's; then at the first that repeats an earlier
  *       one
  *   Stage 4, the security object:
  *   10  the version (02), the AlgorithmIdentifier (30), the list of entries (30), each of them (30)
- *       a number (02) and a digest (04), and nothing more
- *   12  at the version unless it is 0
+ *       a number (02) and a digest (04), in version 1 a sequence (30) of two printable strings (13),
+ *       and nothing more
+ *   12  at the version unless it is 0 or 1
  *   13  at the AlgorithmIdentifier unless it is one of SHA-256's two spellings
  *   12  at an entry's number unless it is one octet, 1 to 16; at its digest unless it is 32 octets
  *   12  when all entries were read: at the first number that repeats an earlier one; then at the
- *       list where there are fewer than two; what is left over behind the list comes after that
+ *       list where there are fewer than two; what stands behind the list comes after that
+ *   19  at the object's tag (30) when all of it was read: the version is 1 and EF.COM's 0107, or 0 and
+ *       0108; or the strings are not 0108 and EF.COM's Unicode version, octet by octet
  *   Stage 5, group files, one after another as they are lent:
  *   14  at the file's start: its group is not listed, was lent before, or has no entry
  *   15  at the file's start: its digest is not the one in its entry

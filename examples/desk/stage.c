@@ -45,6 +45,7 @@ enum stage stage_of(lamphudet_answer refusal, const uint8_t *presentation, size_
     case LAMPHUDET_REFUSED_EF_COM: return EF_COM;
     case LAMPHUDET_REFUSED_SECURITY_OBJECT: return SECURITY_OBJECT;
     case LAMPHUDET_REFUSED_ALGORITHM: return SECURITY_OBJECT;
+    case LAMPHUDET_REFUSED_VERSIONS: return SECURITY_OBJECT; /* told when all of stage 4 was read */
     case LAMPHUDET_REFUSED_GROUP: return refusal.value < len ? GROUP_FILES : GROUP_1; /* no file stands at the end */
     case LAMPHUDET_REFUSED_DIGEST: return GROUP_FILES;
     case LAMPHUDET_REFUSED_OUTPUT: return AFTER_ALL;

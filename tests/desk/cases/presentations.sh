@@ -7,7 +7,8 @@ sed '/^#/d' "$expected/presentation" > "$folder/presentation"
 octets_of $samples/presentation.hex > "$folder/octets"
 holds 'a presentation in octets' 0 "$folder/presentation" presentation --file "$folder/octets"
 holds 'a presentation on standard input' 0 "$folder/presentation" presentation < "$folder/octets"
-for stage in walk com algorithm digest text; do
+holds 'a presentation of LDS 1.8' 0 "$expected/presentation-newer" presentation --hex $samples/presentation-newer.hex
+for stage in walk com algorithm versions digest text; do
     holds "a presentation that is refused, $stage" 1 "$expected/presentation-$stage" \
         presentation --hex "$samples/presentation-$stage.hex"
 done
@@ -66,7 +67,8 @@ holds 'a presentation that leaves the personal check out' 0 "$folder/presentatio
     presentation "$(with_group_1 "$(in_group_1 "$first${second%00}<0")")${sample:432}"
 
 # The samples are what OpenSSL's encoder made, where the vectors of tests/compare have the same.
-for pair in presentation:two-entries presentation-{algorithm:sha-1,digest:digest-of-the-inside,text:wrong-digit}; do
+for pair in presentation:two-entries presentation-{algorithm:sha-1,digest:digest-of-the-inside,text:wrong-digit} \
+    presentation-{newer:v1,versions:v1-lds-0107}; do
     sample_hex=$(hex_of "$samples/${pair%:*}.hex")
     try "the sample ${pair%:*} is the vector ${pair#*:}" [ "$sample_hex" = "$(hex_of "tests/compare/vectors/${pair#*:}.hex")" ]
 done

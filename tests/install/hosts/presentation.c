@@ -20,8 +20,8 @@ static const uint8_t group_2[3] = { 0x75, 0x01, 0x07 };
 static const char t3[] = "P<UTONORD<<ELIN<<<<<<<<<<<<<<<<<<<<<<<<<<<<<"
                          "K7<<<<<<<1UTO9001158F3006302<<<<<<<<<<<<<<00";
 
-/* Where each of these stands, and all of it. */
-enum { OBJECT = 22, ENTRY_1 = 44, ENTRY_2 = 83, GROUP_1 = 122, TEXT = 127, GROUP_2 = 215, ALL = 218 };
+/* Where the last character of EF.COM's version stands, and each of these, and all of it. */
+enum { VERSION = 8, OBJECT = 22, ENTRY_1 = 44, ENTRY_2 = 83, GROUP_1 = 122, TEXT = 127, GROUP_2 = 215, ALL = 218 };
 
 /* With no digit expected. */
 static int is(lamphudet_answer answer, uint32_t number, uint64_t value)
@@ -71,6 +71,18 @@ static int found(const uint8_t *made)
         && stands(made, 3, 0, 0) && stands(made, 0, 0, 0) && lamphudet_group_file(NULL, 0, 1).length == 0;
 }
 
+/* EF.COM says 0108, and the object has version 0. */
+static int disagreed(uint8_t *made)
+{
+    uint8_t entry[LAMPHUDET_ENTRY_MAX];
+    lamphudet_answer answer;
+
+    made[VERSION] = '8';
+    answer = lamphudet_read_presentation(1, made, ALL, entry, sizeof entry);
+    made[VERSION] = '7';
+    return is(answer, LAMPHUDET_REFUSED_VERSIONS, OBJECT);
+}
+
 static int refused(uint8_t *made)
 {
     static uint8_t long_one[LAMPHUDET_PRESENTATION_MAX + 1];
@@ -111,7 +123,7 @@ int main(void)
     uint8_t made[ALL];
     int kept = put_together(made) && accepted(made);
     int handed = found(made);
-    int kept_out = refused(made);
+    int kept_out = disagreed(made) && refused(made);
     int digits = told(made, 63, 8, "check digit of the birth") && told(made, 87, 0, "composite check digit");
 
     printf("presentation %s, files %s, refusals %s, check digits %s\n", kept ? "kept" : "NOT kept",
