@@ -2,6 +2,7 @@
 
 use crate::records::{MIXED, RECORDS};
 use paper::form::Form;
+use paper::lds::Lds;
 use paper::refusal::LONGEST;
 use shared::grouped::grouped;
 use shared::worst::Worst;
@@ -27,8 +28,8 @@ pub enum Job {
     WriteText,
     /// One of these calls, over passports with data or without.
     Passport(Call, Data),
-    /// One presentation of so many octets read, and its entry written.
-    ReadPresentation(usize),
+    /// One presentation of this version read, and its entry written. As LDS 1.7 it has so many octets, as 1.8 the same files.
+    ReadPresentation(Lds, usize),
     /// The digests of that presentation's group files, and nothing else.
     DigestFiles(usize),
     /// One presentation read that gives the most to do beside digests. It is refused when all of it was looked at.
@@ -82,8 +83,14 @@ impl Job {
         Job::Passport(Call::Write, Data::Full),
     ];
     /// 2, 16 and 60 KB.
-    pub const PRESENTATIONS: [Job; 3] =
-        [Job::ReadPresentation(2_048), Job::ReadPresentation(16_384), Job::ReadPresentation(61_440)];
+    pub const PRESENTATIONS: [Job; 6] = [
+        Job::ReadPresentation(Lds::V17, 2_048),
+        Job::ReadPresentation(Lds::V18, 2_048),
+        Job::ReadPresentation(Lds::V17, 16_384),
+        Job::ReadPresentation(Lds::V18, 16_384),
+        Job::ReadPresentation(Lds::V17, 61_440),
+        Job::ReadPresentation(Lds::V18, 61_440),
+    ];
     /// Each with the call that it gives the most to do.
     pub const WORST: [Job; 6] = [
         Job::ReadWorst(Worst::TinyFiles),
@@ -105,7 +112,8 @@ impl Job {
             Job::OpenEntry => "open_entry",
             Job::WriteText => "write_text",
             Job::Passport(call, data) => return format!("passport_{call:?}_{data:?}"),
-            Job::ReadPresentation(_) => "read_presentation",
+            Job::ReadPresentation(Lds::V17, _) => "read_presentation",
+            Job::ReadPresentation(Lds::V18, _) => "read_newer_presentation",
             Job::DigestFiles(_) => "digest_files",
             Job::ReadWorst(worst) => return format!("read_{worst:?}"),
             Job::FindInWorst(worst) => return format!("find_in_{worst:?}"),
@@ -118,7 +126,9 @@ impl Job {
     /// What its row in a table begins with.
     pub fn title(self) -> String {
         match self {
-            Job::Digest(size) | Job::ReadPresentation(size) | Job::DigestFiles(size) => grouped(size as u64),
+            Job::Digest(size) | Job::DigestFiles(size) => grouped(size as u64),
+            Job::ReadPresentation(Lds::V17, size) => grouped(size as u64),
+            Job::ReadPresentation(Lds::V18, size) => format!("{}, as LDS 1.8", grouped(size as u64)),
             Job::ReadText => "texts read, entries written".into(),
             Job::ReadForm(form) => format!("texts of {} read, entries written", named(form)),
             Job::ReadMixed => "texts read, half of them refused".into(),
@@ -136,7 +146,7 @@ impl Job {
     /// 0 for a job that has no size.
     pub fn size(self) -> usize {
         match self {
-            Job::Digest(size) | Job::ReadPresentation(size) | Job::DigestFiles(size) => size,
+            Job::Digest(size) | Job::ReadPresentation(_, size) | Job::DigestFiles(size) => size,
             Job::ReadWorst(_) | Job::FindInWorst(_) => LONGEST,
             _ => 0,
         }

@@ -5,21 +5,22 @@ use crate::contender::Contender;
 use crate::job::{Job, Work};
 use paper::calls;
 use paper::entry::LONGEST;
-use paper::presentation::{write, write_file};
+use paper::lds::Lds;
+use paper::presentation::{write, write_as, write_file};
 use paper::sha256::sha256;
 use shared::files::bare_group_1;
 use shared::seeds::Seeds;
 
 pub fn of(contender: Contender, job: Job) -> Option<Work> {
     let files = files(job.size());
-    let lent = write(&files);
+    let lent = lent(job);
     let mut room = [0; LONGEST];
     match (contender, job) {
-        (Contender::Library, Job::ReadPresentation(_)) => Some(Box::new(move || {
+        (Contender::Library, Job::ReadPresentation(..)) => Some(Box::new(move || {
             // A refusal would be quicker than the work, so none may come.
             assert_eq!(border::read_presentation(1, &lent, &mut room).number, 0);
         })),
-        (Contender::Rust, Job::ReadPresentation(_)) => Some(Box::new(move || {
+        (Contender::Rust, Job::ReadPresentation(..)) => Some(Box::new(move || {
             let outcome = calls::read_presentation(1, &lent, room.len());
             assert_eq!(outcome.answer.number, 0);
             room[..outcome.written.len()].copy_from_slice(&outcome.written);
@@ -32,9 +33,10 @@ pub fn of(contender: Contender, job: Job) -> Option<Work> {
     }
 }
 
-/// A presentation of so many octets.
-pub fn lent(size: usize) -> Vec<u8> {
-    write(&files(size))
+/// The presentation of a job.
+pub fn lent(job: Job) -> Vec<u8> {
+    let lds = if let Job::ReadPresentation(lds, _) = job { lds } else { Lds::V17 };
+    write_as(lds, &files(job.size()))
 }
 
 /// Groups as a chip has them: the text, a face that takes what is left, details and security options.

@@ -10,8 +10,8 @@ use shared::header;
 
 /// The most that a call takes of all the inputs that it is timed on.
 pub fn table() -> Table {
-    let row = |name: &str, jobs: &[Job], of: fn(usize) -> usize| {
-        let most = jobs.iter().map(|job| of(job.size())).max().expect("a job");
+    let row = |name: &str, jobs: &[Job], of: fn(Job) -> usize| {
+        let most = jobs.iter().map(|job| of(*job)).max().expect("a job");
         vec![name.into(), grouped(most as u64)]
     };
     let rows = vec![
@@ -21,15 +21,15 @@ pub fn table() -> Table {
     Table { titles: ["call", "octets of stack"].map(String::from).to_vec(), rows }
 }
 
-fn digest(size: usize) -> usize {
-    let (input, mut room) = (vec![0x3c_u8; size], [0_u8; 32]);
-    let arguments = [input.as_ptr() as usize, size, room.as_mut_ptr() as usize, room.len(), 0];
+fn digest(job: Job) -> usize {
+    let (input, mut room) = (vec![0x3c_u8; job.size()], [0_u8; 32]);
+    let arguments = [input.as_ptr() as usize, input.len(), room.as_mut_ptr() as usize, room.len(), 0];
     // Each range is valid for its length, and they do not overlap.
     unsafe { Call { function: header::lamphudet_digest as *const (), arguments }.stack() }
 }
 
-fn read_presentation(size: usize) -> usize {
-    let (lent, mut room) = (presentations::lent(size), [0_u8; LONGEST]);
+fn read_presentation(job: Job) -> usize {
+    let (lent, mut room) = (presentations::lent(job), [0_u8; LONGEST]);
     let arguments = [1, lent.as_ptr() as usize, lent.len(), room.as_mut_ptr() as usize, room.len()];
     // As for the digest.
     unsafe { Call { function: header::lamphudet_read_presentation as *const (), arguments }.stack() }

@@ -11,7 +11,7 @@ pub fn of(contender: Contender, job: Job) -> Option<Work> {
         Job::ReadText | Job::ReadForm(_) | Job::ReadMixed => records::of(contender, job),
         Job::NextEntry | Job::OpenEntry | Job::WriteText => records::of(contender, job),
         Job::Passport(call, data) => passports::of(contender, call, data),
-        Job::ReadPresentation(_) | Job::DigestFiles(_) => presentations::of(contender, job),
+        Job::ReadPresentation(..) | Job::DigestFiles(_) => presentations::of(contender, job),
         Job::ReadWorst(_) | Job::FindInWorst(_) => worst::of(contender, job),
         Job::ReadSeal | Job::ReadSealText => seals::of(contender, job),
     }
