@@ -1,5 +1,5 @@
 -- By which numbers each call refuses, a list for each: document 01, "Refusal numbers" and "What the server lends and gets"; 19
--- document 02, 2026-04, and of a seal 2026-08. A new cause moves the lists of the calls that tell it.
+-- document 02, 2026-04, of a seal 2026-08, and of a group's file 2026-10. A new cause moves the lists of the calls that tell it.
 use Prim.Native.Nat.{ℕ}
 use mathlib.Core.Bool.{Bool, false, not, _&&_, _||_}
 use mathlib.Core.List.{List, [], _∷_}
@@ -24,6 +24,10 @@ ofPresentation = 10 ∷ 11 ∷ 12 ∷ 13 ∷ 14 ∷ 15 ∷ 19 ∷ ofText
 -- cannot have
 abbrev pub ofSeal : List ℕ
 ofSeal = 1 ∷ 9 ∷ 24 ∷ 25 ∷ 26 ∷ 27 ∷ ofFields
+
+-- its elements, how deep they stand, and the count of its templates
+abbrev pub ofInside : List ℕ
+ofInside = 10 ∷ 21 ∷ 22 ∷ []
 
 abbrev pub ofRun : List ℕ
 ofRun = 18 ∷ []

@@ -1,5 +1,5 @@
--- Why something is refused, in the paper's numbers: 1 to 18 in document 01, "Refusal numbers"; 19 in document 02, 2026-04, 24 to
--- 27 in 2026-08.
+-- Why something is refused, in the paper's numbers: 1 to 18 in document 01, "Refusal numbers"; 19 in document 02, 2026-04, 21 and
+-- 22 in its 2026-10, 24 to 27 in its 2026-08.
 use Prim.Native.Nat.{ℕ}
 use Rattle.refusal.specs.declared.Cause.{Cause}
 use Rattle.refusal.specs.declared.Cause.the-variants
@@ -30,6 +30,8 @@ whyOf Cause.Output = by 16
 whyOf Cause.Unsound = by 17
 whyOf Cause.Entry = by 18
 whyOf Cause.Versions = by 19
+whyOf Cause.Depth = by 21
+whyOf Cause.Templates = by 22
 whyOf Cause.SealHeader = by 24
 whyOf Cause.SealFeature = by 25
 whyOf Cause.SealText = by 26
