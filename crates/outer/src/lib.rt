@@ -29,9 +29,8 @@ pub enum Walked {
 pub fn file_at(w: &[u8], at: usize) -> Taken
     ensures { λ r. ⌜ takenOf r ≡ O.fileAt (now (w .entry)) at ⌝ }
 {
-    let tag = lent::octet(w, at);
-    if is_group(tag) {
-        tlv::element(w, at, tag as u16)
+    if is_group(lent::octet(w, at)) {
+        tlv::behind_tag(w, at, false)
     } else {
         tlv::refuse(at)
     }

@@ -50,8 +50,7 @@ fn keeps_rule(s: &[u8], at: usize, text: usize, v: Stretch) -> bool
 fn feature_at(s: &[u8], at: usize, text: usize) -> Taken
     ensures { λ r. ⌜ takenOf r ≡ F.featureAt (now (s .entry)) at text ⌝ }
 {
-    let element = tlv::element(s, at, lent::octet(s, at) as u16);
-    match numbered(element, Cause::SealFeature) {
+    match numbered(tlv::behind_tag(s, at, false), Cause::SealFeature) {
         Taken::Value(v) => {
             if keeps_rule(s, at, text, v) {
                 Taken::Value(v)

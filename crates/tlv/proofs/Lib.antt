@@ -14,3 +14,5 @@ pub mod Stretches
 pub mod Each
 -- no two answers are told alike (`taken-tells`)
 pub mod Told
+-- the element that stands at a place, whatever its tag
+pub mod Whatever

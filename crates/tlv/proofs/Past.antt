@@ -13,14 +13,14 @@ use Rattle.tlv.specs.declared.Size.{Size}
 use Rattle.tlv.specs.declared.Size.the-variants.{Of, Unknown}
 use Rattle.tlv.specs.Read.{Read, value, refusal}
 use Rattle.tlv.proofs.Joined.{never-value, same-value, kept-value}
-use Rattle.tlv.specs.Element.{sized, sizeAt, endsWithin, tagAt, tagWidth, element}
+use Rattle.tlv.specs.Element.{sized, sizeAt, endsWithin, tagAt, tagWidth, behindTag, element}
 
 sized-past : (s : List ℕ) (at place : ℕ) (z : Size) → length s < place → sized s at place z ≡ refusal (by 10) at
 unfolding sized endsWithin
 sized-past s at place (Of z) h = rw (lt-leb (place + z .told + z .count) (length s) (omega arith))
 sized-past s at place Unknown h = refl
 
-some-tag : (tag : ℕ) → 1 ≤ tagWidth tag
+pub some-tag : (tag : ℕ) → 1 ≤ tagWidth tag
 unfolding tagWidth
 some-tag tag = go (ltb tag 256)
   where
@@ -39,6 +39,11 @@ none-past s at tag h =
         → refusal (by 10) at ≡ cond b (sized s at (at + tagWidth tag) (sizeAt s (at + tagWidth tag))) (refusal (by 10) at)
     go true e = sym e
     go false e = refl
+
+-- nor behind any tag
+pub none-behind : (s : List ℕ) (at width : ℕ) → 1 ≤ width → length s ≤ at → refusal (by 10) at ≡ behindTag s at width
+unfolding behindTag
+none-behind s at width some h = sym (sized-past s at (at + width) (sizeAt s (at + width)) (omega arith))
 
 -- where a value stands whose length was read at a place
 sized-within : (s : List ℕ) (at place : ℕ) (z : Size) (v : Stretch) → sized s at place z ≡ value v

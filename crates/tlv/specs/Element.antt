@@ -53,6 +53,10 @@ sized s at place Unknown = refusal (by 10) at
 unfoldable pub sizeAt : List ℕ → ℕ → Size
 sizeAt s place = sizeOf (getD s place 0) (getD s (place + 1) 0) (getD s (place + 2) 0)
 
+-- the value of the element that stands at a place, behind a tag of so many octets, whatever tag that is; or 10 there
+unfoldable pub behindTag : List ℕ → (at width : ℕ) → Read Stretch
+behindTag s at width = sized s at (at + width) (sizeAt s (at + width))
+
 -- the value of the element with this tag that stands at a place of what holds it, or 10 there
 unfoldable pub element : List ℕ → (at tag : ℕ) → Read Stretch
 element s at tag = cond (eqb (tagAt s at tag) tag) (sized s at (at + tagWidth tag) (sizeAt s (at + tagWidth tag)))

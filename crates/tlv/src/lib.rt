@@ -1,9 +1,10 @@
 // Elements of tag, length and value, as they stand in a chip's files: one walker for every stage of a presentation.
 ghost use mathlib.Core.Path.{_≡_};
+ghost use mathlib.Core.Bool.{cond};
 ghost use Prim.Native.Nat.{_+_, _<_, _≤_, _^_};
 ghost use Rattle.refusal.specs.Numbers.{by};
 ghost use Rattle.tlv.specs.Read.{refusal};
-ghost use Rattle.tlv.specs.Element.{sizeOf, sizeAt, tagAt, tagWidth, endsWithin, sized, element, takenOf};
+ghost use Rattle.tlv.specs.Element.{sizeOf, sizeAt, tagAt, tagWidth, endsWithin, sized, behindTag, element, takenOf};
 ghost use Rattle.tlv.specs.Inner.Counts.{countIn};
 
 pub mod cut;
@@ -75,7 +76,8 @@ pub fn refuse(at: usize) -> Taken
     Taken::Refused(Refusal::at(Cause::Encoding, at))
 }
 
-fn ends_within(s: &[u8], at: usize, from: usize, to: usize) -> Taken
+// The octets from a place up to another, if they end within what holds them.
+pub fn ends_within(s: &[u8], at: usize, from: usize, to: usize) -> Taken
     ensures { λ r. ⌜ takenOf r ≡ endsWithin (now (s .entry)) at from to ⌝ }
 {
     if to <= s.len() {
@@ -99,6 +101,21 @@ fn sized(s: &[u8], at: usize, place: usize) -> Taken
             ends_within(s, at, from, from + z.count)
         }
         Size::Unknown => refuse(at),
+    }
+}
+
+// The value of the element that stands at a place of what holds it, behind a tag of one octet, or of two, whatever tag that is.
+pub fn behind_tag(s: &[u8], at: usize, wide: bool) -> Taken
+    ensures { λ r. ⌜ takenOf r ≡ behindTag (now (s .entry)) at (cond wide 2 1) ⌝ }
+{
+    // nothing stands at the end or past it
+    if s.len() <= at {
+        return refuse(at);
+    }
+    if wide {
+        sized(s, at, at + 2)
+    } else {
+        sized(s, at, at + 1)
     }
 }
 
