@@ -35,7 +35,8 @@ use Rattle.chip.specs.Versions.{agrees, versionsCheck}
 use Rattle.chip.specs.Files.{filesCheck}
 use Rattle.group_text.specs.Text.{answerBy}
 use Rattle.chip.specs.Presentation.{groupOne, decided, readStages, readPresentation}
-use Rattle.row_theorems.specs.Standing.{stretchAt, coded}
+use Rattle.tlv.specs.Places.{stretchAt}
+use Rattle.row_theorems.specs.Standing.{coded}
 use Rattle.row_theorems.proofs.Rows.{under-value, element-row}
 use Rattle.presentation_theorems.proofs.FirstFailing.{parts, outsideChecks, outer-rows}
 use Rattle.presentation_theorems.proofs.Acceptance.{passed-value}

@@ -16,7 +16,7 @@ use Rattle.outer.specs.Outer.{files, walked}
 use Rattle.chip.specs.Files.{filesCheck}
 use Rattle.group_text.specs.Text.{answerBy}
 use Rattle.chip.specs.Presentation.{groupOne}
-use Rattle.row_theorems.specs.Standing.{stretchAt}
+use Rattle.tlv.specs.Places.{stretchAt}
 use Rattle.presentation_theorems.specs.PresentationChecks.{efCom, object}
 
 -- stages 3 to 6, as they were

@@ -15,7 +15,8 @@ use Rattle.tlv.specs.Versions.{both, lds17, lds18}
 use Rattle.efcom.specs.declared.Common.{Common}
 use Rattle.efcom.specs.EfCom.{knownFrom, onceFrom, tagsCheck, fromTagList, isUnicode, fromUnicode, isVersion, fromVersion}
 use Rattle.text_theorems.proofs.FirstOf.{firstOf}
-use Rattle.row_theorems.specs.Standing.{stretchAt, coded}
+use Rattle.tlv.specs.Places.{stretchAt}
+use Rattle.row_theorems.specs.Standing.{coded}
 use Rattle.presentation_theorems.specs.EfComChecks.{versionChecks, unicodePlace, unicodeChecks, listPlace, knownChecks}
 use Rattle.presentation_theorems.specs.EfComChecks.{onceChecks, tagListChecks, efComChecks, common}
 use Rattle.row_theorems.proofs.Rows.{under, keep, first-then, checked-else, goes-on, stops}

@@ -20,7 +20,8 @@ use Rattle.chip.specs.Presentation.{firstFile, groupOne}
 use Rattle.text_theorems.specs.Ordered.{checksOf}
 use Rattle.text_theorems.proofs.FirstFailing.{read-first}
 use Rattle.text_theorems.proofs.FirstOf.{firstOf}
-use Rattle.row_theorems.specs.Standing.{stretchAt, coded}
+use Rattle.tlv.specs.Places.{stretchAt}
+use Rattle.row_theorems.specs.Standing.{coded}
 use Rattle.presentation_theorems.specs.PresentationChecks.{lentFile, textChecks, groupOnePlace, groupOneChecks}
 use Rattle.presentation_theorems.proofs.Elements.{same-test}
 use Rattle.presentation_theorems.proofs.GroupOne.{one-tag, tag-one}

@@ -10,6 +10,7 @@ use lib.Seq.{length-take-le}
 use Rattle.refusal.specs.Outcome.{passed, orElse, unless}
 use Rattle.refusal.proofs.Outcomes.{both-passed}
 use Rattle.lent.specs.Octets.{stands}
+use Rattle.tlv.proofs.Onward.{some-place}
 use Rattle.tlv.specs.Read.{Read, value, andThen, checked}
 use Rattle.tlv.specs.Element.{tagWidth}
 use Rattle.tlv.specs.Cut.{cut, hasOctets, endCheck}
@@ -22,7 +23,8 @@ use Rattle.object.specs.Object.{GroupHash, isGroupNumber, digestAt, numberAt, e
 use Rattle.object.specs.Object.{Said, entriesCheck, stringsAt, sequenceAt, versionAt, fromEntryList, isSha256, fromAlgorithm}
 use Rattle.object.specs.Object.{isVersion, fromVersion}
 use Rattle.text_theorems.proofs.FirstOf.{firstOf}
-use Rattle.row_theorems.specs.Standing.{stretchAt, coded, each}
+use Rattle.tlv.specs.Places.{stretchAt}
+use Rattle.row_theorems.specs.Standing.{coded, each}
 use Rattle.presentation_theorems.specs.ObjectChecks.{versionChecks, isOne, algorithmPlace, algorithmChecks, entriesPlace}
 use Rattle.presentation_theorems.specs.ObjectChecks.{sequenceBytes, numberPlace, numberStretch, digestStretch, groupHash}
 use Rattle.presentation_theorems.specs.ObjectChecks.{entryChecks, entryPlaces, repeatedChecks, placesIn, entriesIn}
@@ -30,7 +32,7 @@ use Rattle.presentation_theorems.specs.ObjectChecks.{ldsStretch, unicode
 use Rattle.presentation_theorems.specs.ObjectChecks.{entryListChecks, versionOf, objectChecks}
 use Rattle.presentation_theorems.proofs.Elements.{end-there}
 use Rattle.row_theorems.proofs.Rows.{step-known, under, keep, first-then, checked-else, stops, step-then, element-then}
-use Rattle.row_theorems.proofs.Rows.{element-of-two, some-place, coded-within, lastOf, last-passed}
+use Rattle.row_theorems.proofs.Rows.{element-of-two, coded-within, lastOf, last-passed}
 use Rattle.row_theorems.proofs.Places.{places-rows}
 
 -- ---- one entry

@@ -12,9 +12,10 @@ use Rattle.tlv.specs.declared.Stretch.{Stretch}
 use Rattle.tlv.specs.Cut.{cut, hasOctets, endCheck}
 use Rattle.tlv.specs.Tags.{isGroup}
 use Rattle.tlv.specs.Tags as Tag
+use Rattle.tlv.specs.Places.{stretchAt}
 use Rattle.tlv.specs.Versions.{lds17, lds18}
 use Rattle.efcom.specs.declared.Common.{Common}
-use Rattle.row_theorems.specs.Standing.{stretchAt, coded}
+use Rattle.row_theorems.specs.Standing.{coded}
 
 -- "5F01 of length 4, `0107`", or `0108`
 unfoldable pub versionChecks : List ℕ → ℕ → List Outcome

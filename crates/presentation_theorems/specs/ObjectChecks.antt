@@ -15,7 +15,8 @@ use Rattle.tlv.specs.Tags as Tag
 use Rattle.object.specs.declared.strings.Version.{Version}
 use Rattle.object.specs.declared.strings.Version.the-variants.{Zero, One}
 use Rattle.object.specs.Object.{GroupHash, isSha256}
-use Rattle.row_theorems.specs.Standing.{stretchAt, coded, places, each}
+use Rattle.tlv.specs.Places.{stretchAt, places}
+use Rattle.row_theorems.specs.Standing.{coded, each}
 
 -- "version integer 0", or 1: one octet, "12 for an object version other than 0 or 1"
 unfoldable pub versionChecks : List ℕ → ℕ → List Outcome

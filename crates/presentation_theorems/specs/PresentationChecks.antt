@@ -22,7 +22,8 @@ use Rattle.outer.specs.Outer.{File}
 use Rattle.chip.specs.Files.{isDigested}
 use Rattle.group_text.specs.Text.{movedTo}
 use Rattle.text_theorems.specs.Ordered.{checksOf}
-use Rattle.row_theorems.specs.Standing.{stretchAt, coded, places, each}
+use Rattle.tlv.specs.Places.{stretchAt, places}
+use Rattle.row_theorems.specs.Standing.{coded, each}
 use Rattle.presentation_theorems.specs.EfComChecks.{common, efComChecks}
 use Rattle.presentation_theorems.specs.ObjectChecks.{entriesPlace, entriesIn, versionOf, objectChecks}
 

@@ -9,7 +9,8 @@ use lib.Dec.{leb}
 use Rattle.refusal.specs.Outcome.{Outcome, passed}
 use Rattle.tlv.specs.Read.{Read, value, andThen}
 use Rattle.text_theorems.proofs.FirstOf.{firstOf}
-use Rattle.row_theorems.specs.Standing.{placesFrom, places, each}
+use Rattle.tlv.specs.Places.{placesFrom, places}
+use Rattle.row_theorems.specs.Standing.{each}
 use Rattle.row_theorems.proofs.Rows.{under, under-same, rows-then, step-known}
 
 -- end: where what is walked ends; what stands at a place, by which rows, and where it ends; what the walk makes of it

@@ -17,7 +17,8 @@ use Rattle.tlv.specs.Element.{element, sized, endsWithin, sizeAt, tagAt, tagWid
 use Rattle.tlv.proofs.Joined.{checked-outcome, same-value, checked-value}
 use Rattle.tlv.proofs.Past.{value-within}
 use Rattle.text_theorems.proofs.FirstOf.{firstOf}
-use Rattle.row_theorems.specs.Standing.{isLength, stretchBy, stretchAt, isCoded, coded}
+use Rattle.tlv.specs.Places.{stretchBy, stretchAt}
+use Rattle.row_theorems.specs.Standing.{isLength, isCoded, coded}
 
 -- a test that goes on where it holds, and one that goes on where it does not
 pub goes-on : (b : Bool) (n p : ℕ) (rest : Outcome) → cond b rest (refused (by n) p) ≡ orElse (unless b n p) rest
@@ -140,15 +141,6 @@ element-row s at tag = go (eqb (tagAt s at tag) tag) (sizeAt s (at + tagWidth ta
     go false z = refl
     go true Unknown = refl
     go true (Of z) = within (leb _ (length s)) _
-
--- and behind its tag, whatever stands there
-pub some-place : (s : List ℕ) (at tag : ℕ) → at + tagWidth tag ≤ stretchAt s at tag .from
-unfolding stretchAt stretchBy
-some-place s at tag = go (sizeAt s (at + tagWidth tag))
-  where
-    go : (z : Size) → at + tagWidth tag ≤ stretchBy (at + tagWidth tag) z .from
-    go (Of z) = omega arith
-    go Unknown = omega arith
 
 pub coded-within : (s : List ℕ) (at tag : ℕ) → coded s at tag ≡ passed
     → (at < stretchAt s at tag .from) × (stretchAt s at tag .from ≤ stretchAt s at tag .to) × (stretchAt s at tag .to ≤ length s)

@@ -34,7 +34,8 @@ use Rattle.seal_features.proofs.FeaturesPassed.{not-end}
 use Rattle.text_theorems.specs.Ordered.{checksOf, FirstFailing}
 use Rattle.text_theorems.proofs.FirstFailing.{read-first}
 use Rattle.text_theorems.proofs.FirstOf.{firstOf, first-failing, failing-first}
-use Rattle.row_theorems.specs.Standing.{stretchAt, isCoded, coded}
+use Rattle.tlv.specs.Places.{stretchAt}
+use Rattle.row_theorems.specs.Standing.{isCoded, coded}
 use Rattle.row_theorems.proofs.Rows.{under, under-outcome, under-first, under-same, keep, rows-then, first-then, step-known}
 use Rattle.row_theorems.proofs.Rows.{step-then, element-row, coded-within}
 use Rattle.seal_theorems.specs.SealChecks.{headerChecks, featureValue, placesFrom, endFrom, textAmong, featureChecks}

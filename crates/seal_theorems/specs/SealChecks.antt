@@ -22,7 +22,8 @@ use Rattle.seal_features.specs.declared.features.Features.{Features}
 use Rattle.seal_features.specs.Features.{textTag, signatureTag, isEnd, textPlace}
 use Rattle.seal.specs.Seal.{featureOctets, textIn, placed}
 use Rattle.text_theorems.specs.Ordered.{checksOf}
-use Rattle.row_theorems.specs.Standing.{stretchAt, isCoded}
+use Rattle.tlv.specs.Places.{stretchAt}
+use Rattle.row_theorems.specs.Standing.{isCoded}
 
 -- "24, a header field, its C40 or another reference or category, at the field": DC, version, country, reference, the two dates,
 -- definition reference, category

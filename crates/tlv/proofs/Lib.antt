@@ -16,3 +16,5 @@ pub mod Each
 pub mod Told
 -- the element that stands at a place, whatever its tag
 pub mod Whatever
+-- elements as their lengths say, and the places of those one behind the other
+pub mod Onward

@@ -4,6 +4,8 @@ pub mod Read
 pub mod Tags
 -- elements: encoding and reading
 pub mod Element
+-- where elements stand as their lengths say
+pub mod Places
 -- a stretch of lent octets
 pub mod Cut
 -- the versions of the LDS
