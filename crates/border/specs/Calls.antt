@@ -1,7 +1,9 @@
--- What C receives of a run and of a group's file: document 01, "What the server lends and gets".
-use Prim.Native.Nat.{_-_}
+-- What C receives of a run, of a group's file and of its inside: document 01, "What the server lends and gets"; document 02,
+-- request 2026-10.
+use Prim.Native.Nat.{ℕ, _-_}
 use Rattle.runs.specs.Run as run
 use Rattle.tlv.specs.declared.Stretch as tlv
+use Rattle.tlv.specs.Read.{Read, value, refusal}
 use Rattle.border.specs.declared.received.AnswerInC.{AnswerInC}
 use Rattle.border.specs.Answer.{notRefused, refusedInC}
 use Rattle.border.specs.declared.received.StretchInC.{StretchInC}
@@ -15,3 +17,8 @@ nextInC (run.refused why place) = refusedInC why place
 -- in C the file of a group is a start and a length
 unfoldable pub stretchInC : tlv.Stretch → StretchInC
 stretchInC v = record { start = v .from; length = v .to - v .from }
+
+-- "give the number of elements", or the refusal
+unfoldable pub countInC : Read ℕ → AnswerInC
+countInC (value n) = notRefused n
+countInC (refusal why place) = refusedInC why place

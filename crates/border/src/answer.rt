@@ -4,13 +4,15 @@ ghost use Rattle.refusal.specs.Length.{lengthOf, refused};
 ghost use Rattle.refusal.specs.Numbers.{whyOf};
 ghost use Rattle.runs.specs.Run.{onwardOf};
 ghost use Rattle.border.specs.Answer.{notRefused, inC};
-ghost use Rattle.border.specs.Calls.{nextInC, stretchInC};
+ghost use Rattle.tree.specs.Reading.{countedOf};
+ghost use Rattle.border.specs.Calls.{nextInC, stretchInC, countInC};
 use crate::received::AnswerInC;
 use crate::received::StretchInC;
 use refusal::NO_DIGIT;
 use refusal::Refusal;
 use refusal::Written;
 use runs::run::Step;
+use tree::Counted;
 
 fn not_refused(value: u64) -> AnswerInC
     ensures { λ r. ⌜ r ≡ notRefused value ⌝ }
@@ -51,6 +53,15 @@ pub fn next_in_c(step: Step) -> AnswerInC
         Step::Next(offset) => not_refused(offset as u64),
         Step::End => not_refused(0),
         Step::Refused(refusal) => denied(refusal),
+    }
+}
+
+pub fn count_in_c(answer: Counted) -> AnswerInC
+    ensures { λ r. ⌜ r ≡ countInC (countedOf answer) ⌝ }
+{
+    match answer {
+        Counted::Elements(n) => not_refused(n as u64),
+        Counted::Refused(refusal) => denied(refusal),
     }
 }
 

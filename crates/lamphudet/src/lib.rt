@@ -11,10 +11,12 @@ ghost use Rattle.runs.specs.Run.{readEntry};
 ghost use Rattle.version.specs.Version.{versionNumber};
 ghost use Rattle.border.specs.Answer.{inC};
 ghost use Rattle.as_entry.specs.Written.{writtenAnswer, writtenOut};
-ghost use Rattle.border.specs.Calls.{nextInC, stretchInC};
+ghost use Rattle.inside.specs.Inside.{lookInside};
+ghost use Rattle.border.specs.Calls.{nextInC, stretchInC, countInC};
 ghost use Rattle.lamphudet.specs.Calls.{readAnswer, readOut};
 ghost use Rattle.as_entry.specs.Opened.{openedInC};
 use as_entry::received::RecordInC;
+use border::answer::count_in_c;
 use border::answer::in_c;
 use border::answer::next_in_c;
 use border::answer::stretch_in_c;
@@ -99,6 +101,15 @@ pub extern "C" fn lamphudet_group_file(presentation: &[u8], group: u32) -> Stret
     ensures { λ _. ⌜ areOctets (now (presentation .entry)) ⌝ }
 {
     stretch_in_c(chip::group_file::group_stretch(presentation, group))
+}
+
+// How many elements a group's file has.
+#[no_mangle]
+pub extern "C" fn lamphudet_look_inside(file: &[u8]) -> AnswerInC
+    ensures { λ r. ⌜ r ≡ countInC (lookInside (now (file .entry))) ⌝ }
+    ensures { λ _. ⌜ areOctets (now (file .entry)) ⌝ }
+{
+    count_in_c(inside::look(file))
 }
 
 // The version of this library.
