@@ -1,0 +1,14 @@
+-- a tag and its octets tell each other
+pub mod TagOctets
+-- where the encoding of a tree stands, the tree is read
+pub mod TreeBack
+-- where a tree is read, its encoding stands
+pub mod TreeRead
+-- what a tree that is read has at its place, and what a list begins with
+pub mod Views
+-- the templates by their places are those of the tree
+pub mod Counts
+-- a list opens with a count exactly where its octets are 02 01 n
+pub mod Opening
+-- the count of templates is right exactly where the tree's is
+pub mod Templates
