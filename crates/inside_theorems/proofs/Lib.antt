@@ -12,3 +12,6 @@ pub mod Counts
 pub mod Opening
 -- the count of templates is right exactly where the tree's is
 pub mod Templates
+-- accepted exactly when the octets are a whole file's tree (`inside-exactly`), no other tree has them (`no-other-tree`), and the
+-- number is that tree's (`number-exactly`)
+pub mod Acceptance
