@@ -15,3 +15,11 @@ pub mod Templates
 -- accepted exactly when the octets are a whole file's tree (`inside-exactly`), no other tree has them (`no-other-tree`), and the
 -- number is that tree's (`number-exactly`)
 pub mod Acceptance
+-- the first failing check (`inside-refused-exactly`)
+pub mod FirstFailing
+-- DEMAND 1: every refusal's number and place (`look-told`)
+pub mod Refusals
+-- no second answer (`only-look`, `only-list`)
+pub mod OneAnswer
+-- the demands are not empty (`examples-hold`)
+pub mod NotEmpty

@@ -76,7 +76,8 @@ more-back t g d s at b list =
     let w = tree-bound d s at (record { tree = t; to = b .to }) (b .read) in
     let first = w .some-octets in
     let last = w .ends-within in
-    forest-next (treeAt d) s (λ p u e. tree-bound d s p u e .some-octets) at (record { tree = t; to = b .to }) (omega arith) (b .read)
+    forest-next (treeAt d) s (λ p u e. tree-bound d s p u e .some-octets)
+    at (record { tree = t; to = b .to }) (omega arith) (b .read)
     ∙ rw (list (b .to) (b .rest-there))
 
 mutual
@@ -91,7 +92,8 @@ mutual
 
   pub forest-back : (f : Forest) (d : ℕ) (s : List ℕ) (at : ℕ) → AllFormed f → deepest f ≤ d → drop at s ≡ forestOctets f
       → forest (treeAt d) s at ≡ value f
-  forest-back empty d s at h k e = forest-done (treeAt d) s at (let n = ap length e in let m = length-drop at s in omega (arith, n, m))
+  forest-back empty d s at h k e =
+      forest-done (treeAt d) s at (let n = ap length e in let m = length-drop at s in omega (arith, n, m))
   forest-back (more t g) d s at h k e =
       more-back t g d s at
       (tree-back t d s at (forestOctets g) (h .0) (le-trans (le-max-left (depth t) (deepest g)) k) e)

@@ -93,7 +93,8 @@ module _ (s : List ℕ) (at : ℕ) where
           → Held (suc d) s at f
       go v there true q =
           let a = first-value (forest (treeAt d) (take (v .to) s) (v .from))
-          (λ (g : Forest). value (record { tree = holds (tagHere s at) g; to = v .to })) (record { tree = holds tag f; to = to }) q
+          (λ (g : Forest). value (record { tree = holds (tagHere s at) g; to = v .to }))
+          (record { tree = holds tag f; to = to }) q
           in
           record { below = d; level = refl; list-read = rw there (a .1 ∙ ap value (same-held (tree-same (a .2)))) }
       go v there false q = absurd (never-one (tree-same q))

@@ -2,3 +2,5 @@
 pub mod Whole
 -- the checks one after the other
 pub mod InsideChecks
+-- files that are accepted, and some that are not
+pub mod Examples
