@@ -1,7 +1,7 @@
 -- DEMAND 1, call by call: a refusal has one of the call's own numbers (refusal, specs/Calls) and a place no further than the end
 -- of what was lent, gives the blank record and leaves every octet of the output; a success changes the octets that it reports and
 -- no others. Of writing an entry and a text, and of a run: run_theorems, proofs/EveryCall.
-use Prim.Native.Nat.{ℕ}
+use Prim.Native.Nat.{ℕ, _≤_}
 use mathlib.Core.Path.{_≡_, refl}
 use mathlib.Core.Bool.{Bool, true, false, cond}
 use mathlib.Core.List.{List}
@@ -9,7 +9,7 @@ use native.Mathlib.Omega.{arith}
 use lib.Dec.{leb}
 use lib.ListN.{length}
 use Rattle.refusal.specs.Numbers.{by}
-use Rattle.refusal.specs.Calls.{ofText, ofPresentation, ofRun, ofTextWriterInC, ofDigest, entered, isOf}
+use Rattle.refusal.specs.Calls.{ofText, ofPresentation, ofInside, ofRun, ofTextWriterInC, ofDigest, entered, isOf}
 use Rattle.refusal.specs.Outcome.{unless}
 use Rattle.refusal.specs.Length as told
 use Rattle.refusal.specs.Output.{Told, Answers}
@@ -31,13 +31,16 @@ use Rattle.runs.specs.Run.{readEntry}
 use Rattle.chip.specs.Presentation.{readPresentation}
 use Rattle.border.specs.Answer.{inC}
 use Rattle.as_entry.specs.Written.{isOnly, writtenAnswer, writtenOut}
-use Rattle.border.specs.Calls.{nextInC}
+use Rattle.border.specs.Calls.{nextInC, countInC}
+use Rattle.tlv.specs.Read.{Read, value, refusal}
+use Rattle.inside.specs.Inside.{lookInside}
 use Rattle.lamphudet.specs.Calls.{readAnswer, readOut}
 use Rattle.as_entry.specs.Opened.{recordInC, openedInC}
 use Rattle.text_theorems.proofs.FirstFailing.{refused-blank}
 use Rattle.text_theorems.proofs.Expected.{text-numbered}
 use Rattle.presentation_theorems.proofs.Acceptance.{presentation-blank}
 use Rattle.presentation_theorems.proofs.Expected.{presentation-numbered, presentation-within}
+use Rattle.inside_theorems.proofs.Refusals.{look-told}
 use Rattle.run_theorems.specs.EveryCall.{Reads, AnswersInC}
 use Rattle.run_theorems.proofs.EveryCall.{entered-answers, sound-text-answers, run-steps, answers-in-c}
 use Rattle.demands.specs.InC.{inText, inPresentation}
@@ -129,6 +132,17 @@ next-answers w at some = go (readEntry w at .onward) refl some
     go (run.next n) e z = absurd (z refl)
     go run.none e z = absurd (z refl)
     go (run.refused why p) e z = let r = run-steps at w .when-refused why p e in (told-of ofRun why (r .0), r .1)
+
+-- the inside of a file: 0, or one of the call's numbers at a place no further than the file's end
+pub look-answers : (s : List ℕ) → (countInC (lookInside s) .number ≡ 0 → ⊥)
+    → (isOf ofInside (countInC (lookInside s) .number) ≡ true) × (countInC (lookInside s) .value ≤ length s)
+unfolding countInC
+look-answers s some = go (lookInside s) refl some
+  where
+    go : (m : Read ℕ) → lookInside s ≡ m → (countInC m .number ≡ 0 → ⊥)
+        → (isOf ofInside (countInC m .number) ≡ true) × (countInC m .value ≤ length s)
+    go (value n) e z = absurd (z refl)
+    go (refusal why p) e z = let r = look-told s why p e in (told-of ofInside why (r .0), r .1)
 
 -- an entry that is opened: 18, house 0 and the blank record, where the number is not 0
 pub open-answers : (e : List ℕ) → (openedInC e .number ≡ 0 → ⊥) → openedInC e ≡ recordInC 18 0 blank

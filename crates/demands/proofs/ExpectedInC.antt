@@ -2,6 +2,7 @@
 -- 255 else.
 use Prim.Native.Nat.{ℕ, _≤_}
 use mathlib.Core.Path.{_≡_, refl}
+use mathlib.Core.Bool.{true, false≢true}
 use mathlib.Core.List.{List}
 use native.Mathlib.Omega.{arith}
 use Rattle.zone.specs.declared.form.Source.the-variants.{Alone, GroupOne}
@@ -15,7 +16,11 @@ use Rattle.digest.specs.Answer.{digestAnswer}
 use Rattle.runs.specs.Run as run
 use Rattle.border.specs.Answer.{inC}
 use Rattle.as_entry.specs.Written.{writtenAnswer}
-use Rattle.border.specs.Calls.{nextInC}
+use Rattle.border.specs.Calls.{nextInC, countInC}
+use Rattle.tlv.specs.Read.{Read, value, refusal}
+use Rattle.refusal.specs.Calls.{ofInside, tells}
+use Rattle.inside.specs.Inside.{lookInside}
+use Rattle.inside_theorems.proofs.Refusals.{look-told}
 use Rattle.lamphudet.specs.Calls.{readAnswer}
 use Rattle.text_theorems.proofs.Expected.{nine-tells, digit-told}
 use Rattle.presentation_theorems.proofs.Expected.{expected-carried, presentation-nine}
@@ -83,3 +88,15 @@ next-no-digit w at = go (run.readEntry w at .onward) refl
         eighteen : (k : Why) (p : ℕ) → run.refused k p ≡ run.refused (by 18) at → nextInC (run.refused k p) .expected ≡ 255
         eighteen (by n) p q = refl
         eighteen (expecting d) p q = absurd (let z : _≡_ {A = ℕ} 0 1 = cc in omega arith)
+
+pub look-no-digit : (s : List ℕ) → countInC (lookInside s) .expected ≡ 255
+unfolding countInC
+look-no-digit s = go (lookInside s) refl
+  where
+    none : (k : Why) (p : ℕ) → tells ofInside k ≡ true → countInC (refusal k p) .expected ≡ 255
+    none (by n) p h = refl
+    none (expecting d) p h = absurd (false≢true h)
+
+    go : (m : Read ℕ) → lookInside s ≡ m → countInC m .expected ≡ 255
+    go (value n) e = refl
+    go (refusal k p) e = none k p (look-told s k p e .0)

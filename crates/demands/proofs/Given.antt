@@ -11,15 +11,18 @@ use Rattle.digest.specs.Answer.{digestAnswer}
 use Rattle.runs.specs.Run as run
 use Rattle.runs.specs.Run.{readEntry}
 use Rattle.border.specs.Answer.{inC}
-use Rattle.border.specs.Calls.{nextInC}
+use Rattle.border.specs.Calls.{nextInC, countInC}
+use Rattle.tlv.specs.Read as reading
+use Rattle.inside.specs.Inside.{lookInside}
 use Rattle.as_entry.specs.Written.{writtenAnswer}
 use Rattle.lamphudet.specs.Calls.{readAnswer}
 use Rattle.run_theorems.specs.Expected.{numberTold, valueTold}
-use Rattle.demands.specs.Given.{lengthGiven, nextGiven, Gives}
+use Rattle.demands.specs.Given.{lengthGiven, nextGiven, countGiven, Gives}
 use Rattle.demands.proofs.NumbersInC.{number-in-c, value-in-c}
 use Rattle.demands.proofs.NotZero.{NotZero, read-text-not-zero, read-presentation-not-zero, write-text-not-zero}
 use Rattle.demands.proofs.NotZero.{digest-not-zero}
 use Rattle.demands.proofs.NextInC.{next-not-zero}
+use Rattle.demands.proofs.LookInC.{look-not-zero}
 
 -- a call that writes, of whose answer C receives a number and a value; number 0 is never a refusal
 pub gives-told : (l : Length) (number value : ℕ) → number ≡ numberTold l → value ≡ valueTold l
@@ -64,6 +67,21 @@ next-gives w at = go (readEntry w at .onward) (next-not-zero w at)
     go (run.next n) some = record { when-zero = λ zero. refl; when-refused = λ p x. absurd (some (x .0) p (x .1) refl) }
     go run.none some = record { when-zero = λ zero. refl; when-refused = λ p x. absurd (some (x .0) p (x .1) refl) }
     go (run.refused why q) some = record {
+      when-zero = λ zero. absurd (some why q refl zero);
+      when-refused = λ p x. let same : q ≡ p = let e = x .1 in cc in (refl, same);
+    }
+
+-- the inside of a file
+pub look-gives : (s : List ℕ)
+    → Gives (λ p. (why : Why) × (lookInside s ≡ reading.refusal why p)) (countGiven (lookInside s))
+    (countInC (lookInside s) .number) (countInC (lookInside s) .value)
+unfolding countInC
+look-gives s = go (lookInside s) (look-not-zero s)
+  where
+    go : (m : reading.Read ℕ) → ((why : Why) (p : ℕ) → m ≡ reading.refusal why p → countInC m .number ≡ 0 → ⊥)
+        → Gives (λ p. (why : Why) × (m ≡ reading.refusal why p)) (countGiven m) (countInC m .number) (countInC m .value)
+    go (reading.value n) some = record { when-zero = λ zero. refl; when-refused = λ p x. absurd (some (x .0) p (x .1) refl) }
+    go (reading.refusal why q) some = record {
       when-zero = λ zero. absurd (some why q refl zero);
       when-refused = λ p x. let same : q ≡ p = let e = x .1 in cc in (refl, same);
     }

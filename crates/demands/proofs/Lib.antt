@@ -16,6 +16,8 @@ pub mod NumbersInC
 pub mod ReadInC
 -- AT THE C BORDER, the next entry: 0 and 0 where none is left (`none-left`)
 pub mod NextInC
+-- AT THE C BORDER, the inside of a file: 0 and how many elements (`octets-looked`), or the first failing check (`look-refused`)
+pub mod LookInC
 -- AT THE C BORDER, a text written: what is left (`write-text-leaves`)
 pub mod WriteInC
 -- a text written and then read: the entry again (`octets-again`)

@@ -5,7 +5,7 @@ use mathlib.Core.List.{List}
 use Rattle.refusal.proofs.Numbers.{outcome-tells}
 use Rattle.tlv.specs.declared.Stretch.{Stretch}
 use Rattle.tlv.specs.declared.Taken.{Taken}
-use Rattle.tlv.specs.Element.{element, takenOf}
+use Rattle.tlv.specs.Element.{behindTag, endsWithin, element, takenOf}
 use Rattle.tlv.proofs.Told.{taken-tells}
 use Rattle.tlv.specs.Versions.{both}
 use Rattle.efcom.specs.declared.CommonRead.{CommonRead}
@@ -20,6 +20,14 @@ use Rattle.outer.proofs.Told.{walked-tells}
 
 pub only-element : (s : List ℕ) (at tag : ℕ) (r q : Taken) → takenOf r ≡ element s at tag → takenOf q ≡ element s at tag → r ≡ q
 only-element s at tag r q e f = taken-tells r q (e ∙ sym f)
+
+pub only-behind-tag : (s : List ℕ) (at width : ℕ) (r q : Taken) → takenOf r ≡ behindTag s at width
+    → takenOf q ≡ behindTag s at width → r ≡ q
+only-behind-tag s at width r q e f = taken-tells r q (e ∙ sym f)
+
+pub only-ends-within : (s : List ℕ) (at from to : ℕ) (r q : Taken) → takenOf r ≡ endsWithin s at from to
+    → takenOf q ≡ endsWithin s at from to → r ≡ q
+only-ends-within s at from to r q e f = taken-tells r q (e ∙ sym f)
 
 pub only-file : (w : List ℕ) (at : ℕ) (r q : Taken) → takenOf r ≡ fileAt w at → takenOf q ≡ fileAt w at → r ≡ q
 only-file w at r q e f = taken-tells r q (e ∙ sym f)

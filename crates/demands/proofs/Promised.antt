@@ -8,14 +8,20 @@ use mathlib.Core.List.{List, _++_}
 use lib.ListN.{length, take, drop}
 use Rattle.zone.specs.Record.{blank}
 use Rattle.zone.specs.Form.{total}
+use Rattle.refusal.specs.Numbers.{Why}
 use Rattle.refusal.specs.Calls.{ofTextWriterInC}
 use Rattle.chip.specs.Presentation.{readPresentation}
 use Rattle.entry.specs.Entry.{entryOf}
 use Rattle.border.specs.declared.received.AnswerInC.{AnswerInC}
 use Rattle.as_entry.specs.declared.received.RecordInC.{RecordInC}
 use Rattle.border.specs.declared.received.StretchInC.{StretchInC}
+use Rattle.border.specs.Answer.{refusedInC}
 use Rattle.border.specs.Calls.{stretchInC}
 use Rattle.as_entry.specs.Opened.{openedInC, recordInC}
+use Rattle.tree.specs.Tree.{Tree, treeOctets, elements}
+use Rattle.text_theorems.specs.Ordered.{FirstFailing}
+use Rattle.inside_theorems.specs.Whole.{Whole}
+use Rattle.inside_theorems.specs.InsideChecks.{insideChecks}
 use Rattle.presentation_theorems.specs.Presented.{Contents, Presented, Lent, Outside, octetsOf}
 use Rattle.presentation_theorems.proofs.GroupFile.{group-refused}
 use Rattle.run_theorems.specs.Runs.{Line, isKept}
@@ -24,11 +30,13 @@ use Rattle.run_theorems.specs.EveryCall.{AnswersInC}
 use Rattle.run_theorems.proofs.OneAnswer.{goes-on-exactly}
 use Rattle.demands.specs.OneEntry.{OneEntry}
 use Rattle.demands.specs.Promised.{ReadsText, ReadsPresentation, WritesText, OpensEntry, NextEntry, FindsFile}
+use Rattle.demands.specs.Promised.{LooksInside}
 use Rattle.demands.proofs.ReadInC.{octets-read-exactly}
 use Rattle.demands.proofs.WriteInC.{octets-written-exactly, octets-no-17}
 use Rattle.demands.proofs.AgainInC.{octets-again}
 use Rattle.demands.proofs.EveryCall.{octets-answers, open-answers}
 use Rattle.demands.proofs.NextInC.{next-told}
+use Rattle.demands.proofs.LookInC.{octets-looked, look-refused}
 use Rattle.demands.proofs.OpenInC.{entry-opened, octets-opened-exactly}
 
 -- ---- a presentation read
@@ -85,6 +93,17 @@ module _ (w : List ℕ) (group : ℕ) (r : StretchInC) (call : FindsFile w group
   pub group-file-refused : ((c d : List ℕ) (ls : List Lent) → Outside w c d ls → ⊥) → r ≡ record { start = 0; length = 0 }
   unfolding stretchInC
   group-file-refused other = call .answers ∙ ap stretchInC (group-refused w group (call .octets) other)
+
+-- ---- the inside of a file
+
+module _ (s : List ℕ) (r : AnswerInC) (call : LooksInside s r) where
+  -- 0 and a number: these octets are the encoding of a whole file's tree, which has so many elements
+  pub look-inside-exactly : (n : ℕ)
+      → ((r .number ≡ 0) × (r .value ≡ n)) ↔ ((t : Tree) × (s ≡ treeOctets t) × Whole t × (n ≡ elements t))
+  look-inside-exactly n = rw (call .answers) (octets-looked s (call .octets) n)
+
+  pub look-inside-refused : (why : Why) (p : ℕ) → FirstFailing (insideChecks s) why p → r ≡ refusedInC why p
+  look-inside-refused why p h = call .answers ∙ look-refused s why p h
 
 -- ---- a text written, and then read under the house that opening the entry tells
 

@@ -12,7 +12,8 @@ use Rattle.runs.specs.Run.{readEntry}
 use Rattle.border.specs.declared.received.AnswerInC.{AnswerInC}
 use Rattle.as_entry.specs.declared.received.RecordInC.{RecordInC}
 use Rattle.border.specs.declared.received.StretchInC.{StretchInC}
-use Rattle.border.specs.Calls.{nextInC, stretchInC}
+use Rattle.inside.specs.Inside.{lookInside}
+use Rattle.border.specs.Calls.{nextInC, stretchInC, countInC}
 use Rattle.as_entry.specs.Written.{writtenAnswer, writtenOut}
 use Rattle.lamphudet.specs.Calls.{readOut}
 use Rattle.border.specs.Answer.{inC}
@@ -51,3 +52,8 @@ pub record NextEntry (w : List ℕ) (at : ℕ) (r : AnswerInC) : Type 0 where
 pub record FindsFile (w : List ℕ) (group : ℕ) (r : StretchInC) : Type 0 where
   pub answers : r ≡ stretchInC (groupStretch w group)
   pub octets : areOctets w
+
+-- `lamphudet_look_inside`
+pub record LooksInside (s : List ℕ) (r : AnswerInC) : Type 0 where
+  pub answers : r ≡ countInC (lookInside s)
+  pub octets : areOctets s
