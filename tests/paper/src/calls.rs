@@ -6,7 +6,7 @@ use crate::opened::Opened;
 use crate::refusal::{Refusal, LONGEST};
 use crate::seal::answer::SealAnswer;
 use crate::sha256::sha256;
-use crate::{entry, presentation, seal, text};
+use crate::{entry, inside, presentation, seal, text};
 
 /// Refusals 1, then 16; else 32 octets.
 pub fn digest(input: &[u8], room: usize) -> Outcome {
@@ -31,6 +31,14 @@ pub fn read_presentation(house: u32, lent: &[u8], room: usize) -> Outcome {
         Err(refusal) => Outcome::refused(refusal),
         Ok(_) if !entry::is_house(house) => Outcome::refused(Refusal::at(17, 0)),
         Ok(record) => Outcome::written(entry::write(house, &record), room),
+    }
+}
+
+/// The number of elements in a group's file, itself counted.
+pub fn look_inside(file: &[u8]) -> Answer {
+    match inside::read(file) {
+        Ok(tree) => Answer::not_refused(tree.count() as u64),
+        Err(refusal) => Answer::refused(refusal),
     }
 }
 

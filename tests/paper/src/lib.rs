@@ -2,8 +2,8 @@
 //! sources, and nothing here knows of the archive.
 //!
 //! From below: `refusal` and `answer`; `form`, `field`, `data`, `record`, `personal` and `text`; `entry` and `opened`; `sha256`;
-//! `tlv`, `group`, `lds`, `com`, `object` and `presentation`; `c40`, `day` and `seal`; `calls` on top. `specimens` and `published`
-//! are what the papers print.
+//! `tlv`, `group`, `inside`, `lds`, `com`, `object` and `presentation`; `c40`, `day` and `seal`; `calls` on top. `specimens` and
+//! `published` are what the papers print.
 
 pub mod answer;
 pub mod c40;
@@ -15,6 +15,7 @@ pub mod entry;
 pub mod field;
 pub mod form;
 pub mod group;
+pub mod inside;
 pub mod lds;
 pub mod object;
 pub mod opened;
