@@ -43,6 +43,11 @@ pub fn group_file(lent: &mut Lent, group: u32) -> Stretch {
     unsafe { header::lamphudet_group_file(lent.pointer(), lent.length(), group) }
 }
 
+pub fn look_inside(file: &mut Lent) -> Answer {
+    // The range is valid for its length.
+    unsafe { header::lamphudet_look_inside(file.pointer(), file.length()) }
+}
+
 pub fn read_seal(house: u32, lent: &mut Lent, entry: &mut Lent) -> SealAnswer {
     // As for the digest.
     unsafe { header::lamphudet_read_seal(house, lent.pointer(), lent.length(), entry.pointer(), entry.length()) }

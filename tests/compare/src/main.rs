@@ -37,6 +37,7 @@ fn counts(seed: u64) -> Vec<(u64, u64)> {
         cases::next_entry::compare(seed).close(),
         cases::read_presentation::compare(seed).close(),
         cases::group_file::compare(seed).close(),
+        cases::look_inside::compare(seed).close(),
         cases::read_seal::compare(seed).close(),
         cases::version::compare(seed).close(),
     ]

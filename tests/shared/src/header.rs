@@ -25,6 +25,7 @@ extern "C" {
         entry_length: usize,
     ) -> Answer;
     pub fn lamphudet_group_file(presentation: *const u8, presentation_length: usize, group: u32) -> Stretch;
+    pub fn lamphudet_look_inside(file: *const u8, file_length: usize) -> Answer;
     pub fn lamphudet_read_seal(
         house: u32,
         seal: *const u8,

@@ -8,6 +8,8 @@ pub mod digits;
 pub mod entries;
 pub mod group_file;
 pub mod houses;
+pub mod insides;
+pub mod look_inside;
 pub mod next_entry;
 pub mod octets;
 pub mod old;

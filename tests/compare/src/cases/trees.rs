@@ -42,26 +42,51 @@ impl Tree {
 
     pub fn encoded(&self) -> Vec<u8> {
         let content = self.content();
+        [self.head(content.len()), content].concat()
+    }
+
+    /// Tag and length, of a content of so many octets.
+    fn head(&self, content: usize) -> Vec<u8> {
         let length = match self.length {
-            Length::Shortest => write_length(content.len()),
-            Length::Octets(width) => {
-                let octets = (content.len() as u64).to_be_bytes();
-                [&[0x80 | width as u8], &octets[8 - width..]].concat()
-            }
+            Length::Shortest => write_length(content),
+            Length::Octets(width) => [&[0x80 | width as u8], &(content as u64).to_be_bytes()[8 - width..]].concat(),
             Length::Indefinite => vec![0x80],
-            Length::Off(by) => write_length((content.len() as isize + by).clamp(0, 0xffff) as usize),
-            Length::None => return content,
+            Length::Off(by) => write_length((content as isize + by).clamp(0, 0xffff) as usize),
+            Length::None => return Vec::new(),
         };
-        [&self.tag[..], &length, &content].concat()
+        [&self.tag[..], &length].concat()
     }
 
     fn content(&self) -> Vec<u8> {
-        let mut content = match &self.held {
+        [self.inside(), self.over.clone()].concat()
+    }
+
+    /// The content without what stands behind the elements.
+    fn inside(&self) -> Vec<u8> {
+        match &self.held {
             Held::Octets(octets) => octets.clone(),
             Held::Trees(trees) => trees.iter().flat_map(Tree::encoded).collect(),
+        }
+    }
+
+    /// Where the tree at the end of a path begins in the octets of this one, and where what it holds ends.
+    pub fn stands(&self, path: &[usize]) -> Option<(usize, usize)> {
+        let start = self.head(self.content().len()).len();
+        let (first, rest) = match path.split_first() {
+            Some(split) => split,
+            None => return Some((0, start + self.inside().len())),
         };
-        content.extend(&self.over);
-        content
+        let (begins, ends) = self.trees().get(*first)?.stands(rest)?;
+        let before = start + self.trees()[..*first].iter().map(|tree| tree.encoded().len()).sum::<usize>();
+        Some((before + begins, before + ends))
+    }
+
+    /// The paths to all trees, this one's first, which is empty.
+    pub fn paths(&self) -> Vec<Vec<usize>> {
+        let below = |(place, tree): (usize, &Tree)| {
+            tree.paths().into_iter().map(move |path| [vec![place], path].concat()).collect::<Vec<_>>()
+        };
+        [vec![]].into_iter().chain(self.trees().iter().enumerate().flat_map(below)).collect()
     }
 
     /// What this tree holds; nothing where it holds octets.
@@ -131,6 +156,16 @@ mod tests {
         assert_eq!(with(Length::Indefinite), [0x04, 0x80, 9]);
         assert_eq!(with(Length::Off(1)), [0x04, 2, 9]);
         assert_eq!(with(Length::None), [9]);
+    }
+
+    #[test]
+    fn where_trees_stand() {
+        let mut tree = Tree::holding(&[0x61], vec![Tree::leaf(&[0x02], &[1]), tree()]);
+        tree.trees_mut().unwrap()[1].over = vec![7];
+        assert_eq!(tree.paths(), [vec![], vec![0], vec![1], vec![1, 0], vec![1, 1]]);
+        let stands: Vec<_> = tree.paths().iter().map(|path| tree.stands(path).unwrap()).collect();
+        assert_eq!(stands, [(0, 16), (2, 5), (5, 15), (7, 10), (10, 15)]);
+        assert_eq!(tree.stands(&[2]), None);
     }
 
     #[test]
