@@ -27,6 +27,7 @@
  * What is covered: texts of TD1, TD2 and TD3, alone and in group 1, and of the visas MRV-A and MRV-B,
  * alone; SHA-256 as digest; LDS version 0107 with security object version 0, and 0108 with version 1.
  * Other digests are refused by 13, other versions by 11 and 12, and versions that disagree by 19.
+ * Of a group's file, whether its inside is whole; what stands in it is the host's to read.
  */
 #ifndef LAMPHUDET_H
 #define LAMPHUDET_H
@@ -189,6 +190,8 @@ LAMPHUDET_ASSERT_SIZE(lamphudet_record, 112);
  *        house, since a record that was read is sound
  *   18   not an entry                                                     start of that entry
  *   19   versions of EF.COM and security object disagree                  the object's tag
+ *   21   element too deep in a group's file                               its tag
+ *   22   count of templates in a group's file                             7F61, or 0
  *   24   header field of a seal                                           field start
  *   25   feature wrongly coded or cut off; feature 02 absent, repeated    its tag; where absent FF,
  *        or not 48 octets                                                 or the seal's length
@@ -217,6 +220,8 @@ enum lamphudet_refusal {
     LAMPHUDET_REFUSED_UNSOUND = 17,
     LAMPHUDET_REFUSED_ENTRY = 18,
     LAMPHUDET_REFUSED_VERSIONS = 19,
+    LAMPHUDET_REFUSED_DEPTH = 21,
+    LAMPHUDET_REFUSED_TEMPLATES = 22,
     LAMPHUDET_REFUSED_SEAL_HEADER = 24,
     LAMPHUDET_REFUSED_SEAL_FEATURE = 25,
     LAMPHUDET_REFUSED_SEAL_TEXT = 26,
@@ -247,6 +252,8 @@ static inline const char *lamphudet_words(uint32_t number)
     case LAMPHUDET_REFUSED_UNSOUND: return "house or record not sound";
     case LAMPHUDET_REFUSED_ENTRY: return "not an entry";
     case LAMPHUDET_REFUSED_VERSIONS: return "versions of EF.COM and security object disagree";
+    case LAMPHUDET_REFUSED_DEPTH: return "element too deep in a group's file";
+    case LAMPHUDET_REFUSED_TEMPLATES: return "count of templates in a group's file";
     case LAMPHUDET_REFUSED_SEAL_HEADER: return "header field of a seal";
     case LAMPHUDET_REFUSED_SEAL_FEATURE:
         return "feature wrongly coded or cut off; feature 02 absent, repeated or not 48 octets";
@@ -406,6 +413,8 @@ static inline const char *lamphudet_field(const uint8_t *text, size_t text_len, 
  * group files, joined.
  */
 #define LAMPHUDET_PRESENTATION_MAX 65535 /* octets of the longest presentation */
+#define LAMPHUDET_FILE_MAX 65539         /* octets of the longest group file: tag, length and 65,535 more */
+#define LAMPHUDET_DEPTH_MAX 8            /* how deep elements may stand in a group file, which is 1 itself */
 
 /*
  * Reads the text of a machine readable zone, its lines joined without line ends, and writes the
@@ -444,7 +453,8 @@ lamphudet_answer lamphudet_read_text(uint32_t house, const uint8_t *text, size_t
  * security object with the SHA-256 digest of its whole file; group 1 is lent, and holds exactly a
  * text of TD1, TD2 or TD3 that lamphudet_read_text accepts. EF.COM says 0107 and the object has
  * version 0, or 0108 and the object has version 1 and ends with that and EF.COM's Unicode version.
- * Signatures over the security object and the inside of other groups are not looked at.
+ * Signatures over the security object are not looked at, nor is the inside of other groups, for which
+ * there is lamphudet_look_inside.
  *
  * Refuses, in the order of the stages, and in a stage from left to right: an element's encoding,
  * then its content, then what follows it. Encoding is the tag named, the length in its one shortest
@@ -499,6 +509,37 @@ lamphudet_answer lamphudet_read_presentation(uint32_t house, const uint8_t *pres
  */
 LAMPHUDET_MUST_USE
 lamphudet_stretch lamphudet_group_file(const uint8_t *presentation, size_t presentation_len, uint32_t group);
+
+/*
+ * Looks whether a group's file is whole inside: every octet of it belongs to one element. Answers 0 and
+ * the number of elements, the file itself counted: 1 to 32,768. Writes nothing.
+ *
+ * What is lent is one file, as lamphudet_group_file finds it: a face is whole in a presentation where
+ *
+ *     lamphudet_stretch face = lamphudet_group_file(presentation, presentation_len, 2);
+ *     lamphudet_answer whole = lamphudet_look_inside(presentation + face.start, face.length);
+ *
+ * has the number 0. Whether it is the file that was issued is told by lamphudet_read_presentation.
+ *
+ * The file is an element, and a constructed element holds elements, one behind another, or nothing. An
+ * element is a tag, a length in its one shortest form (00 to 7F, 81 80 to FF, 82 01 00 to FF FF), and so
+ * many octets, which end within the element that holds it. A tag is constructed where its first octet's
+ * bit of value 32 is set. It has two octets where the low five bits of the first are all ones, and the
+ * second is then 00 to 7F. Group 13's inside is the State's own: its file counts as one element, and what
+ * stands in it is not looked at. Of every other element that is not constructed the octets are any.
+ *
+ * Refuses, from left to right, an element before those that it holds:
+ *   10  at 0: nothing is lent, or it begins with the tag of no group
+ *   10  at an element's tag: it is wrongly coded, cut off, or ends behind the one that holds it
+ *   21  there, after 10: it stands deeper than LAMPHUDET_DEPTH_MAX, the file being 1
+ *   10  at the first octet behind the file
+ *   Then, of the groups 2, 3 and 4:
+ *   22  at 0: no template 7F61 stands directly in the file
+ *   22  at the first 7F61 that stands directly in the file: it does not open with a count, which is
+ *       02 01 n, or the templates 7F60 that stand directly in it are not n, or n is 0 in group 2
+ */
+LAMPHUDET_MUST_USE
+lamphudet_answer lamphudet_look_inside(const uint8_t *file, size_t file_len);
 
 /*
  * Writes the text of an entry's record to the first octets of text, lines joined, and answers 0 and

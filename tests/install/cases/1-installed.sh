@@ -25,6 +25,7 @@ share/man/man3/lamphudet.3
 share/man/man3/lamphudet_digest.3
 share/man/man3/lamphudet_field.3
 share/man/man3/lamphudet_group_file.3
+share/man/man3/lamphudet_look_inside.3
 share/man/man3/lamphudet_next_entry.3
 share/man/man3/lamphudet_open_entry.3
 share/man/man3/lamphudet_read_presentation.3

@@ -25,8 +25,8 @@ done
 
 # An answer that is thrown away is told, of every call.
 for call in 'digest(0, 0, 0, 0)' 'read_text(1, 0, 0, 0, 0)' 'read_presentation(1, 0, 0, 0, 0)' 'group_file(0, 0, 1)' \
-    'write_text(0, 0, 0, 0)' 'open_entry(0, 0)' 'next_entry(0, 0, 0)' 'version()' 'read_seal(1, 0, 0, 0, 0)' \
-    'seals_version()'; do
+    'look_inside(0, 0)' 'write_text(0, 0, 0, 0)' 'open_entry(0, 0)' 'next_entry(0, 0, 0)' 'version()' \
+    'read_seal(1, 0, 0, 0, 0)' 'seals_version()'; do
     host_of "lamphudet_$call;"
     try "the answer of $call is not to be thrown away" refuses 'unused' compiles cc -std=c99 "$folder/host.c"
 done

@@ -85,6 +85,7 @@ told_by() {
         lamphudet_read_text) list_of ofText && list_of entered ;;
         lamphudet_read_presentation) list_of ofPresentation && list_of entered ;;
         lamphudet_read_seal) list_of ofSeal && list_of entered ;;
+        lamphudet_look_inside) list_of ofInside ;;
         lamphudet_write_text) list_of ofTextWriterInC ;;
         lamphudet_open_entry | lamphudet_next_entry) list_of ofRun ;;
         lamphudet_digest) list_of ofDigest ;;
