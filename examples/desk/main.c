@@ -32,6 +32,7 @@ static const struct command {
     { "text", { NUMBER, WORD, NOT_TAKEN, WORD }, 0, command_text },
     { "presentation", { NUMBER, WORD, WORD, WORD }, 0, command_presentation },
     { "group", { NOT_TAKEN, WORD, WORD, WORD }, 1, command_group },
+    { "inside", { NOT_TAKEN, WORD, WORD, NOT_TAKEN }, 0, command_inside },
     { "run", { NOT_TAKEN, WORD, WORD, NOT_TAKEN }, 0, command_run },
 };
 

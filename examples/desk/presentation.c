@@ -1,4 +1,7 @@
-/* desk presentation: reads one, and shows its files, and its record and entry or its refusal with the stage. */
+/*
+ * desk presentation: reads one, and shows its files and whether each is whole inside, and its record and entry or its refusal
+ * with the stage.
+ */
 #include "element.h"
 #include "input.h"
 #include "kept.h"
@@ -6,7 +9,22 @@
 #include "stage.h"
 #include "store.h"
 
+#include <inttypes.h>
 #include <stdio.h>
+
+/* Whether the file of a group is whole inside. That refuses no presentation. Places count from the presentation's start. */
+static void show_inside(const uint8_t *presentation, lamphudet_stretch file)
+{
+    lamphudet_answer inside = lamphudet_look_inside(presentation + file.start, (size_t)file.length);
+
+    fputs("    inside     ", stdout);
+    if (inside.number == LAMPHUDET_NOT_REFUSED) {
+        printf("whole, elements: %" PRIu64 "\n", inside.value);
+    } else {
+        inside.value += file.start;
+        put_refusal(stdout, inside);
+    }
+}
 
 /* The library hands out files wherever the outer walk passes, also where a later stage refuses. */
 static void show_files(const uint8_t *presentation, size_t len)
@@ -19,6 +37,7 @@ static void show_files(const uint8_t *presentation, size_t len)
 
         if (file.length > 0) {
             show_file(group, file);
+            show_inside(presentation, file);
         }
     }
 }
