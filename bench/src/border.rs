@@ -40,6 +40,11 @@ pub fn group_file(lent: &[u8], group: u32) -> Stretch {
     unsafe { header::lamphudet_group_file(lent.as_ptr(), lent.len(), group) }
 }
 
+pub fn look_inside(file: &[u8]) -> Answer {
+    // The range is valid for its length.
+    unsafe { header::lamphudet_look_inside(file.as_ptr(), file.len()) }
+}
+
 pub fn read_seal(house: u32, seal: &[u8], entry: &mut [u8]) -> SealAnswer {
     // As for the digest.
     unsafe { header::lamphudet_read_seal(house, seal.as_ptr(), seal.len(), entry.as_mut_ptr(), entry.len()) }

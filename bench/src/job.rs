@@ -2,9 +2,11 @@
 
 use crate::records::{MIXED, RECORDS};
 use paper::form::Form;
+use paper::inside;
 use paper::lds::Lds;
 use paper::refusal::LONGEST;
 use shared::grouped::grouped;
+use shared::insides::{self, Inside};
 use shared::worst::Worst;
 
 /// The work of a contender on a job, ready to be done again and again.
@@ -36,6 +38,8 @@ pub enum Job {
     ReadWorst(Worst),
     /// The file of a group looked for in it that is not there.
     FindInWorst(Worst),
+    /// The file of a group looked into.
+    LookInside(Inside),
     /// One seal read, and its entry written.
     ReadSeal,
     /// The text of that seal read alone, and the same entry written.
@@ -100,6 +104,16 @@ impl Job {
         Job::ReadWorst(Worst::OneGroup),
         Job::ReadWorst(Worst::LongestList),
     ];
+    /// A face, and those that give the most to do.
+    pub const INSIDES: [Job; 7] = [
+        Job::LookInside(Inside::Face),
+        Job::LookInside(Inside::Empty),
+        Job::LookInside(Inside::EmptyBefore),
+        Job::LookInside(Inside::EmptyConstructed),
+        Job::LookInside(Inside::Mixed),
+        Job::LookInside(Inside::Chains),
+        Job::LookInside(Inside::Templates),
+    ];
     pub const SEALS: [Job; 2] = [Job::ReadSeal, Job::ReadSealText];
 
     pub fn kind(self) -> String {
@@ -117,6 +131,7 @@ impl Job {
             Job::DigestFiles(_) => "digest_files",
             Job::ReadWorst(worst) => return format!("read_{worst:?}"),
             Job::FindInWorst(worst) => return format!("find_in_{worst:?}"),
+            Job::LookInside(inside) => return format!("look_inside_{inside:?}"),
             Job::ReadSeal => "read_seal",
             Job::ReadSealText => "read_seal_text",
         };
@@ -138,6 +153,7 @@ impl Job {
             Job::Passport(call, data) => format!("{}{}", done(call), with(data)),
             Job::ReadWorst(worst) => format!("{}, read", told(worst)),
             Job::FindInWorst(worst) => format!("{}, a file looked for", told(worst)),
+            Job::LookInside(inside) => held(inside).into(),
             Job::ReadSeal => "seal of 134 octets read, entry written".into(),
             Job::ReadSealText => "its text of 72 characters read, entry written".into(),
         }
@@ -148,8 +164,15 @@ impl Job {
         match self {
             Job::Digest(size) | Job::ReadPresentation(_, size) | Job::DigestFiles(size) => size,
             Job::ReadWorst(_) | Job::FindInWorst(_) => LONGEST,
+            Job::LookInside(Inside::Face) => insides::FACE,
+            Job::LookInside(_) => inside::LONGEST,
             _ => 0,
         }
+    }
+
+    /// The digest of as many octets, or of the most that are digested.
+    pub fn beside(self) -> Job {
+        Job::Digest(self.size().min(LONGEST))
     }
 
     /// How often it is done for each of its inputs to be taken once, and at least so often that it can be counted.
@@ -165,7 +188,8 @@ impl Job {
         let size = size.parse().expect("a size");
         let digested = Job::PRESENTATIONS.map(|job| Job::DigestFiles(job.size()));
         let octets = Job::DIGESTS.into_iter().chain(Job::PRESENTATIONS).chain(digested).chain(Job::WORST);
-        let mut jobs = octets.chain(Job::RECORDS).chain(Job::PASSPORTS).chain(Job::SEALS);
+        let insides = Job::INSIDES.into_iter().chain(Job::INSIDES.map(Job::beside));
+        let mut jobs = octets.chain(insides).chain(Job::RECORDS).chain(Job::PASSPORTS).chain(Job::SEALS);
         let found = jobs.find(|job| job.kind() == kind && job.size() == size);
         found.expect("the name of a job")
     }
@@ -194,6 +218,18 @@ fn named(form: Form) -> &'static str {
         Form::Td3 => "TD3",
         Form::MrvA => "MRV-A",
         Form::MrvB => "MRV-B",
+    }
+}
+
+fn held(inside: Inside) -> &'static str {
+    match inside {
+        Inside::Face => "a face of 20,480 octets",
+        Inside::Empty => "empty elements",
+        Inside::EmptyBefore => "empty elements before the templates",
+        Inside::EmptyConstructed => "empty constructed elements",
+        Inside::Mixed => "small elements of all kinds",
+        Inside::Chains => "elements eight deep",
+        Inside::Templates => "templates without end",
     }
 }
 

@@ -10,6 +10,7 @@ mod contender;
 mod counts;
 mod digests;
 mod figures;
+mod insides;
 mod job;
 mod libcrypto;
 mod page;

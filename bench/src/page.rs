@@ -2,6 +2,7 @@
 
 use crate::contender::Contender;
 use crate::figures::{Given, Kind, Unit};
+use crate::insides;
 use crate::job::Job;
 use crate::ratio;
 use crate::share;
@@ -11,11 +12,12 @@ use crate::worst;
 
 const WORDS: &str = include_str!("page.md");
 const BOTH: [Contender; 2] = [Contender::Library, Contender::Rust];
-const KINDS: [(&str, Kind); 5] = [
+const KINDS: [(&str, Kind); 6] = [
     ("digest", DIGESTS),
     ("record", RECORDS),
     ("passport", PASSPORTS),
     ("presentation", PRESENTATIONS),
+    ("inside", INSIDES),
     ("seal", SEALS),
 ];
 const DIGESTS: Kind =
@@ -26,6 +28,7 @@ const PASSPORTS: Kind =
     Kind { title: "call", unit: Unit::ASecond, contenders: &BOTH, jobs: &Job::PASSPORTS, given: None };
 const PRESENTATIONS: Kind =
     Kind { title: "octets", unit: Unit::ASecond, contenders: &BOTH, jobs: &Job::PRESENTATIONS, given: None };
+const INSIDES: Kind = Kind { title: "file", unit: Unit::ASecond, contenders: &BOTH, jobs: &Job::INSIDES, given: None };
 const SEALS: Kind = Kind { title: "call", unit: Unit::ASecond, contenders: &BOTH, jobs: &Job::SEALS, given: None };
 const PORTABLE_C: Given =
     Given { title: "portable C", figures: &[(Job::ReadText, 809), (Job::NextEntry, 613), (Job::WriteText, 966)] };
@@ -39,6 +42,7 @@ pub fn page() -> String {
     }
     page = with(page, "presentation share", share::table);
     page = with(page, "worst presentations", worst::table);
+    page = with(page, "inside ratio", insides::table);
     page = with(page, "seal ratio", ratio::table);
     with(page, "stack", stack::table)
 }
@@ -62,9 +66,10 @@ mod tests {
         }
         page = with(page, "presentation share", table);
         page = with(page, "worst presentations", table);
+        page = with(page, "inside ratio", table);
         page = with(page, "seal ratio", table);
         page = with(page, "stack", table);
         assert!(!page.contains('{'));
-        assert_eq!(page.matches("| call |").count(), 14);
+        assert_eq!(page.matches("| call |").count(), 17);
     }
 }

@@ -9,11 +9,12 @@ const OCTETS: usize = 1 << 16;
 #[repr(C, align(16))]
 struct Stack([u8; OCTETS]);
 
-/// A function of C, and what it is given in the registers for numbers and addresses.
+/// A function of C, what it is given in the registers for numbers and addresses, and the number that it is to answer.
 #[derive(Clone, Copy)]
 pub struct Call {
     pub function: *const (),
     pub arguments: [usize; 5],
+    pub number: u32,
 }
 
 impl Call {
@@ -22,8 +23,8 @@ impl Call {
     ///
     /// # Safety
     ///
-    /// The function may be called with the arguments, and needs no more stack than there is. It answers a number, 0 for
-    /// a success, and a value.
+    /// The function may be called with the arguments, and needs no more stack than there is. It answers a number and a
+    /// value.
     pub unsafe fn stack(self) -> usize {
         self.painted(0x55).max(self.painted(0xaa))
     }
@@ -31,7 +32,7 @@ impl Call {
     unsafe fn painted(self, paint: u8) -> usize {
         let mut stack = Box::new(Stack([paint; OCTETS]));
         let number = self.on(&mut stack);
-        assert_eq!(number, 0, "a refusal would take another way");
+        assert_eq!(number, self.number, "another answer would take another way");
         let clean = stack.0.iter().take_while(|octet| **octet == paint).count();
         assert!(clean > 0, "a stack that is too short");
         OCTETS - clean
@@ -78,7 +79,7 @@ mod tests {
 
     fn stack(function: *const (), octet: usize) -> usize {
         // Both are functions of C that answer 0.
-        unsafe { Call { function, arguments: [octet; 5] }.stack() }
+        unsafe { Call { function, arguments: [octet; 5], number: 0 }.stack() }
     }
 
     #[test]

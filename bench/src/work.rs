@@ -2,7 +2,7 @@
 
 use crate::contender::Contender;
 use crate::job::{Job, Work};
-use crate::{digests, passports, presentations, records, seals, worst};
+use crate::{digests, insides, passports, presentations, records, seals, worst};
 
 /// None where the contender is not installed, or does not do such work.
 pub fn of(contender: Contender, job: Job) -> Option<Work> {
@@ -13,6 +13,7 @@ pub fn of(contender: Contender, job: Job) -> Option<Work> {
         Job::Passport(call, data) => passports::of(contender, call, data),
         Job::ReadPresentation(..) | Job::DigestFiles(_) => presentations::of(contender, job),
         Job::ReadWorst(_) | Job::FindInWorst(_) => worst::of(contender, job),
+        Job::LookInside(inside) => insides::of(contender, inside),
         Job::ReadSeal | Job::ReadSealText => seals::of(contender, job),
     }
 }

@@ -51,7 +51,8 @@ impl Inside {
 }
 
 const FILE: [u8; 1] = [0x75];
-const FACE: usize = 20_480;
+/// Octets of the face's file.
+pub const FACE: usize = 20_480;
 
 /// As Doc 9303-10's A.3 has it: a header of four elements, and the picture.
 fn face() -> Vec<u8> {
