@@ -20,6 +20,7 @@ use Rattle.tlv.specs.Element.{element}
 use Rattle.tlv.specs.Cut.{cut, hasOctets}
 use Rattle.tlv.specs.Tags as Tag
 use Rattle.tlv.specs.Versions.{Known, former, both, lds17, lds18}
+use Rattle.tlv.proofs.Onward.{stretch-read}
 use Rattle.tlv.proofs.Joined.{same-value, first-value, value-then, then-same, checked-value, value-checked}
 use Rattle.efcom.specs.declared.Common.{Common}
 use Rattle.efcom.specs.EfCom.{fromTagList, isUnicode, fromUnicode, isVersion, fromVersion, readEfCom}
@@ -53,10 +54,6 @@ alone : (h a b : Bool) → b ≡ false → h && (a || b) ≡ h && a
 alone true true b e = refl
 alone true false b e = e
 alone false a b e = refl
-
--- an element's value stands where its length says
-stood : (s : List ℕ) (at tag : ℕ) (v : Stretch) → element s at tag ≡ value v → stretchAt s at tag ≡ v
-stood s at tag v e = same-value (checked-value (coded s at tag) _ v (sym (element-row s at tag) ∙ e) .1)
 
 -- ---- stage 3
 
@@ -125,7 +122,7 @@ module _ (w : List ℕ) (e : Stretch) where
   module _ (older : alike (cut inCommon (stretchAt inCommon (e .from) Tag.ldsVersion)) lds18 ≡ false) where
     there-older : (v : Stretch) → element inCommon (e .from) Tag.ldsVersion ≡ value v → alike (cut inCommon v) lds18 ≡ false
     there-older v h =
-        ap (λ (x : Stretch). alike (cut inCommon x) lds18) (sym (stood inCommon (e .from) Tag.ldsVersion v h)) ∙ older
+        ap (λ (x : Stretch). alike (cut inCommon x) lds18) (sym (stretch-read inCommon (e .from) Tag.ldsVersion v h)) ∙ older
 
     efcom-same : readEfCom both w e ≡ readEfCom former w e
     unfolding readEfCom fromVersion
@@ -241,7 +238,7 @@ module _ (w : List ℕ) (o : Stretch) where
   object-same other = then-same (element inObject (o .from) Tag.integer) (then-algorithm both) (then-algorithm former) (λ v h.
       ap (λ (b : Bool). checked (unless b 12 (o .from)) (fromAlgorithm (eqb (numberAt v) 1) inObject (v .to)))
       (number-same inObject v
-      (ap (λ (x : Stretch). eqb (numberAt x) 1) (sym (stood inObject (o .from) Tag.integer v h)) ∙ other)))
+      (ap (λ (x : Stretch). eqb (numberAt x) 1) (sym (stretch-read inObject (o .from) Tag.integer v h)) ∙ other)))
 
 -- ---- the stages
 

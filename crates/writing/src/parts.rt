@@ -26,7 +26,7 @@ pub fn put_opening(text: &mut [u8], r: Record)
 }
 
 // The issuer's own data, behind what a long number takes of their field.
-pub fn put_own(text: &mut [u8], r: Record)
+pub(crate) fn put_own(text: &mut [u8], r: Record)
     requires { ⌜ r .«number_len» ≤ numberRoom ⌝ }
     ensures { λ _. ⌜ now (text .exit) ≡ putOwn r (now (text .entry)) ⌝ }
 {

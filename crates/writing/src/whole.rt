@@ -12,7 +12,7 @@ use crate::parts::put_person;
 use zone::alphabet::FILLER;
 use zone::record::Record;
 
-pub fn put_all(text: &mut [u8], r: Record)
+pub(crate) fn put_all(text: &mut [u8], r: Record)
     requires { ⌜ r .«number_len» ≤ numberRoom ⌝ }
     ensures { λ _. ⌜ now (text .exit) ≡ putAll r (now (text .entry)) ⌝ }
 {
