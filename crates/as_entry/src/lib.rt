@@ -1,4 +1,6 @@
 // A record that passes as its entry: the one entry that is lent is written as a text, or opened. A seal's writer asks the same.
+#![tactic(auto)]
+
 ghost use Rattle.std.specs.Prelude.{◌≡◌};
 ghost use Rattle.refusal.specs.Length.{length_of};
 ghost use Rattle.runs.specs.Run.{onward_of};

@@ -3,7 +3,7 @@ use zone::form::Form;
 
 // What an entry holds: number 0, the house and the record; or 18, house 0 and the blank record. Places past a length are fillers.
 #[repr(C)]
-#[derive(Drop)]
+#[derive(Clone, Copy)]
 pub struct RecordInC {
     pub number: u32,
     pub house: u32,

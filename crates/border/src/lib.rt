@@ -1,4 +1,6 @@
 // The border to C: what a host receives of an answer in numbers.
+#![tactic(auto)]
+
 pub mod answer;
 pub mod details;
 pub mod received;

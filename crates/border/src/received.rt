@@ -2,7 +2,7 @@
 // Number 0 and how many octets were written, where a run goes on, or how many elements a file or entries a list has; or the
 // refusal's number and its place. With a wrong check digit, 9, stands the digit that was expected, and 255 else.
 #[repr(C)]
-#[derive(Drop)]
+#[derive(Clone, Copy)]
 pub struct AnswerInC {
     pub number: u32,
     pub expected: u32,
@@ -11,7 +11,7 @@ pub struct AnswerInC {
 
 // A part of what was lent: empty where both are 0.
 #[repr(C)]
-#[derive(Drop)]
+#[derive(Clone, Copy)]
 pub struct StretchInC {
     pub start: u64,
     pub length: u64,
@@ -19,7 +19,7 @@ pub struct StretchInC {
 
 // A detail of group 11. The value is 0, or the refusal's place; the stretch is empty where there is none.
 #[repr(C)]
-#[derive(Drop)]
+#[derive(Clone, Copy)]
 pub struct DetailInC {
     pub answer: AnswerInC,
     pub stretch: StretchInC,
@@ -27,7 +27,7 @@ pub struct DetailInC {
 
 // A name: 0 where there is none, 1 in the file, 2 in the text; and where in that.
 #[repr(C)]
-#[derive(Drop)]
+#[derive(Clone, Copy)]
 pub struct NameInC {
     pub from: u32,
     pub stretch: StretchInC,

@@ -5,7 +5,7 @@ ghost use Rattle.c40.specs.Inner.Left.{answered, fitted, all_three};
 
 use crate::pair::{is_one, is_three, is_two, values_at};
 
-#[derive(Drop)]
+#[derive(Clone, Copy)]
 pub(crate) enum Counted {
     // How many there are.
     Characters(usize),

@@ -7,7 +7,7 @@ ghost use Rattle.c40.specs.Inner.Left.{values_at, Small};
 use zone::alphabet::{is_digit, is_letter};
 
 // Small numbers, of which 3 to 39 are values of characters.
-#[derive(Drop)]
+#[derive(Clone, Copy)]
 pub(crate) struct Triple {
     pub first: u32,
     pub second: u32,

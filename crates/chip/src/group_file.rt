@@ -14,13 +14,13 @@ use tlv::tags::group_of;
 use tlv::{Stretch, Taken};
 
 // Where a file starts, and where its value stands.
-#[derive(Drop)]
+#[derive(Clone, Copy)]
 pub struct Place {
     pub start: usize,
     pub held: Stretch,
 }
 
-#[derive(Drop)]
+#[derive(Clone, Copy)]
 pub enum Found {
     Lent(Place),
     Missing,

@@ -1,4 +1,6 @@
 // Group 11, additional personal details: the list of tags, and the elements that it names.
+#![tactic(auto)]
+
 ghost use Rattle.std.specs.Prelude.{◌≡◌, ◌+◌, ◌<◌, ◌≤◌, length, take};
 ghost use Rattle.refusal.specs.Outcome.{outcome_of};
 ghost use Rattle.tlv.specs.Element.{taken_of};

@@ -1,4 +1,6 @@
 // The digest as document 01 has it: of at most 65,535 octets, into a lent range.
+#![tactic(auto)]
+
 ghost use Rattle.digest.specs.Answer.{Digests};
 
 use refusal::{Cause, Refusal, Written};

@@ -9,7 +9,7 @@ use crate::thirds::{Thirds, counts};
 use zone::form::Form;
 
 // The fields that have a check digit, each gone over once; and what the composite covers beside number and dates, modulo 10.
-#[derive(Drop)]
+#[derive(Clone, Copy)]
 pub struct Sums {
     pub number: Thirds,
     pub birth: Thirds,

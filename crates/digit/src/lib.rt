@@ -1,4 +1,6 @@
 // The check digit of Doc 9303-3: weights 7, 3, 1 over a field, or over several pieces as if they were joined.
+#![tactic(auto)]
+
 ghost use Rattle.std.specs.Prelude.{◌≡◌};
 ghost use Rattle.digit.specs.Check.{digit_of};
 

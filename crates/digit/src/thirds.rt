@@ -20,7 +20,7 @@ pub(crate) fn counts(text: &[u8]) -> [u8; Form::TD1_TEXT]
 }
 
 // What the characters at every third place count together, from each of the first three places on.
-#[derive(Drop)]
+#[derive(Clone, Copy)]
 pub struct Thirds {
     pub first: u32,
     pub second: u32,

@@ -1,4 +1,6 @@
 // Stage 3, EF.COM: the version, the Unicode version and the tag list, each from where the one before it ends.
+#![tactic(auto)]
+
 ghost use Rattle.std.specs.Prelude.{◌≡◌, ◌&&◌};
 ghost use Rattle.refusal.specs.Numbers.{by};
 ghost use Rattle.zone.specs.Alphabet.{is_digit};
@@ -22,7 +24,7 @@ use zone::alphabet::is_digit;
 
 // What EF.COM says: whether its version is `0108` and not `0107`, where the digits of the Unicode version stand, and where the
 // tag list.
-#[derive(Drop)]
+#[derive(Clone, Copy)]
 pub struct Common {
     pub newer: bool,
     pub unicode: Stretch,
@@ -30,7 +32,7 @@ pub struct Common {
 }
 
 // What it says, or why it is refused.
-#[derive(Drop)]
+#[derive(Clone, Copy)]
 pub enum CommonRead {
     Value(Common),
     Refused(Refusal),

@@ -5,7 +5,7 @@ ghost use Rattle.field.specs.Date.{pair_of, is_leap, days_in, month_rule, day_ru
 use zone::alphabet::{FILLER, is_digit};
 
 // What two characters of a date say.
-#[derive(Drop)]
+#[derive(Clone, Copy)]
 pub enum Pair {
     Known(u8),
     Unknown,

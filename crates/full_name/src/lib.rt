@@ -1,4 +1,6 @@
 // The full name of a passenger, from group 11 or, where that has none, from the text.
+#![tactic(auto)]
+
 ghost use Rattle.std.specs.Prelude.{◌≡◌, ◌≤◌};
 ghost use Rattle.zone.specs.Rooms.{name_room};
 ghost use Rattle.full_name.specs.FullName.{is_empty, in_file, name_at, in_text, full_name, full_name_part};
@@ -13,7 +15,7 @@ const FULL_NAME: u32 = 0x5F0E;
 const NOTHING: Stretch = Stretch { from: 0, to: 0 };
 
 // Which of the two holds it.
-#[derive(Drop)]
+#[derive(Clone, Copy)]
 pub enum From {
     Nowhere,
     File,
@@ -21,7 +23,7 @@ pub enum From {
 }
 
 // And where.
-#[derive(Drop)]
+#[derive(Clone, Copy)]
 pub struct Name {
     pub from: From,
     pub stretch: Stretch,

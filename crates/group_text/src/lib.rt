@@ -1,4 +1,6 @@
 // The text of group 1, and nothing else beside it: a part of stage 6.
+#![tactic(auto)]
+
 ghost use Rattle.std.specs.Prelude.{◌≡◌, ℕ, ◌+◌, ◌<◌, ◌^◌};
 ghost use Rattle.refusal.specs.Outcome.{outcome_of, refused};
 ghost use Rattle.refusal.specs.Numbers.{Why, why_of};

@@ -1,4 +1,6 @@
 // The inside of a group's file: every octet belongs to one element, and the templates are as many as their count says.
+#![tactic(auto)]
+
 ghost use Rattle.std.specs.Prelude.{◌≡◌};
 ghost use Rattle.tree.specs.Reading.{counted_of};
 ghost use Rattle.inside.specs.Inside.{look_inside};

@@ -16,7 +16,7 @@ const TEMPLATE_GROUP: u16 = 0x7F61;
 const TEMPLATE: u16 = 0x7F60;
 
 // The first place of elements with a tag, 0 where there are none, and how many they are.
-#[derive(Drop)]
+#[derive(Clone, Copy)]
 pub struct Tally {
     pub first: usize,
     pub times: usize,

@@ -1,6 +1,8 @@
 // The calls that a C host makes. A call here decides nothing: it hands the lent ranges on and tells the answer in numbers,
 // or a record in its fields. Each also promises that what it was lent for reading is octets, so that what is shown of octets is
 // shown of every call.
+#![tactic(auto)]
+
 ghost use Rattle.std.specs.Prelude.{◌≡◌};
 ghost use Rattle.zone.specs.Octets.{AreOctets};
 ghost use Rattle.zone.specs.declared.form.Source.TheVariants.{Alone};

@@ -1,6 +1,8 @@
 // The calls that a C host makes to read seals and to write them. They decide nothing: they hand the lent ranges on and tell the
 // answer in numbers.
 // What was lent for reading is octets, as in `lamphudet`.
+#![tactic(auto)]
+
 ghost use Rattle.std.specs.Prelude.{◌≡◌};
 ghost use Rattle.zone.specs.Octets.{AreOctets};
 ghost use Rattle.version.specs.Version.{version_number};

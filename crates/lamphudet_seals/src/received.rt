@@ -2,7 +2,7 @@
 use zone::form::Form;
 
 #[repr(C)]
-#[derive(Drop)]
+#[derive(Clone, Copy)]
 pub struct DayInC {
     pub year: u16,
     pub month: u8,
@@ -11,7 +11,7 @@ pub struct DayInC {
 
 // A part of what was lent: empty where both are 0.
 #[repr(C)]
-#[derive(Drop)]
+#[derive(Clone, Copy)]
 pub struct StretchInC {
     pub start: u64,
     pub length: u64,
@@ -19,7 +19,7 @@ pub struct StretchInC {
 
 // What a seal's header says. Places past the reference's length are fillers.
 #[repr(C)]
-#[derive(Drop)]
+#[derive(Clone, Copy)]
 pub struct HeaderInC {
     pub issued: DayInC,
     pub signed_on: DayInC,
@@ -35,7 +35,7 @@ pub struct HeaderInC {
 // Number 0, how many octets of entry were written, and what the seal says; or the refusal's number and its place, over blank
 // fields. With a wrong check digit, 9, stands the digit that was expected, and 255 else.
 #[repr(C)]
-#[derive(Drop)]
+#[derive(Clone, Copy)]
 pub struct SealInC {
     pub number: u32,
     pub expected: u32,

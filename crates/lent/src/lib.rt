@@ -1,4 +1,6 @@
 // Lent octets, read and filled without a condition: whatever is asked for past the end is simply not there.
+#![tactic(auto)]
+
 ghost use Rattle.std.specs.Prelude.{◌≡◌, length, take, drop, get_or, set, replicate};
 ghost use Rattle.lent.specs.Copied.{copied, copied_at};
 ghost use Rattle.lent.specs.Octets as Octets;

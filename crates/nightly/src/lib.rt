@@ -1,4 +1,6 @@
 // The store's nightly list: a run of entries whose keys rise, and in it the stretch of each house.
+#![tactic(auto)]
+
 ghost use Rattle.std.specs.Prelude.{◌≡◌};
 ghost use Rattle.tlv.specs.Cut as C;
 ghost use Rattle.nightly.specs.List.{counted_of, look_over, house_stretch};
@@ -13,7 +15,7 @@ use tlv::cut::cut;
 use walk::{Walked, walk};
 
 // How many entries a list has, or why it is refused.
-#[derive(Drop)]
+#[derive(Clone, Copy)]
 pub enum Counted {
     Entries(usize),
     Refused(Refusal),

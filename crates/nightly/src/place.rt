@@ -8,14 +8,14 @@ use refusal::{Cause, Refusal};
 use runs::run::Step;
 
 // Where an entry of a list begins and ends, and whose it is.
-#[derive(Drop)]
+#[derive(Clone, Copy)]
 pub struct Place {
     pub start: usize,
     pub end: usize,
     pub house: u32,
 }
 
-#[derive(Drop)]
+#[derive(Clone, Copy)]
 pub enum Entered {
     Stands(Place),
     Refused(Refusal),

@@ -6,13 +6,13 @@ use crate::place::{Entered, Place, entry_at};
 use refusal::Refusal;
 use tlv::Stretch;
 
-#[derive(Drop)]
+#[derive(Clone, Copy)]
 pub struct Seen {
     pub entries: usize,
     pub own: Stretch,
 }
 
-#[derive(Drop)]
+#[derive(Clone, Copy)]
 pub enum Walked {
     Whole(Seen),
     Refused(Refusal),

@@ -11,7 +11,7 @@ use tlv::cut::has_octets;
 use tlv::{Stretch, Taken, tags};
 
 // An entry: its group's number, where its integer stands, and where its digest begins and it ends.
-#[derive(Drop)]
+#[derive(Clone, Copy)]
 pub struct GroupHash {
     pub group: usize,
     pub place: usize,
@@ -20,7 +20,7 @@ pub struct GroupHash {
 }
 
 // The entry that stands at a place, or why there is none.
-#[derive(Drop)]
+#[derive(Clone, Copy)]
 pub enum HashRead {
     Value(GroupHash),
     Refused(Refusal),
@@ -28,7 +28,7 @@ pub enum HashRead {
 
 // What was seen of the entries: how many, where the first repeated integer stands (0 for none), and where the digest of each
 // group begins (0 for none).
-#[derive(Drop)]
+#[derive(Clone, Copy)]
 pub struct Seen {
     pub count: usize,
     pub repeated: usize,
@@ -36,7 +36,7 @@ pub struct Seen {
 }
 
 // All entries, or why they were not all read.
-#[derive(Drop)]
+#[derive(Clone, Copy)]
 pub struct Walk {
     pub verdict: Verdict,
     pub seen: Seen,

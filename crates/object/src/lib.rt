@@ -1,5 +1,7 @@
 // Stage 4, the security object: the version, the algorithm, the entries and, in version 1, two strings, each from where the one
 // before it ends.
+#![tactic(auto)]
+
 ghost use Rattle.std.specs.Prelude.{◌≡◌};
 ghost use Rattle.refusal.specs.Numbers.{why_of};
 ghost use Rattle.refusal.specs.Outcome.{outcome_of, or_else};
@@ -20,7 +22,7 @@ use tlv::{Stretch, Taken, tags};
 
 // What stage 4 found; where the digest of each group begins, 0 where it has no entry or the object is refused; and the version, 0
 // where the object is refused.
-#[derive(Drop)]
+#[derive(Clone, Copy)]
 pub struct ObjectRead {
     pub verdict: Verdict,
     pub digests: [usize; 17],

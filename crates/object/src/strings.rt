@@ -12,26 +12,26 @@ use tlv::cut::end_check;
 use tlv::{Stretch, Taken, tags};
 
 // Where the two strings stand: the LDS version and the Unicode version.
-#[derive(Drop)]
+#[derive(Clone, Copy)]
 pub struct Strings {
     pub lds: Stretch,
     pub unicode: Stretch,
 }
 
 // The object's version: 0, which has no strings, or 1.
-#[derive(Drop)]
+#[derive(Clone, Copy)]
 pub enum Version {
     Zero,
     One(Strings),
 }
 
-#[derive(Drop)]
+#[derive(Clone, Copy)]
 pub enum StringsRead {
     Value(Strings),
     Refused(Refusal),
 }
 
-#[derive(Drop)]
+#[derive(Clone, Copy)]
 pub enum VersionRead {
     Value(Version),
     Refused(Refusal),

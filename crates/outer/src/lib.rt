@@ -1,4 +1,6 @@
 // Stages 1 and 2 of a presentation: size, and the outer walk.
+#![tactic(auto)]
+
 ghost use Rattle.std.specs.Prelude.{◌≡◌};
 ghost use Rattle.refusal.specs.Outcome.{outcome_of};
 ghost use Rattle.tlv.specs.Read.{outcome_in};
@@ -11,14 +13,14 @@ use tlv::tags::is_group;
 use tlv::{Stretch, Taken, tags};
 
 // Where the contents of EF.COM and of the security object stand. The group files follow the object.
-#[derive(Drop)]
+#[derive(Clone, Copy)]
 pub struct Outer {
     pub efcom: Stretch,
     pub object: Stretch,
 }
 
 // The parts of a presentation, or why it has none.
-#[derive(Drop)]
+#[derive(Clone, Copy)]
 pub enum Walked {
     Parts(Outer),
     Refused(Refusal),

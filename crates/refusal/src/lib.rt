@@ -1,4 +1,6 @@
 // Why an input is refused, and where: the cause, its number in document 01, and its place.
+#![tactic(auto)]
+
 ghost use Rattle.std.specs.Prelude.{◌≡◌};
 ghost use Rattle.refusal.specs.Numbers.{no_digit, why_of, number_of, expected_of};
 ghost use Rattle.refusal.specs.Outcome.{outcome_of, or_else, refused_unless};
@@ -9,7 +11,7 @@ pub const NO_DIGIT: u32 = 255;
 // The causes in the order of their numbers: 1 to 18 of document 01, "Refusal numbers"; 19 of document 02, 2026-04, 20 of its
 // 2026-01, 21 and 22 of its 2026-10, 23 of its 2026-14, 24 to 27 of its 2026-08 and 28 of its 2026-13. A check digit holds the
 // one that was expected, 0 to 9.
-#[derive(Drop)]
+#[derive(Clone, Copy)]
 pub enum Cause {
     Length,
     Character,
@@ -90,7 +92,7 @@ impl Cause {
 }
 
 // A refusal holds its cause and its place, an offset from 0 in what was lent.
-#[derive(Drop)]
+#[derive(Clone, Copy)]
 pub struct Refusal {
     pub cause: Cause,
     pub place: usize,
@@ -116,7 +118,7 @@ impl Refusal {
 }
 
 // What one check, or several in their order, found.
-#[derive(Drop)]
+#[derive(Clone, Copy)]
 pub enum Verdict {
     Passed,
     Refused(Refusal),
@@ -146,7 +148,7 @@ impl Verdict {
 }
 
 // What a call that writes answers: how many octets it wrote, or why it wrote none.
-#[derive(Drop)]
+#[derive(Clone, Copy)]
 pub enum Written {
     Octets(usize),
     Refused(Refusal),

@@ -14,7 +14,7 @@ use zone::form::{Form, Recognised};
 use zone::record::Record;
 
 // Where a run goes on: at the next offset, nowhere since none is left, or nowhere since what stands there is no entry.
-#[derive(Drop)]
+#[derive(Clone, Copy)]
 pub enum Step {
     Next(usize),
     End,
@@ -22,7 +22,7 @@ pub enum Step {
 }
 
 // What stands at an offset. House and record are 0 and the blank one but where the run goes on.
-#[derive(Drop)]
+#[derive(Clone, Copy)]
 pub struct Standing {
     pub step: Step,
     pub house: u32,

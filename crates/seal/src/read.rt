@@ -17,7 +17,7 @@ use zone::form::{Form, Source};
 use zone::record::Record;
 
 // What a seal was read as. Header, record and signature are blank wherever the verdict is a refusal.
-#[derive(Drop)]
+#[derive(Clone, Copy)]
 pub struct Seal {
     pub verdict: Verdict,
     pub header: Header,

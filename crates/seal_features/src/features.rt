@@ -14,13 +14,13 @@ const TEXT: u8 = 0x02;
 pub(crate) const SIGNATURE: u8 = 0xFF;
 
 // Where feature 02 begins, 0 where there is none, and where the features end.
-#[derive(Drop)]
+#[derive(Clone, Copy)]
 pub struct Features {
     pub text: usize,
     pub end: usize,
 }
 
-#[derive(Drop)]
+#[derive(Clone, Copy)]
 pub enum Walked {
     Found(Features),
     Refused(Refusal),

@@ -1,3 +1,5 @@
 // What stands in a printed seal behind its header: features, and the signature.
+#![tactic(auto)]
+
 pub mod features;
 pub mod signature;

@@ -3,7 +3,7 @@ ghost use Rattle.std.specs.Prelude.{◌≡◌, ◌<◌, ◌^◌};
 ghost use Rattle.c40.specs.Inner.Imaged.{reduced};
 ghost use Rattle.seal_fields.specs.Day.{is_leap, days_in, is_day, day_of, number_in, day_at, day_octets};
 
-#[derive(Drop)]
+#[derive(Clone, Copy)]
 pub struct Day {
     pub year: u16,
     pub month: u8,

@@ -13,7 +13,7 @@ use zone::alphabet::FILLER;
 use zone::form::Form;
 
 // What a header says. Places past the reference's length are fillers.
-#[derive(Drop)]
+#[derive(Clone, Copy)]
 pub struct Header {
     pub version: u8,
     pub country: [u8; Form::STATE],
@@ -27,7 +27,7 @@ pub struct Header {
 }
 
 // What was decided of a header, what it says, and where the features begin. It says nothing of worth where it is refused.
-#[derive(Drop)]
+#[derive(Clone, Copy)]
 pub struct Headed {
     pub verdict: Verdict,
     pub header: Header,

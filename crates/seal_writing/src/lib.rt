@@ -1,4 +1,6 @@
 // Writing the seal of an emergency document.
+#![tactic(auto)]
+
 mod carried;
 mod parts;
 mod text;

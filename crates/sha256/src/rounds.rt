@@ -8,7 +8,7 @@ use super::{constants, schedule};
 use sha256_words::words;
 
 // The working variables.
-#[derive(Drop)]
+#[derive(Clone, Copy)]
 pub struct Working {
     pub a: u32,
     pub b: u32,

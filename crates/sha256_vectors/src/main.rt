@@ -1,6 +1,8 @@
 // Prints the digest's answers for the messages that are published with FIPS 180-4, for runs of one octet at the edges of a block
 // and up to the longest, and for what is refused. The file stdout has the published values, and for the runs those of
 // Python's hashlib.
+#![tactic(auto)]
+
 use libc::STDOUT_FILENO;
 use refusal::Written;
 

@@ -11,7 +11,7 @@ pub(crate) const CODES: usize = 37;
 // Pairs of them.
 pub(crate) const PAIRS: usize = 1369;
 
-#[derive(Drop)]
+#[derive(Clone, Copy)]
 pub(crate) struct List {
     pub count: usize,
     pub numbers: [usize; PAIRS],

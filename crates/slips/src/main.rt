@@ -1,6 +1,8 @@
 // Prints the pairs of characters that a check digit does not tell apart, in rising order of their codes in the entry, one line
 // for each lower one. What is printed is held to the file stdout, which was worked out from Doc 9303-3 by a program that shares
 // nothing with the library.
+#![tactic(auto)]
+
 ghost use Rattle.std.specs.Prelude.{◌<◌};
 
 mod list;

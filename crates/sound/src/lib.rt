@@ -1,4 +1,6 @@
 // The sound record: whether a record is one that a text could have given. Every writer asks this first.
+#![tactic(auto)]
+
 ghost use Rattle.std.specs.Prelude.{◌≡◌};
 ghost use Rattle.sound.specs.Sound.{is_sound};
 

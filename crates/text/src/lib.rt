@@ -1,4 +1,6 @@
 // Reading the text of a machine readable zone.
+#![tactic(auto)]
+
 mod fields;
 pub mod read;
 mod record;

@@ -15,7 +15,7 @@ use zone::form::{Form, Recognised, Source};
 use zone::record::Record;
 
 // What a text was read as. The record is the blank one wherever the verdict is a refusal.
-#[derive(Drop)]
+#[derive(Clone, Copy)]
 pub struct Reading {
     pub verdict: Verdict,
     pub kept: Record,

@@ -5,7 +5,7 @@ ghost use Rattle.text_digits.specs.Number.{cut_at, span_of};
 use zone::alphabet::FILLER;
 use zone::form::Form;
 
-#[derive(Drop)]
+#[derive(Clone, Copy)]
 pub enum Span {
     Short,
     // This many further characters stand in the optional field, and then the check digit.

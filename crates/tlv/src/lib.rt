@@ -1,4 +1,6 @@
 // Elements of tag, length and value, as they stand in a chip's files: one walker for every stage of a presentation.
+#![tactic(auto)]
+
 ghost use Rattle.std.specs.Prelude.{◌≡◌, cond, ◌+◌, ◌<◌, ◌≤◌, ◌^◌};
 ghost use Rattle.refusal.specs.Numbers.{by};
 ghost use Rattle.tlv.specs.Read.{refusal};
@@ -11,28 +13,28 @@ pub mod tags;
 use refusal::{Cause, Refusal};
 
 // The octets of a value: from a place of what was lent up to another.
-#[derive(Drop)]
+#[derive(Clone, Copy)]
 pub struct Stretch {
     pub from: usize,
     pub to: usize,
 }
 
 // How many octets a value has, and how many octets tell it.
-#[derive(Drop)]
+#[derive(Clone, Copy)]
 pub struct Count {
     pub count: usize,
     pub told: usize,
 }
 
 // A length that is definite and shortest, or none.
-#[derive(Drop)]
+#[derive(Clone, Copy)]
 pub enum Size {
     Of(Count),
     Unknown,
 }
 
 // The value of an element, or why there is none.
-#[derive(Drop)]
+#[derive(Clone, Copy)]
 pub enum Taken {
     Value(Stretch),
     Refused(Refusal),

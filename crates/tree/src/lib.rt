@@ -1,4 +1,6 @@
 // A group's file as a tree: element walker and list walker, which call each other.
+#![tactic(auto)]
+
 ghost use Rattle.std.specs.Prelude.{◌≡◌, ◌&&◌, ltb, get_or};
 ghost use Rattle.tree.specs.Tag.{is_constructed};
 ghost use Rattle.tree.specs.Reading.{counted_of};
@@ -11,20 +13,20 @@ use refusal::{Cause, Refusal};
 use tlv::{Stretch, Taken};
 
 // How many elements there are in one, with itself, and where it ends.
-#[derive(Drop)]
+#[derive(Clone, Copy)]
 pub struct Passed {
     pub elements: usize,
     pub to: usize,
 }
 
-#[derive(Drop)]
+#[derive(Clone, Copy)]
 pub enum Walked {
     Whole(Passed),
     Refused(Refusal),
 }
 
 // How many elements there are in a list of them.
-#[derive(Drop)]
+#[derive(Clone, Copy)]
 pub enum Counted {
     Elements(usize),
     Refused(Refusal),

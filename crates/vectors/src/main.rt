@@ -1,6 +1,8 @@
 // Prints sample texts of machine readable zones, each with what the library reads it as. The library does the reading. The
 // samples stand in the file stdin, which says how. What is printed is held to the file stdout, which was worked out from
 // document 01 by a program that shares nothing with the library.
+#![tactic(auto)]
+
 mod print;
 
 use lent::{octet, part};

@@ -1,4 +1,6 @@
 // Which version of the libraries this is, in the one number that C is told.
+#![tactic(auto)]
+
 ghost use Rattle.std.specs.Prelude.{◌≡◌};
 ghost use Rattle.version.specs.Version.{version_number};
 

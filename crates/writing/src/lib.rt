@@ -1,4 +1,6 @@
 // Writing the text of a record.
+#![tactic(auto)]
+
 mod fields;
 mod number;
 mod parts;

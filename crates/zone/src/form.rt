@@ -8,7 +8,7 @@ ghost use Rattle.zone.specs.Part.{name, optional, personal, composite};
 
 use crate::alphabet::{FILLER, is_letter};
 
-#[derive(Drop)]
+#[derive(Clone, Copy)]
 pub enum Form {
     Td1,
     Td2,
@@ -18,7 +18,7 @@ pub enum Form {
 }
 
 // What a document is, which its code tells.
-#[derive(Drop)]
+#[derive(Clone, Copy)]
 pub enum Kind {
     Card,
     Passport,
@@ -26,7 +26,7 @@ pub enum Kind {
 }
 
 // Where a text stands, on which it depends what forms it may have.
-#[derive(Drop)]
+#[derive(Clone, Copy)]
 pub enum Source {
     Alone,
     GroupOne,
@@ -34,7 +34,7 @@ pub enum Source {
 }
 
 // What a text tells, or a number in an entry.
-#[derive(Drop)]
+#[derive(Clone, Copy)]
 pub enum Recognised {
     As(Form),
     Unknown,
@@ -42,7 +42,7 @@ pub enum Recognised {
 
 // The row of constants of a form: where each part of a text begins, how wide it is where forms differ, and what else they differ
 // in. A part that the form does not have begins at the text's end and has no width.
-#[derive(Drop)]
+#[derive(Clone, Copy)]
 pub struct Places {
     pub kind: Kind,
     // The form's number in an entry.

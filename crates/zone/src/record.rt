@@ -6,7 +6,7 @@ ghost use Rattle.zone.specs.Record.{blank, trimmed_length};
 use crate::alphabet::{FILLER, all_fillers};
 use crate::form::Form;
 
-#[derive(Drop)]
+#[derive(Clone, Copy)]
 pub struct Record {
     pub form: Form,
     pub code: [u8; Form::CODE],

@@ -1,0 +1,16 @@
+-- Character by character.
+use borrow.Author.Rules.{rules}
+use mathlib.Core.Path.{sym}
+use lib.ListN.{take, drop}
+use Rattle.zone.proofs.Filled.{two_filled}
+use Rattle.zone.proofs.taken.code_at.Goals as goal
+
+pub returns : goal.returns
+returns c =
+    let a = c.args in
+    rw (
+      c.or_filler-2.ensures,
+      c.or_filler.ensures,
+      c.part-part.ensures,
+    )
+    (sym (two_filled (take 2 (drop a.at a.s.now))))

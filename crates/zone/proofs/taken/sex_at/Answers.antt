@@ -1,0 +1,6 @@
+-- The first character of a part of one.
+use borrow.Author.Rules.{rules}
+use Rattle.zone.proofs.taken.sex_at.Goals as goal
+
+pub returns : goal.returns
+returns c = rw (c.or_filler.ensures, c.part.ensures)
