@@ -26,7 +26,7 @@ returns-in-4 c = rw c.in-4.is
 pub returns-in_default : goal.returns-in_default
 unfolding form_by first_form forms row
 returns-in_default c =
-    let r = c.in_default.in_default-own in
+    let r = c.in_default.in_default-own.rest in
     simp (
       ne_eqb _ _ r.1,
       ne_eqb _ _ r.0.1,

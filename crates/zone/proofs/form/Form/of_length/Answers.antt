@@ -26,4 +26,4 @@ returns-else-visa-2 c = rw (c.in-88.is, c.if-visa-2.false)
 pub returns-in_default : goal.returns-in_default
 unfolding first_form forms row is_visa
 returns-in_default c =
-    let r = c.in_default.in_default-own in simp (ne_eqb _ _ r.1, ne_eqb _ _ r.0.1, ne_eqb _ _ r.0.0.1)
+    let r = c.in_default.in_default-own.rest in simp (ne_eqb _ _ r.1, ne_eqb _ _ r.0.1, ne_eqb _ _ r.0.0.1)
