@@ -1,0 +1,8 @@
+-- The three values.
+use borrow.Author.Rules.{rules}
+use Rattle.c40.specs.Image.{packed}
+use Rattle.c40.proofs.image.three_packed.Goals as goal
+
+pub returns : goal.returns
+unfolding packed
+returns c = search rules

@@ -1,0 +1,41 @@
+-- The tests that led to each `return` are those of `value_of`.
+use Rattle.lent.proofs.Tests.{tests}
+use Rattle.zone.specs.Alphabet.{is_digit, is_letter}
+use Rattle.c40.specs.Values.{value_of}
+use Rattle.c40.proofs.image.value_of.Goals as goal
+
+pub overflow_cast-result : goal.overflow_cast-result
+unfolding value_of is_digit is_letter
+overflow_cast-result c = search tests
+
+pub overflow_add-result : goal.overflow_add-result
+unfolding value_of is_digit is_letter
+overflow_add-result c = search tests
+
+pub overflow_cast-result-in-65-to-90 : goal.overflow_cast-result-in-65-to-90
+unfolding value_of is_digit is_letter
+overflow_cast-result-in-65-to-90 c = search tests
+
+pub overflow_add-result-in-65-to-90 : goal.overflow_add-result-in-65-to-90
+unfolding value_of is_digit is_letter
+overflow_add-result-in-65-to-90 c = search tests
+
+pub returns-in-48-to-57 : goal.returns-in-48-to-57
+unfolding value_of is_digit is_letter
+returns-in-48-to-57 c = (search tests, search tests)
+
+pub returns-in-65-to-90 : goal.returns-in-65-to-90
+unfolding value_of is_digit is_letter
+returns-in-65-to-90 c = (search tests, search tests)
+
+pub returns-in_default : goal.returns-in_default
+unfolding value_of is_digit is_letter
+returns-in_default c = (search tests, search tests)
+
+pub returns-in_default-2 : goal.returns-in_default-2
+unfolding value_of is_digit is_letter
+returns-in_default-2 c = (search tests, search tests)
+
+pub returns-in_default-3 : goal.returns-in_default-3
+unfolding value_of is_digit is_letter
+returns-in_default-3 c = (search tests, search tests)

@@ -1,0 +1,6 @@
+-- One call on the characters.
+use borrow.Author.Rules.{rules}
+use Rattle.digit.proofs.composite.some.Goals as goal
+
+pub returns : goal.returns
+returns c = (rw (c.weighed.ensures.0, c.counted.ensures), c.weighed.ensures.1)

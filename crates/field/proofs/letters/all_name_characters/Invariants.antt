@@ -1,0 +1,19 @@
+-- The last sixteen and those that were passed are fine; in the end they reach into each other.
+use Prim.Native.Nat.{◌≤◌, ◌+◌, ◌-◌}
+use mathlib.Core.Path.{◌≡◌, sym, ◌∙◌}
+use mathlib.Core.Bool.{◌&&◌, and-true}
+use native.Mathlib.Omega.{arith}
+use borrow.Author.Rules.{rules}
+use lib.ListN.{length, take, drop}
+use Rattle.lent.proofs.Lists.{rest_all}
+use Rattle.zone.specs.Alphabet.{every}
+use Rattle.zone.proofs.Every.{every_piece, every_overlap}
+use Rattle.field.specs.Letters.{is_name_character}
+use Rattle.field.proofs.letters.all_name_characters.Given as goal
+
+abbrev pub invariant-loop-i : goal.invariant-loop-i
+invariant-loop-i l =
+    (l.i ≤ length l.s) × (l.fine ≡ every is_name_character (drop (length l.s - 16) l.s) && every is_name_character (take l.i l.s))
+
+abbrev pub decreases-loop-i : goal.decreases-loop-i
+decreases-loop-i l = length l.s - l.i

@@ -1,0 +1,12 @@
+-- The two orders.
+use borrow.Author.Rules.{rules}
+use Rattle.text_digits.specs.Inner.Checks.{in_turn}
+use Rattle.text_digits.proofs.order.in_turn.Goals as goal
+
+pub returns-then-ahead : goal.returns-then-ahead
+unfolding in_turn
+returns-then-ahead c = rw (c.or_else.ensures, c.if-ahead.true)
+
+pub returns-else-ahead : goal.returns-else-ahead
+unfolding in_turn
+returns-else-ahead c = rw (c.or_else-else-ahead.ensures, c.if-ahead.false)
