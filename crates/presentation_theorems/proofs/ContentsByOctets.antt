@@ -6,7 +6,7 @@ use mathlib.Core.Logic.{inl, inr}
 use mathlib.Core.Bool.{Bool, true, false, cond, not, false≢true}
 use mathlib.Core.List.{List, [], ◌∷◌, ◌++◌, append-nil}
 use native.Mathlib.Omega.{arith}
-use borrow.Author.Tests.{not_true}
+use borrow.Author.Tests.{not-true}
 use lib.ListN.{length, get_or, length-append}
 use Rattle.lent.proofs.Bools.{and_both}
 use Rattle.tlv.specs.Element.{tlv}
@@ -131,11 +131,11 @@ content_tells n a b [] once k l = absurd k
 content_tells n a b (x ∷ ls) once (inl k) (inl l) = ap (λ (f : Lent). f.content) (k ∙ sym l)
 content_tells n a b (x ∷ ls) once (inl k) (inr m) =
     let c = and_both (not (stands x.tag (tags_of ls))) (is_once (tags_of ls)) once in
-    absurd (false≢true (sym (not_true (stands x.tag (tags_of ls)) c.0) ∙ ap (λ (f : Lent). stands f.tag (tags_of ls))
+    absurd (false≢true (sym (not-true (stands x.tag (tags_of ls)) c.0) ∙ ap (λ (f : Lent). stands f.tag (tags_of ls))
     (sym k) ∙ in_tags (record { tag = n; content = b }) ls m))
 content_tells n a b (x ∷ ls) once (inr m) (inl l) =
     let c = and_both (not (stands x.tag (tags_of ls))) (is_once (tags_of ls)) once in
-    absurd (false≢true (sym (not_true (stands x.tag (tags_of ls)) c.0) ∙ ap (λ (f : Lent). stands f.tag (tags_of ls))
+    absurd (false≢true (sym (not-true (stands x.tag (tags_of ls)) c.0) ∙ ap (λ (f : Lent). stands f.tag (tags_of ls))
     (sym l) ∙ in_tags (record { tag = n; content = a }) ls m))
 content_tells n a b (x ∷ ls) once (inr m) (inr o) =
     content_tells n a b ls (and_both (not (stands x.tag (tags_of ls))) (is_once (tags_of ls)) once).1 m o

@@ -4,7 +4,7 @@ use Prim.Native.Nat.{ℕ, suc, ◌≤◌}
 use mathlib.Core.Path.{◌≡◌, refl, ap, sym, ◌∙◌, subst}
 use mathlib.Core.Bool.{Bool, true, false, cond, not, ◌&&◌, ◌||◌}
 use mathlib.Core.List.{List, [], ◌∷◌, ◌++◌, append-nil}
-use borrow.Author.Tests.{not_true}
+use borrow.Author.Tests.{not-true}
 use lib.ListN.{length, take, drop}
 use Rattle.lent.proofs.Bools.{and_both, both_and, not_so}
 use Rattle.refusal.specs.Numbers.{by}
@@ -65,7 +65,7 @@ unfolding once_from once_after
 once_back place before [] e = refl
 once_back place before (c ∷ t) e =
     let both = and_both (not (stands c before)) (once_after (c ∷ before) t) e in
-    rw (not_true (stands c before) both.0) (once_back (suc place) (c ∷ before) t both.1)
+    rw (not-true (stands c before) both.0) (once_back (suc place) (c ∷ before) t both.1)
 
 pub record TagsKept (tags : List ℕ) : Type 0 where
   pub known_tags : every is_group tags ≡ true

@@ -6,7 +6,7 @@ use mathlib.Core.Bool.{Bool, true, false, cond, not, ◌&&◌, false≢true}
 use mathlib.Core.List.{List, [], ◌∷◌}
 use mathlib.Core.Logic.{inl, inr}
 use native.Mathlib.Omega.{arith}
-use borrow.Author.Tests.{eqb-true, eq-eqb, ne_eqb, not_true, ltb-true}
+use borrow.Author.Tests.{eqb-true, eq-eqb, ne_eqb, not-true, ltb-true}
 use lib.Dec.{eqb, leb, ltb}
 use lib.ListN.{take, drop, get_or}
 use Rattle.lent.proofs.Bools.{and_both, both_and, not_so}
@@ -64,7 +64,7 @@ in_digest w g d n (x ∷ es) once held (inr m) =
     let c = and_both (not (stands x.group (numbers (signed_in w es)))) (is_once (numbers (signed_in w es))) once in
     let later : stands g (numbers (signed_in w es)) ≡ true = in_numbers (record { number = g; digest = d }) (signed_in w es) m in
     let none : stands x.group (numbers (signed_in w es))
-    ≡ false = not_true (stands x.group (numbers (signed_in w es))) c.0 in
+    ≡ false = not-true (stands x.group (numbers (signed_in w es))) c.0 in
     let other : eqb x.group g ≡ false = ne_eqb x.group g
     (λ f. false≢true (sym none ∙ ap (λ (z : ℕ). stands z (numbers (signed_in w es))) f ∙ later)) in
     rw other (in_digest w g d n es c.1 a.1 m)
@@ -106,7 +106,7 @@ module _ (w tags : List ℕ) (es : List GroupHash) where
       let digest : take 32 (drop (digest_for g es) w) ≡ sha256 (file_of (lent_at w f)) = sym same ∙ ap sha256 (whole_file w f h) in
       let signed = subst (λ (d : List ℕ). IsIn (record { number = g; digest = d }) (signed_in w es)) digest
       (digest_in w g es c.1) in
-      (record { is_listed = b.0; is_signed = signed }, not_true (stands t before) c.0)
+      (record { is_listed = b.0; is_signed = signed }, not-true (stands t before) c.0)
 
   backed_file : (n : ℕ) → held_in n es ≡ true → is_once (numbers (signed_in w es)) ≡ true → (before : List ℕ) (f : File)
       → FileStands w f
@@ -147,5 +147,5 @@ module _ (w tags : List ℕ) (es : List GroupHash) where
       let t = get_or w f.start 0 in
       let a = and_both (not (stands t before)) (once_after (t ∷ before) (tags_of (lent_in w fs))) new in
       let first : check before f ≡ passed = backed_file n held once before f (h f (inl refl)) (b (lent_at w f) (inl refl))
-      (not_true (stands t before) a.0) in
+      (not-true (stands t before) a.0) in
       rw first (backed_files n held once (t ∷ before) fs (λ g m. h g (inr m)) a.1 (λ l m. b l (inr m)))

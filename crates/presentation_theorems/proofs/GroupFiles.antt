@@ -5,7 +5,7 @@ use mathlib.Core.Bool.{Bool, true, false, cond}
 use mathlib.Core.List.{List, [], ◌∷◌, ◌++◌}
 use mathlib.Core.Logic.{inl, inr}
 use native.Mathlib.Omega.{arith}
-use borrow.Author.Tests.{leb-true, le-leb, lt-leb, ne_eqb, ltb-false, ltb-true, not_true, eqb-false}
+use borrow.Author.Tests.{leb-true, le-leb, lt-leb, ne_eqb, ltb-false, ltb-true, not-true, eqb-false}
 use lib.Dec.{eqb, leb, ltb}
 use lib.ListN.{length, drop, get_or, length-append, length-drop, drop_of_length-le}
 use Rattle.tlv.specs.declared.Stretch.{Stretch}
@@ -43,7 +43,7 @@ group_below tag e = go (ltb tag 256) refl
   where
     go : (b : Bool) → ltb tag 256 ≡ b → tag < 256
     go true f = ltb-true tag 256 f
-    go false f = absurd (eqb-false (group_of tag) 0 (not_true (eqb (group_of tag) 0) e) (no_group tag (ltb-false tag 256 f)))
+    go false f = absurd (eqb-false (group_of tag) 0 (not-true (eqb (group_of tag) 0) e) (no_group tag (ltb-false tag 256 f)))
 
 -- ---- the file that was walked
 

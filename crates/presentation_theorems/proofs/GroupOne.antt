@@ -6,7 +6,7 @@ use mathlib.Core.Bool.{Bool, true, false, cond, not, ◌&&◌, false≢true}
 use mathlib.Core.List.{List, [], ◌∷◌, ◌++◌, append-nil}
 use mathlib.Core.Logic.{inl, inr}
 use native.Mathlib.Omega.{arith}
-use borrow.Author.Tests.{eqb-true, eq-eqb, ne_eqb, not_true, leb-true}
+use borrow.Author.Tests.{eqb-true, eq-eqb, ne_eqb, not-true, leb-true}
 use lib.Dec.{eqb, leb}
 use lib.ListN.{length, take, drop, get_or}
 use Rattle.lent.proofs.Bools.{and_both}
@@ -143,7 +143,7 @@ found_first w c (x ∷ fs) once (inr m) =
     let t = get_or w x.start 0 in
     let a = and_both (not (stands t (tags_of (lent_in w fs)))) (is_once (tags_of (lent_in w fs))) once in
     let later : stands 0x61 (tags_of (lent_in w fs)) ≡ true = in_tags (record { tag = 0x61; content = c }) (lent_in w fs) m in
-    let none : stands t (tags_of (lent_in w fs)) ≡ false = not_true (stands t (tags_of (lent_in w fs))) a.0 in
+    let none : stands t (tags_of (lent_in w fs)) ≡ false = not-true (stands t (tags_of (lent_in w fs))) a.0 in
     let other : eqb (group_of t) 1 ≡ false = ne_eqb (group_of t) 1
     (λ f. false≢true (sym none ∙ ap (λ (z : ℕ). stands z (tags_of (lent_in w fs))) (one_tag t f) ∙ later)) in
     let rest = found_first w c fs a.1 m in

@@ -4,7 +4,7 @@ use mathlib.Core.Path.{◌≡◌, refl, ap, sym, ◌∙◌}
 use mathlib.Core.Bool.{Bool, true, false, not, ◌&&◌, ◌||◌, false≢true}
 use mathlib.Core.List.{List, [], ◌∷◌}
 use mathlib.Core.Logic.{◌⊎◌, inl, inr}
-use borrow.Author.Tests.{eqb-true, eq-eqb, ne_eqb, not_true}
+use borrow.Author.Tests.{eqb-true, eq-eqb, ne_eqb, not-true}
 use lib.Dec.{eqb}
 use Rattle.lent.proofs.Bools.{and_both, both_and, or_either, not_so, or_neither}
 use Rattle.lent.specs.Octets.{stands}
@@ -37,7 +37,7 @@ once_apart before [] e = (refl, λ d h. absurd (false≢true h))
 once_apart before (c ∷ t) e =
     let both = and_both (not (stands c before)) (once_after (c ∷ before) t) e in
     let rest = once_apart (c ∷ before) t both.1 in
-    (both_and (not_so (stands c t) (none rest.1)) rest.0, apart (not_true (stands c before) both.0) rest.1)
+    (both_and (not_so (stands c t) (none rest.1)) rest.0, apart (not-true (stands c before) both.0) rest.1)
   where
     none : ((d : ℕ) → stands d t ≡ true → stands d (c ∷ before) ≡ false) → stands c t ≡ false
     none h = go (stands c t) refl
@@ -60,7 +60,7 @@ apart_once before [] e h = refl
 apart_once before (c ∷ t) e h =
     let both = and_both (not (stands c t)) (is_once t) e in
     both_and (not_so (stands c before) (h c (stands_first c t)))
-    (apart_once (c ∷ before) t both.1 (later (not_true (stands c t) both.0)))
+    (apart_once (c ∷ before) t both.1 (later (not-true (stands c t) both.0)))
   where
     later : stands c t ≡ false → (d : ℕ) → stands d t ≡ true → stands d (c ∷ before) ≡ false
     later f d g = rw (ne_eqb d c (λ k. false≢true (sym f ∙ ap (λ (x : ℕ). stands x t) (sym k) ∙ g)))

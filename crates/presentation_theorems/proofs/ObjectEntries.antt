@@ -6,7 +6,7 @@ use mathlib.Core.Bool.{Bool, true, false, cond, not, ◌&&◌}
 use mathlib.Core.List.{List, [], ◌∷◌, ◌++◌, append-nil}
 use mathlib.Core.Logic.{inl, inr}
 use native.Mathlib.Omega.{arith}
-use borrow.Author.Tests.{leb-true, le-leb, lt-leb, lt-ltb, not_true}
+use borrow.Author.Tests.{leb-true, le-leb, lt-leb, lt-ltb, not-true}
 use lib.Dec.{leb}
 use lib.ListN.{length, take, drop, length-append, length-drop, drop_of_length-le}
 use lib.Seq.{length-take-le}
@@ -144,7 +144,7 @@ unfolding numbers_once once_after numbers signed_in signed_at
 numbers_once_lem s before [] e = refl
 numbers_once_lem s before (x ∷ es) e =
     let both = and_both (not (stands x.group before)) (once_after (x.group ∷ before) (numbers (signed_in s es))) e in
-    rw (not_true (stands x.group before) both.0) (numbers_once_lem s (x.group ∷ before) es both.1)
+    rw (not-true (stands x.group before) both.0) (numbers_once_lem s (x.group ∷ before) es both.1)
 
 counted : (s : List ℕ) (es : List GroupHash) → length es ≡ length (signed_in s es)
 unfolding signed_in

@@ -7,7 +7,7 @@ use mathlib.Core.Logic.{◌↔◌}
 use mathlib.Core.Bool.{false, not}
 use mathlib.Core.List.{List, ◌++◌}
 use native.Mathlib.Omega.{arith}
-use borrow.Author.Tests.{eqb-false, ne_eqb, le-leb, not_true}
+use borrow.Author.Tests.{eqb-false, ne_eqb, le-leb, not-true}
 use lib.Dec.{eqb, leb}
 use lib.ListN.{length, drop, length-append}
 use lib.Seq.{drop_at}
@@ -71,7 +71,7 @@ zones_contents s small z e =
     f = z.message
 
     go : walked.Found s (header_end s) 0 f → (p : Contents) × (s ≡ octets_of p) × Shaped p × (p.text ≡ text_in s f)
-    go (without fs o e z) = absurd (eqb-false f.text 0 (not_true (eqb f.text 0) k.some_stage) z)
+    go (without fs o e z) = absurd (eqb-false f.text 0 (not-true (eqb f.text 0) k.some_stage) z)
     go (with bs cs d y o u n e place) =
         let h = header_read s small k.head_stage in
         let at = header_end s in

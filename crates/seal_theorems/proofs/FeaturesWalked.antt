@@ -5,7 +5,7 @@ use mathlib.Core.Bool.{Bool, true, false, cond, not, ◌&&◌, false≢true, or-
 use mathlib.Core.List.{List, [], ◌∷◌, ◌++◌, append_assoc, append-nil}
 use native.Mathlib.Nat.{add-zero}
 use native.Mathlib.Omega.{arith}
-use borrow.Author.Tests.{eq-eqb, lt-leb, ltb-true, not_true}
+use borrow.Author.Tests.{eq-eqb, lt-leb, ltb-true, not-true}
 use lib.Dec.{eqb, leb, ltb}
 use lib.ListN.{length, drop, get_or, length-append, length-drop}
 use Rattle.lent.proofs.Bools.{and_both, both_and}
@@ -121,9 +121,9 @@ module _ (s : List ℕ) (most : length s ≤ 65535) where
       let all = and_both (is_other x.tag) (are_others fs) o in
       let a = and_both (ltb x.tag 256) (not (eqb x.tag text_tag) && not (eqb x.tag signature_tag)) all.0 in
       let b = and_both (not (eqb x.tag text_tag)) (not (eqb x.tag signature_tag)) a.1 in
-      let other = not_true (eqb x.tag text_tag) b.0 in
+      let other = not-true (eqb x.tag text_tag) b.0 in
       let p = one_passed at text x (joined fs ++ r) (ltb-true x.tag 256 a.0) (λ q. absurd (false≢true (sym other ∙ q)))
-      (e ∙ append_assoc (feature_of x) (joined fs) r) more (not_true (eqb x.tag signature_tag) b.1) enough in
+      (e ∙ append_assoc (feature_of x) (joined fs) r) more (not-true (eqb x.tag signature_tag) b.1) enough in
       let q = others_passed fs p.left (at + length (feature_of x)) text r all.1 p.left_enough p.to_within
       p.left_there in
       let to : at + length (feature_of x ++ joined fs) ≡ at + length (feature_of x) + length (joined fs) =

@@ -2,7 +2,7 @@
 use Prim.Native.Nat.{ℕ, ◌-◌, zero, suc, ◌+◌, ◌≤◌, ◌<◌}
 use mathlib.Core.Path.{◌≡◌, refl}
 use mathlib.Core.Bool.{true, false, Bool, cond, ◌&&◌}
-use borrow.Author.Tests.{not_true}
+use borrow.Author.Tests.{not-true}
 use mathlib.Core.List.{List, [], ◌∷◌, ◌++◌}
 use native.Mathlib.Omega.{arith}
 use lib.Dec.{eqb, eqb-suc-zero}
@@ -15,7 +15,7 @@ use Rattle.zone.proofs.Padded.{padded_cons}
 
 pub solid : (c : ℕ) → is_solid c ≡ true → is_filler c ≡ false
 unfolding is_solid
-solid c e = not_true (is_filler c) e
+solid c e = not-true (is_filler c) e
 
 all_solid : (b : List ℕ) → every is_solid b ≡ true → trimmed_length b ≡ length b
 unfolding every trimmed_length

@@ -1,0 +1,29 @@
+use borrow.Author.Rules.{rules}
+use Prim.Native.Nat.{◌≤◌, ◌<◌, ◌*◌, ◌-◌}
+use mathlib.Core.Path.{◌≡◌, sym, ◌∙◌}
+use mathlib.Core.List.{◌++◌}
+use native.Mathlib.Omega.{arith}
+use lib.ListN.{length, take, drop}
+use Rattle.packing.specs.Packed.{packed}
+use Rattle.packing.proofs.Packing.{none_on, pack_more, pack_ends}
+use Rattle.packing.proofs.pack.pack_fours.Goals as goal
+
+pub loop-i-preserved : goal.loop-i-preserved
+loop-i-preserved c =
+    let l = c.loop-i in
+    let a = c.args in
+    let four = c.four_at-number in
+    let h : l.i < a.fours = omega arith in (
+      search rules,
+      search rules,
+      rw (c.put_three.ensures, l.invariant.2)
+          (pack_more 0 a.out.now a.s.now a.fours l.i four.result (search rules) h
+          (four.ensures.0 ∙ sym (none_on a.s.now (4 * l.i)))),
+    )
+
+pub returns : goal.returns
+returns c =
+    let l = c.loop-i in
+    let a = c.args in
+    let e : l.i ≡ a.fours = omega arith in
+    l.invariant.2 ∙ pack_ends 0 a.out.now a.s.now a.fours l.i (search rules) e

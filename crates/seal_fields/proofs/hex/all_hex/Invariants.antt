@@ -1,0 +1,16 @@
+-- What was passed and what is left decide for the whole.
+use Prim.Native.Nat.{◌≤◌, ◌-◌}
+use mathlib.Core.Path.{◌≡◌, refl}
+use mathlib.Core.Bool.{◌&&◌}
+use borrow.Author.Rules.{rules}
+use lib.ListN.{length, drop}
+use Rattle.zone.specs.Alphabet.{every}
+use Rattle.zone.proofs.Every.{every_step, every_done}
+use Rattle.seal_fields.specs.Hex.{is_hex}
+use Rattle.seal_fields.proofs.hex.all_hex.Given as goal
+
+abbrev pub invariant-loop-i : goal.invariant-loop-i
+invariant-loop-i l = (l.i ≤ length l.s) × (l.fine && every is_hex (drop l.i l.s) ≡ every is_hex l.s)
+
+abbrev pub decreases-loop-i : goal.decreases-loop-i
+decreases-loop-i l = length l.s - l.i
