@@ -1,0 +1,19 @@
+-- The rule on the field, at the field's start.
+use borrow.Author.Rules.{rules}
+use Rattle.zone.proofs.Widths.{fixed}
+use Rattle.text.specs.Order.{field_rows}
+use Rattle.zone.specs.Form.{field}
+use Rattle.zone.specs.Inner.Places.{places_of}
+use Rattle.text_digits.specs.Number.{number_rule}
+use Rattle.text.proofs.fields.number_check.Goals as goal
+
+pub returns : goal.returns
+unfolding field_rows places_of field number_rule
+returns c =
+    rw (
+      c.judged.ensures,
+      c.is_number.ensures,
+      c.part.ensures,
+      c.places-at.ensures,
+      (fixed c.args.form).number_width,
+    )

@@ -1,0 +1,21 @@
+-- A copy over fillers, among which trailing fillers make no difference.
+use borrow.Author.Rules.{rules}
+use mathlib.Core.Path.{sym, ◌∙◌}
+use Rattle.zone.specs.Part.{name}
+use Rattle.zone.proofs.Padded.{copied_padded, padded_trimmed}
+use Rattle.zone.specs.Form.{field}
+use Rattle.zone.specs.Inner.Places.{places_of}
+use Rattle.text.proofs.record.name_chars.Goals as goal
+
+pub returns : goal.returns
+unfolding places_of field
+returns c =
+    let a = c.args in
+    let s = field a.form name a.text.now in
+    rw (
+      c.copy.ensures,
+      c.part.ensures,
+      c.name_width.ensures,
+      c.places-at.ensures,
+    )
+    (copied_padded 39 s ∙ sym (padded_trimmed 39 s))

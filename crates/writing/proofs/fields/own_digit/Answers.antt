@@ -1,0 +1,6 @@
+-- One call on a part.
+use borrow.Author.Rules.{rules}
+use Rattle.writing.proofs.fields.own_digit.Goals as goal
+
+pub returns : goal.returns
+returns c = rw (c.of.ensures, c.part.ensures)

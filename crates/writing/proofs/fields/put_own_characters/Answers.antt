@@ -1,0 +1,6 @@
+-- One copy of a part.
+use borrow.Author.Rules.{rules}
+use Rattle.writing.proofs.fields.put_own_characters.Goals as goal
+
+pub returns : goal.returns
+returns c = rw (c.copy_at.ensures, c.part.ensures)
