@@ -36,5 +36,6 @@ first_failing (refused m q ∷ os) n p e = rw (sym same_number, sym same_place) 
 
 pub failing_first : (os : List Outcome) (n : Why) (p : ℕ) → FirstFailing os n p → first_of os ≡ refused n p
 unfolding first_of
+failing_first [] n p h = elim h [ ]
 failing_first (refused m q ∷ os) n p here = refl
 failing_first (passed ∷ os) n p (later h) = failing_first os n p h

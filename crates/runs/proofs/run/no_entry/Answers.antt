@@ -1,0 +1,8 @@
+-- The refusal, and the blank record beside it.
+use borrow.Author.Rules.{rules}
+use Rattle.runs.specs.Run.{standing_of, no_entry}
+use Rattle.runs.proofs.run.no_entry.Goals as goal
+
+pub returns : goal.returns
+unfolding standing_of no_entry
+returns c = rw (c.blank.ensures, c.at.ensures)
