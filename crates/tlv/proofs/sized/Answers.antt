@@ -1,0 +1,39 @@
+-- The length is told by three octets, or fewer.
+use Rattle.tlv.specs.Element.{sized, size_at}
+use Rattle.tlv.specs.Inner.Counts.{count_in}
+use native.Mathlib.Omega.{arith}
+use Rattle.tlv.proofs.sized.Goals as goal
+
+pub overflow_add-from : goal.overflow_add-from
+unfolding count_in
+overflow_add-from c = let k = rw c.in-Of.is at c.size_of.ensures.result_bound.0 in omega
+    (arith, k, c.requires)
+
+pub overflow_add-from-in-Of : goal.overflow_add-from-in-Of
+unfolding count_in
+overflow_add-from-in-Of c = let k = rw c.in-Of.is at
+    c.size_of.ensures.result_bound.0 in let n = rw c.in-Of.is at
+    c.size_of.ensures.result_bound.1 in omega
+    (arith, k, n, c.requires)
+
+pub returns-in-Of : goal.returns-in-Of
+unfolding sized size_at
+returns-in-Of c = rw (
+  ← c.octet-c.ensures,
+  ← c.octet-b.ensures,
+  ← c.octet-a.ensures,
+  ← c.size_of.ensures.value,
+  c.in-Of.is,
+)
+    c.ends_within.ensures
+
+pub returns-in-Unknown : goal.returns-in-Unknown
+unfolding sized size_at
+returns-in-Unknown c = rw (
+  ← c.octet-c.ensures,
+  ← c.octet-b.ensures,
+  ← c.octet-a.ensures,
+  ← c.size_of.ensures.value,
+  c.in-Unknown.is,
+)
+    c.refuse.ensures
