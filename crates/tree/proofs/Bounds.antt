@@ -1,10 +1,9 @@
 -- An element ends behind its place and within what holds it, and there are no more elements than octets.
 use Prim.Native.Nat.{ℕ, zero, suc, ◌+◌, ◌≤◌, ◌<◌}
-use mathlib.Core.Path.{◌≡◌, refl, sym}
+use mathlib.Core.Path.{◌≡◌}
 use mathlib.Core.Bool.{Bool, true, false, cond}
 use mathlib.Core.List.{List}
 use native.Mathlib.Omega.{arith}
-use borrow.Author.Tests.{leb-true, leb-false}
 use lib.Dec.{leb}
 use lib.ListN.{length, take, get_or}
 use lib.Seq.{length-take-le}
@@ -14,7 +13,7 @@ use Rattle.tlv.specs.Read.{Read, value, refusal, and_then}
 use Rattle.tlv.specs.Cut.{cut}
 use Rattle.tlv.proofs.Joined.{never_value, same_value, first_value}
 use Rattle.tree.specs.Tag.{is_constructed, tag_here}
-use Rattle.tree.specs.Tree.{Tree, one, holds, Forest, empty, more, elements, all_elements}
+use Rattle.tree.specs.Tree.{one, holds, Forest, empty, more, elements, all_elements}
 use Rattle.tree.specs.Reading.{Found, here, forest_from, forest, inside, tree_at}
 use Rattle.tree.proofs.Heads.{here_within}
 

@@ -1,15 +1,14 @@
 -- The head of an element, by the octets that stand first.
-use Prim.Native.Nat.{ℕ, ◌+◌, ◌*◌, ◌%◌, ◌≤◌, ◌<◌}
-use mathlib.Core.Path.{◌≡◌, refl, ap, sym, ◌∙◌}
+use Prim.Native.Nat.{ℕ, ◌+◌, ◌%◌, ◌≤◌, ◌<◌}
+use mathlib.Core.Path.{◌≡◌, refl}
 use mathlib.Core.Bool.{Bool, true, false, cond}
 use mathlib.Core.List.{List}
 use native.Mathlib.Omega.{arith}
 use borrow.Author.Tests.{eq-eqb, ne_eqb, le-leb, lt-leb}
-use lib.Dec.{eqb, leb}
 use lib.ListN.{length, get_or}
 use Rattle.refusal.specs.Numbers.{by}
 use Rattle.tlv.specs.declared.Stretch.{Stretch}
-use Rattle.tlv.specs.Read.{Read, value, refusal}
+use Rattle.tlv.specs.Read.{value, refusal}
 use Rattle.tlv.specs.Element.{size_of, size_at, sized, ends_within, behind_tag, element}
 use Rattle.tlv.proofs.Joined.{kept_value}
 use Rattle.tlv.proofs.Past.{none_past, value_within}

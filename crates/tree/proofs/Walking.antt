@@ -7,7 +7,7 @@ use native.Mathlib.Nat.{zero-add, add-zero, add_assoc}
 use native.Mathlib.Numerals.{add-one}
 use native.Mathlib.Omega.{arith}
 use borrow.Author.Tests.{le-leb, lt-leb, ltb-false}
-use lib.Dec.{leb, ltb}
+use lib.Dec.{ltb}
 use lib.ListN.{length, take, get_or}
 use lib.Seq.{length-take-le}
 use Rattle.lent.proofs.Bools.{and_both}
@@ -19,11 +19,11 @@ use Rattle.tlv.proofs.Joined.{never_value, same_value, first_value}
 use Rattle.tlv.proofs.Steps.{steps_enough}
 use Rattle.tree.specs.declared.Passed.{Passed}
 use Rattle.tree.specs.Tag.{is_constructed, tag_here}
-use Rattle.tree.specs.Tree.{Tree, one, holds, Forest, empty, more, elements, all_elements}
+use Rattle.tree.specs.Tree.{one, holds, Forest, empty, more, elements, all_elements}
 use Rattle.tree.specs.Reading.{Found, here, forest_from, forest, inside, tree_at}
 use Rattle.tree.specs.Inner.Passed.{passing, counting}
 use Rattle.tree.proofs.Heads.{here_within}
-use Rattle.tree.proofs.Bounds.{Bound, tree_bound, forest_bound}
+use Rattle.tree.proofs.Bounds.{tree_bound, forest_bound}
 
 -- ---- a list of elements, each read in the same way
 

@@ -1,0 +1,99 @@
+use Rattle.std.proofs.Common.{◌∙◌, ◌-◌, sym, ap, arith}
+use lib.Seq.{length-take-le}
+use Rattle.tree.specs.Inner.Passed.{counting}
+use Rattle.tree.proofs.Heads.{here_within}
+use Rattle.tree.proofs.Walking.{plus, plus_none, plus_plus, plus_ended, plus_stopped, passing_bound, held_bound}
+use Rattle.tree.proofs.Walking.{counting_done, counting_next, counting_refused}
+use Rattle.tree.proofs.Walking.{passing_refused, passing_deep, passing_one, passing_held, passing_stopped}
+use Rattle.tree.proofs.+element_list.Goals as goal
+
+pub element-returns-then-levels-eq0 : goal.element-returns-then-levels-eq0
+element-returns-then-levels-eq0 t c =
+    let a = c.args in
+    rw c.at.ensures (sym (passing_deep a.levels a.s.now a.at c.in-Value.v (sym c.in-Value.ensures) c.if-levels-eq0.true))
+
+pub element-slice_bounds-list-end : goal.element-slice_bounds-list-end
+element-slice_bounds-list-end t c =
+    let a = c.args in
+    let v = c.in-Value in
+    sym (length-take-le v.v.to a.s.now (here_within a.s.now a.at v.v (sym v.ensures)).2)
+
+pub element-overflow_add-result : goal.element-overflow_add-result
+element-overflow_add-result t c =
+    let a = c.args in
+    let v = c.in-Value in
+    let n = c.in-Elements in
+    omega (arith, held_bound (a.levels - 1) a.s.now a.at v.v (sym v.ensures) n.n (sym n.ensures))
+
+pub element-returns-in-Elements : goal.element-returns-in-Elements
+element-returns-in-Elements t c =
+    let a = c.args in
+    let v = c.in-Value in
+    let n = c.in-Elements in
+    sym (passing_held a.levels a.s.now a.at v.v (sym v.ensures) (a.levels - 1)
+    (omega (arith, c.if-levels-eq0.false)) (sym c.if-opens.ensures) n.n (sym n.ensures))
+
+pub element-returns-in-Refused-list : goal.element-returns-in-Refused-list
+element-returns-in-Refused-list t c =
+    let a = c.args in
+    let v = c.in-Value in
+    sym (passing_stopped a.levels a.s.now a.at v.v (sym v.ensures) (a.levels - 1)
+    (omega (arith, c.if-levels-eq0.false)) (sym c.if-opens.ensures) _ _ (sym c.in-Refused-list.ensures))
+
+pub element-returns-else-opens : goal.element-returns-else-opens
+element-returns-else-opens t c =
+    let a = c.args in
+    let v = c.in-Value in
+    sym (passing_one a.levels a.s.now a.at v.v (sym v.ensures) (a.levels - 1)
+    (omega (arith, c.if-levels-eq0.false)) (sym c.if-opens.ensures))
+
+pub element-returns-in-Refused : goal.element-returns-in-Refused
+element-returns-in-Refused t c =
+    let a = c.args in
+    sym (passing_refused a.levels a.s.now a.at _ _ (sym c.in-Refused.ensures))
+
+pub list-loop-at-init : goal.list-loop-at-init
+list-loop-at-init t c = (plus_none (counting c.args.levels c.args.s.now c.args.start), omega arith)
+
+pub list-overflow_add-elements : goal.list-overflow_add-elements
+list-overflow_add-elements t c =
+    let a = c.args in
+    let l = c.loop-at in
+    let p = c.in-Whole in
+    let w = passing_bound a.levels a.s.now l.at p.passed (sym p.ensures) in
+    omega (arith, w.1, w.2, l.invariant.1)
+
+pub list-loop-at-smaller : goal.list-loop-at-smaller
+list-loop-at-smaller t c =
+    let a = c.args in
+    let p = c.in-Whole in
+    let w = passing_bound a.levels a.s.now c.loop-at.at p.passed (sym p.ensures) in
+    omega (arith, w.0, w.1)
+
+pub list-loop-at-preserved : goal.list-loop-at-preserved
+list-loop-at-preserved t c =
+    let a = c.args in
+    let l = c.loop-at in
+    let p = c.in-Whole in
+    let e = sym p.ensures in
+    let w = passing_bound a.levels a.s.now l.at p.passed e in
+    let next = counting_next a.levels a.s.now l.at p.passed c.loop-at-test.true e in (
+      plus_plus l.elements p.passed.elements (counting a.levels a.s.now p.passed.to)
+          ∙ ap (plus l.elements) (sym next)
+          ∙ l.invariant.0,
+      omega (arith, w.2, l.invariant.1),
+    )
+
+pub list-returns-in-Refused : goal.list-returns-in-Refused
+list-returns-in-Refused t c =
+    let a = c.args in
+    let l = c.loop-at in
+    sym (plus_stopped l.elements _ _ _
+    (counting_refused a.levels a.s.now l.at _ _ c.loop-at-test.true (sym c.in-Refused.ensures)))
+    ∙ l.invariant.0
+
+pub list-returns : goal.list-returns
+list-returns t c =
+    let a = c.args in
+    let l = c.loop-at in
+    sym (plus_ended l.elements _ (counting_done a.levels a.s.now l.at c.loop-at-test.false)) ∙ l.invariant.0
