@@ -18,10 +18,10 @@ use Rattle.tlv.specs.Cut.{cut, end_check}
 use Rattle.tlv.specs.Tags.{tag_list}
 use Rattle.tlv.proofs.Joined.{never_value, same_value}
 use Rattle.details.specs.Tags.{group_tag, template_tag, other_names_tag, is_named, stands_for, asked_as, tag_here, tags_in}
-use Rattle.details.specs.Details.{Detail, detail_at, details, are_named, is_list, agrees, given, value_for}
+use Rattle.details.specs.Details.{Detail, detail_at, details, are_named, is_list, agrees, value_for}
 use Rattle.details.specs.Details.{read_details, read_detail}
 use Rattle.details.specs.Inner.Places.{held_or, held_at, detail_here, agrees_at, value_at}
-use Rattle.details.specs.Inner.Onward.{list_check, behind_list, behind_file}
+use Rattle.details.specs.Inner.Onward.{behind_list, behind_file}
 use Rattle.details.proofs.Walked.{before, details_next, details_refused, details_done}
 
 -- elements that were read end here, or one stands here and the others behind it
