@@ -1,7 +1,7 @@
 -- A file by its own head: the tags of groups have one octet and are constructed, so that a file is an element as any other.
 use Prim.Native.Nat.{ℕ, suc, ◌-◌, ◌/◌, ◌%◌, ◌≤◌, ◌<◌}
-use mathlib.Core.Path.{◌≡◌, refl, ap, sym, ◌∙◌}
-use mathlib.Core.Bool.{Bool, true, false, cond, not, ◌&&◌}
+use mathlib.Core.Path.{◌≡◌, refl, sym, ◌∙◌}
+use mathlib.Core.Bool.{Bool, true, false, cond, ◌&&◌}
 use mathlib.Core.List.{List}
 use native.Mathlib.Omega.{arith}
 use borrow.Author.Tests.{eq-eqb, ne_eqb, eqb-true, leb-true, leb-false}
@@ -14,7 +14,6 @@ use Rattle.tlv.specs.declared.Stretch.{Stretch}
 use Rattle.tlv.specs.Read.{Read, value, refusal, and_then, checked}
 use Rattle.tlv.specs.Element.{behind_tag, element}
 use Rattle.tlv.specs.Cut.{cut, end_check}
-use Rattle.tlv.specs.Places.{stretch_at}
 use Rattle.tlv.specs.Tags.{group_of, is_group}
 use Rattle.tlv.proofs.Joined.{same_value}
 use Rattle.tlv.proofs.Whatever.{behind_one}

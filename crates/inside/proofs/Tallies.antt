@@ -3,15 +3,13 @@ use Prim.Native.Nat.{ℕ, zero, suc, ◌+◌, ◌≤◌, ◌<◌}
 use mathlib.Core.Path.{◌≡◌, refl, ap, sym, ◌∙◌}
 use mathlib.Core.Bool.{Bool, true, false, cond}
 use mathlib.Core.List.{List, [], ◌∷◌}
-use native.Mathlib.Numerals.{add-one}
 use native.Mathlib.Omega.{arith}
-use borrow.Author.Tests.{eq-eqb, ne_eqb, leb-false, eqb-true, eqb-false}
+use borrow.Author.Tests.{eq-eqb, ne_eqb, leb-false, eqb-true}
 use lib.Dec.{eqb, leb}
 use lib.ListN.{length, get_or}
-use Rattle.tlv.specs.Places.{stretch_at, places_from, places}
+use Rattle.tlv.specs.Places.{places_from, places}
 use Rattle.tlv.proofs.Onward.{ends_behind, places_next, places_done}
 use Rattle.tree.specs.Tag.{tag_here}
-use Rattle.inside.specs.declared.templates.Tally.{Tally}
 use Rattle.inside.specs.Templates.{value_here, directly, with_tag}
 use Rattle.inside.specs.Inner.Tally.{tally_of, tallied}
 
