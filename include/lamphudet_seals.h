@@ -7,7 +7,7 @@
  * Both libraries have one version, LAMPHUDET_VERSION, and what lamphudet.h says that it promises
  * holds here too: the number of a refusal never changes its meaning; an answer that changes is in
  * CHANGELOG.md, with the request that asked for it; structs, the entry's layout and how a call is
- * declared change only with a new SONAME, liblamphudet_seals.so.0.4.
+ * declared change only with a new SONAME, liblamphudet_seals.so.0.3.
  *
  * What is left to the host: the signature, which signs all octets before its FF, and whom to trust by
  * signer and reference; the dates, none of which is compared with another or with today. Of a seal that
@@ -37,12 +37,41 @@ LAMPHUDET_ASSERT_AT(lamphudet_day, day, 3);
 LAMPHUDET_ASSERT_SIZE(lamphudet_day, 4);
 
 /*
- * What a seal's header says: what is read of one, and what is given to write one. Country, signer and
- * reference are characters, A-Z, 0-9 and the filler <, and no zero ends them.
+ * What a seal says besides its record, which is in the entry. Country, signer and reference are
+ * characters, A-Z, 0-9 and the filler <, and no zero ends them.
  */
+typedef struct lamphudet_seal {
+    uint32_t number;              /* LAMPHUDET_NOT_REFUSED, or the refusal's */
+    uint32_t expected;            /* as in lamphudet_answer */
+    uint64_t value;               /* 0: octets of entry written; else the place */
+    lamphudet_stretch signature;  /* in the seal */
+    lamphudet_day issued, signed_on;
+    uint8_t version;              /* the octet: 2 or 3 */
+    uint8_t definition, category; /* 0x5E, 3 */
+    uint8_t reference_len;
+    uint8_t country[3], signer[4];
+    uint8_t reference[LAMPHUDET_SEAL_REFERENCE_MAX]; /* fillers behind reference_len */
+} lamphudet_seal;
+
+LAMPHUDET_ASSERT_AT(lamphudet_seal, number, 0);
+LAMPHUDET_ASSERT_AT(lamphudet_seal, expected, 4);
+LAMPHUDET_ASSERT_AT(lamphudet_seal, value, 8);
+LAMPHUDET_ASSERT_AT(lamphudet_seal, signature, 16);
+LAMPHUDET_ASSERT_AT(lamphudet_seal, issued, 32);
+LAMPHUDET_ASSERT_AT(lamphudet_seal, signed_on, 36);
+LAMPHUDET_ASSERT_AT(lamphudet_seal, version, 40);
+LAMPHUDET_ASSERT_AT(lamphudet_seal, definition, 41);
+LAMPHUDET_ASSERT_AT(lamphudet_seal, category, 42);
+LAMPHUDET_ASSERT_AT(lamphudet_seal, reference_len, 43);
+LAMPHUDET_ASSERT_AT(lamphudet_seal, country, 44);
+LAMPHUDET_ASSERT_AT(lamphudet_seal, signer, 47);
+LAMPHUDET_ASSERT_AT(lamphudet_seal, reference, 51);
+LAMPHUDET_ASSERT_SIZE(lamphudet_seal, 312);
+
+/* A seal's header as it is given to write one: the fields that lamphudet_seal ends with, in the same order. */
 typedef struct lamphudet_seal_header {
     lamphudet_day issued, signed_on;
-    uint8_t version;              /* the octet: 2 or 3; what is written has 3 */
+    uint8_t version;              /* 3 */
     uint8_t definition, category; /* 0x5E, 3 */
     uint8_t reference_len;
     uint8_t country[3], signer[4];
@@ -59,22 +88,6 @@ LAMPHUDET_ASSERT_AT(lamphudet_seal_header, country, 12);
 LAMPHUDET_ASSERT_AT(lamphudet_seal_header, signer, 15);
 LAMPHUDET_ASSERT_AT(lamphudet_seal_header, reference, 19);
 LAMPHUDET_ASSERT_SIZE(lamphudet_seal_header, 274);
-
-/* What a seal says besides its record, which is in the entry. */
-typedef struct lamphudet_seal {
-    uint32_t number;              /* LAMPHUDET_NOT_REFUSED, or the refusal's */
-    uint32_t expected;            /* as in lamphudet_answer */
-    uint64_t value;               /* 0: octets of entry written; else the place */
-    lamphudet_stretch signature;  /* in the seal */
-    lamphudet_seal_header header;
-} lamphudet_seal;
-
-LAMPHUDET_ASSERT_AT(lamphudet_seal, number, 0);
-LAMPHUDET_ASSERT_AT(lamphudet_seal, expected, 4);
-LAMPHUDET_ASSERT_AT(lamphudet_seal, value, 8);
-LAMPHUDET_ASSERT_AT(lamphudet_seal, signature, 16);
-LAMPHUDET_ASSERT_AT(lamphudet_seal, header, 32);
-LAMPHUDET_ASSERT_SIZE(lamphudet_seal, 312);
 
 /*
  * Reads a seal, and writes the entry of the house and the record of its text to the first octets of
@@ -125,7 +138,7 @@ lamphudet_seal lamphudet_read_seal(uint32_t house, const uint8_t *seal, size_t s
  * no part of a seal. lamphudet_read_seal reads what was written as that header, that record and that
  * signature, and what differs in one of the three gives other octets.
  *
- * The header is the one that lamphudet_read_seal hands out, and all of it counts:
+ * The header has the fields that lamphudet_read_seal hands out, and all of it counts:
  *   version, definition, category   3, 0x5E, 3. What was read from version 02 has 2: a host that writes
  *              it again says 3
  *   country    one to three letters, then fillers

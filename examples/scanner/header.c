@@ -4,6 +4,7 @@
 
 #include <inttypes.h>
 #include <stdio.h>
+#include <string.h>
 
 /* Octets in one line. */
 #define ROW 32
@@ -20,6 +21,22 @@ static void show_characters(const char *label, const uint8_t *characters, size_t
     printf("  %-13s", label);
     put_characters(characters, len);
     puts(len == 0 ? "none" : "");
+}
+
+lamphudet_seal_header header_read(const lamphudet_seal *seal)
+{
+    lamphudet_seal_header header;
+
+    header.issued = seal->issued;
+    header.signed_on = seal->signed_on;
+    header.version = seal->version;
+    header.definition = seal->definition;
+    header.category = seal->category;
+    header.reference_len = seal->reference_len;
+    memcpy(header.country, seal->country, sizeof header.country);
+    memcpy(header.signer, seal->signer, sizeof header.signer);
+    memcpy(header.reference, seal->reference, sizeof header.reference);
+    return header;
 }
 
 void show_header(const lamphudet_seal_header *header)

@@ -4,6 +4,9 @@
 
 #include <lamphudet_seals.h>
 
+/* The header of a seal that was read, as a writer takes it. */
+lamphudet_seal_header header_read(const lamphudet_seal *seal);
+
 /* Field by field. */
 void show_header(const lamphudet_seal_header *header);
 

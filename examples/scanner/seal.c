@@ -49,8 +49,9 @@ static void show_accepted(const struct reading *reading)
 {
     size_t entry_len = (size_t)reading->seal.value;
     lamphudet_record record = lamphudet_open_entry(reading->entry, entry_len);
+    lamphudet_seal_header header = header_read(&reading->seal);
 
-    show_header(&reading->seal.header);
+    show_header(&header);
     show_record(&record);
     show_hex("entry", reading->entry, entry_len);
     show_signature(reading->octets, reading->seal.signature);

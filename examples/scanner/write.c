@@ -13,7 +13,7 @@ enum status header_of(const struct octets *seal, lamphudet_seal_header *header)
     lamphudet_answer refusal;
 
     if (read.number == LAMPHUDET_NOT_REFUSED) {
-        *header = read.header;
+        *header = header_read(&read);
         return ALL_ACCEPTED;
     }
     refusal.number = read.number;

@@ -10,26 +10,11 @@ use Rattle.seal_header.specs.declared.header.Header.{Header}
 use Rattle.seal_header.specs.Header.{blank_header}
 use Rattle.seal.specs.Seal.{read_seal}
 use Rattle.lamphudet_seals.specs.declared.received.DayInC.{DayInC}
-use Rattle.lamphudet_seals.specs.declared.received.HeaderInC.{HeaderInC}
 use Rattle.lamphudet_seals.specs.declared.received.StretchInC.{StretchInC}
 use Rattle.lamphudet_seals.specs.declared.received.SealInC.{SealInC}
 
 unfoldable pub day_in_c : Day → DayInC
 day_in_c d = record { year = d.year; month = d.month; day = d.day }
-
--- the header's fields
-unfoldable pub header_in_c : Header → HeaderInC
-header_in_c h = record {
-  issued = day_in_c h.issued;
-  signed_on = day_in_c h.signed_on;
-  version = h.version;
-  definition = h.definition;
-  category = h.category;
-  reference_len = h.reference_len;
-  country = h.country;
-  signer = h.signer;
-  reference = h.reference;
-}
 
 -- in C a stretch is a start and a length
 unfoldable pub stretch_in_c : Stretch → StretchInC
@@ -42,7 +27,15 @@ fields_in_c number expected value h v = record {
   expected = expected;
   value = value;
   signature = stretch_in_c v;
-  header = header_in_c h;
+  issued = day_in_c h.issued;
+  signed_on = day_in_c h.signed_on;
+  version = h.version;
+  definition = h.definition;
+  category = h.category;
+  reference_len = h.reference_len;
+  country = h.country;
+  signer = h.signer;
+  reference = h.reference;
 }
 
 -- 0 and how many octets of entry were written; a refusal, 17 and 16 included, gives the blank header and no signature

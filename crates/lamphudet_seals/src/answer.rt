@@ -1,9 +1,9 @@
 // An answer as it passes to C: a number, an expected digit, a value and the seal's own fields.
 ghost use Rattle.std.specs.Prelude.{◌≡◌};
 ghost use Rattle.refusal.specs.Length.{length_of};
-ghost use Rattle.lamphudet_seals.specs.Answer.{day_in_c, header_in_c, stretch_in_c, fields_in_c, seal_in_c};
+ghost use Rattle.lamphudet_seals.specs.Answer.{day_in_c, stretch_in_c, fields_in_c, seal_in_c};
 
-use crate::received::{DayInC, HeaderInC, SealInC, StretchInC};
+use crate::received::{DayInC, SealInC, StretchInC};
 use refusal::{NO_DIGIT, Written};
 use seal_fields::day::Day;
 use seal_header::header::Header;
@@ -16,27 +16,6 @@ fn day_in_c(d: Day) -> DayInC
         year: d.year,
         month: d.month,
         day: d.day,
-    }
-}
-
-fn header_in_c(header: Header) -> HeaderInC
-    ensures { result ≡ header_in_c header }
-{
-    let issued = header.issued;
-    let signed_on = header.signed_on;
-    let country = header.country;
-    let signer = header.signer;
-    let reference = header.reference;
-    HeaderInC {
-        issued: day_in_c(issued),
-        signed_on: day_in_c(signed_on),
-        version: header.version,
-        definition: header.definition,
-        category: header.category,
-        reference_len: header.reference_len,
-        country,
-        signer,
-        reference,
     }
 }
 
@@ -60,12 +39,25 @@ fn fields_in_c(
 ) -> SealInC
     ensures { result ≡ fields_in_c number expected value header signature }
 {
+    let issued = header.issued;
+    let signed_on = header.signed_on;
+    let country = header.country;
+    let signer = header.signer;
+    let reference = header.reference;
     SealInC {
         number,
         expected,
         value,
         signature: stretch_in_c(signature),
-        header: header_in_c(header),
+        issued: day_in_c(issued),
+        signed_on: day_in_c(signed_on),
+        version: header.version,
+        definition: header.definition,
+        category: header.category,
+        reference_len: header.reference_len,
+        country,
+        signer,
+        reference,
     }
 }
 

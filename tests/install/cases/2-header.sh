@@ -27,7 +27,7 @@ done
 for call in 'digest(0, 0, 0, 0)' 'read_text(1, 0, 0, 0, 0)' 'read_presentation(1, 0, 0, 0, 0)' 'group_file(0, 0, 1)' \
     'look_inside(0, 0)' 'read_detail(0, 0, 0x5f0e)' 'full_name(0, 0, 0, 0)' 'write_text(0, 0, 0, 0)' 'open_entry(0, 0)' \
     'next_entry(0, 0, 0)' 'look_over(0, 0)' 'house_entries(0, 0, 1)' 'version()' 'read_seal(1, 0, 0, 0, 0)' \
-    'write_seal(0, 0, lamphudet_read_seal(1, 0, 0, 0, 0).header, 0, 0, 0, 0)' 'seals_version()'; do
+    'write_seal(0, 0, (lamphudet_seal_header){ .version = 3 }, 0, 0, 0, 0)' 'seals_version()'; do
     host_of "lamphudet_$call;"
     try "the answer of $call is not to be thrown away" refuses 'unused' compiles cc -std=c99 "$folder/host.c"
 done

@@ -37,13 +37,10 @@ static int is_day(lamphudet_day day, int year, int month, int of_month)
 
 static int is_printed(const lamphudet_seal *seal)
 {
-    const lamphudet_seal_header *header = &seal->header;
-
-    return header->version == 2 && header->definition == 0x5e && header->category == 3
-        && is_day(header->issued, 2016, 8, 8) && is_day(header->signed_on, 2007, 8, 9)
-        && holds(header->country, sizeof header->country, "UTO")
-        && holds(header->signer, sizeof header->signer, "UT01")
-        && header->reference_len == 5 && holds(header->reference, sizeof header->reference, "FFAFF")
+    return seal->version == 2 && seal->definition == 0x5e && seal->category == 3
+        && is_day(seal->issued, 2016, 8, 8) && is_day(seal->signed_on, 2007, 8, 9)
+        && holds(seal->country, sizeof seal->country, "UTO") && holds(seal->signer, sizeof seal->signer, "UT01")
+        && seal->reference_len == 5 && holds(seal->reference, sizeof seal->reference, "FFAFF")
         && seal->signature.start == SIGNATURE && seal->signature.length == ALL - SIGNATURE;
 }
 
@@ -65,13 +62,11 @@ static int accepted(const uint8_t *made)
 
 static int is_refused_with(lamphudet_seal seal, uint32_t number, uint32_t expected, uint64_t place)
 {
-    lamphudet_seal_header header = seal.header;
-
-    return seal.number == number && seal.expected == expected && seal.value == place && header.version == 0
-        && header.definition == 0 && header.category == 0 && is_day(header.issued, 0, 0, 0)
-        && is_day(header.signed_on, 0, 0, 0)
-        && holds(header.country, sizeof header.country, "") && holds(header.signer, sizeof header.signer, "")
-        && header.reference_len == 0 && holds(header.reference, sizeof header.reference, "")
+    return seal.number == number && seal.expected == expected && seal.value == place && seal.version == 0
+        && seal.definition == 0 && seal.category == 0 && is_day(seal.issued, 0, 0, 0)
+        && is_day(seal.signed_on, 0, 0, 0)
+        && holds(seal.country, sizeof seal.country, "") && holds(seal.signer, sizeof seal.signer, "")
+        && seal.reference_len == 0 && holds(seal.reference, sizeof seal.reference, "")
         && seal.signature.start == 0 && seal.signature.length == 0;
 }
 

@@ -8,18 +8,18 @@
 #include <stdio.h>
 #include <string.h>
 
-/* The fields that a seal is read to stand where they stood when the header had no struct of its own. */
-#define STAYS(field, octet) \
-    LAMPHUDET_ASSERT(offsetof(lamphudet_seal, header) + offsetof(lamphudet_seal_header, field) == (octet), stays_##field)
-STAYS(issued, 32);
-STAYS(signed_on, 36);
-STAYS(version, 40);
-STAYS(definition, 41);
-STAYS(category, 42);
-STAYS(reference_len, 43);
-STAYS(country, 44);
-STAYS(signer, 47);
-STAYS(reference, 51);
+/* A field that is written stands where it stands of a seal that was read, from issued on. */
+#define SAME_ORDER(field) \
+    LAMPHUDET_ASSERT(offsetof(lamphudet_seal, field) == 32 + offsetof(lamphudet_seal_header, field), same_order_##field)
+SAME_ORDER(issued);
+SAME_ORDER(signed_on);
+SAME_ORDER(version);
+SAME_ORDER(definition);
+SAME_ORDER(category);
+SAME_ORDER(reference_len);
+SAME_ORDER(country);
+SAME_ORDER(signer);
+SAME_ORDER(reference);
 
 /* Header and message of section 8 in version 03, which counts its reference, and FF 00 behind them. */
 static const uint8_t printed[72] = {
@@ -72,6 +72,23 @@ static lamphudet_seal_header header_of_papers(void)
     return header;
 }
 
+/* The header of a seal that was read, as a writer takes it. */
+static lamphudet_seal_header header_read(const lamphudet_seal *seal)
+{
+    lamphudet_seal_header header;
+
+    header.issued = seal->issued;
+    header.signed_on = seal->signed_on;
+    header.version = seal->version;
+    header.definition = seal->definition;
+    header.category = seal->category;
+    header.reference_len = seal->reference_len;
+    memcpy(header.country, seal->country, sizeof header.country);
+    memcpy(header.signer, seal->signer, sizeof header.signer);
+    memcpy(header.reference, seal->reference, sizeof header.reference);
+    return header;
+}
+
 /* Stands for a signature: it depends on every octet that is signed. */
 static void sign(const uint8_t *octets, size_t len, uint8_t *signature)
 {
@@ -95,14 +112,16 @@ static int written(void)
     lamphudet_answer answer = lamphudet_write_seal(crew.octets, crew.len, header, NULL, 0, seal, sizeof seal);
     int right = answer.number == 0 && answer.value == UNSIGNED && memcmp(seal, printed, UNSIGNED) == 0;
     lamphudet_seal read;
+    lamphudet_seal_header again;
 
     sign(seal, SIGNED, signature);
     seal[ALL] = 0x5a;
     answer = lamphudet_write_seal(crew.octets, crew.len, header, signature, SIGNATURE, seal, ALL);
     read = lamphudet_read_seal(258, seal, ALL, entry, sizeof entry);
+    again = header_read(&read);
     return right && answer.number == 0 && answer.value == ALL && answer.expected == LAMPHUDET_NO_DIGIT
         && memcmp(seal, printed, SIGNED) == 0 && seal[ALL] == 0x5a && read.number == 0
-        && memcmp(&read.header, &header, sizeof header) == 0 && memcmp(&header, &before, sizeof header) == 0
+        && memcmp(&again, &header, sizeof header) == 0 && memcmp(&header, &before, sizeof header) == 0
         && read.value == crew.len && memcmp(entry, crew.octets, crew.len) == 0
         && read.signature.start == ALL - SIGNATURE && read.signature.length == SIGNATURE
         && memcmp(seal + read.signature.start, signature, SIGNATURE) == 0;

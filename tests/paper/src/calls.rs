@@ -151,7 +151,8 @@ mod tests {
     fn a_seal_written_in_the_order_of_its_refusals() {
         let kept = read_text(258, ERIKSSON_TD2.as_bytes(), entry::LONGEST).written;
         let other = read_text(258, ERIKSSON_TD3.as_bytes(), entry::LONGEST).written;
-        let header = HeaderInC { version: 0x03, ..read_seal(1, &printed::signed(), entry::LONGEST).answer.header };
+        let read = read_seal(1, &printed::signed(), entry::LONGEST).answer;
+        let header = HeaderInC { version: 0x03, ..HeaderInC::read(&read) };
         let done = write_seal(&kept, &header, &[7; 64], 136);
         assert_eq!((done.answer, done.written.len()), (Answer::not_refused(136), 136));
         assert_eq!(read_seal(258, &done.written, entry::LONGEST).written, kept);

@@ -411,7 +411,22 @@ impl Given {
         let read = border::read_seal(house, &mut lent, &mut room);
         let start = seal.len() - self.signature.len();
         let (value, signature) = (self.entry.len() as u64, Stretch::from(start..seal.len()));
-        let same = SealAnswer { number: 0, expected: NO_DIGIT, value, signature, header: self.header };
+        let header = self.header;
+        let same = SealAnswer {
+            number: 0,
+            expected: NO_DIGIT,
+            value,
+            signature,
+            issued: header.issued,
+            signed_on: header.signed_on,
+            version: header.version,
+            definition: header.definition,
+            category: header.category,
+            reference_len: header.reference_len,
+            country: header.country,
+            signer: header.signer,
+            reference: header.reference,
+        };
         let kept = room.content()[..self.entry.len()] == self.entry && seal[start..] == self.signature;
         if read == same && kept {
             return vec![];

@@ -1,8 +1,9 @@
 //! What the call that reads a seal answers, as it passes to C.
 
 use crate::answer::{Answer, Outcome, Stretch, NO_DIGIT};
+use crate::day::Day;
+use crate::field::FILLER;
 use crate::refusal::Refusal;
-use crate::seal::in_c::HeaderInC;
 use crate::seal::Seal;
 use std::fmt;
 
@@ -15,7 +16,16 @@ pub struct SealAnswer {
     pub expected: u32,
     pub value: u64,
     pub signature: Stretch,
-    pub header: HeaderInC,
+    pub issued: Day,
+    pub signed_on: Day,
+    pub version: u8,
+    pub definition: u8,
+    pub category: u8,
+    pub reference_len: u8,
+    pub country: [u8; 3],
+    pub signer: [u8; 4],
+    /// Fillers behind its length.
+    pub reference: [u8; 255],
 }
 
 impl SealAnswer {
@@ -26,18 +36,36 @@ impl SealAnswer {
             expected: answer.expected,
             value: answer.value,
             signature: Stretch::EMPTY,
-            header: HeaderInC::BLANK,
+            issued: Day::NONE,
+            signed_on: Day::NONE,
+            version: 0,
+            definition: 0,
+            category: 0,
+            reference_len: 0,
+            country: [FILLER; 3],
+            signer: [FILLER; 4],
+            reference: [FILLER; 255],
         }
     }
 
     fn of(seal: &Seal, octets: u64) -> SealAnswer {
         let Seal { header, signature, .. } = seal;
+        let mut reference = [FILLER; 255];
+        reference[..header.reference.len()].copy_from_slice(&header.reference);
         SealAnswer {
             number: 0,
             expected: NO_DIGIT,
             value: octets,
             signature: Stretch { start: signature.start as u64, length: signature.len() as u64 },
-            header: HeaderInC::of(header),
+            issued: header.issued,
+            signed_on: header.signed_on,
+            version: header.version,
+            definition: header.definition,
+            category: header.category,
+            reference_len: header.reference.len() as u8,
+            country: header.country,
+            signer: header.signer,
+            reference,
         }
     }
 }
@@ -60,15 +88,17 @@ impl Outcome<SealAnswer> {
 impl fmt::Display for SealAnswer {
     fn fmt(&self, to: &mut fmt::Formatter) -> fmt::Result {
         write!(to, "number {}, expected {}, value {}", self.number, self.expected, self.value)?;
-        write!(to, ", signature at {}, {}", self.signature, self.header)
+        write!(to, ", signature at {}", self.signature)?;
+        write!(to, ", version {}, definition {}, category {}", self.version, self.definition, self.category)?;
+        write!(to, ", country {}, signer {}", self.country.escape_ascii(), self.signer.escape_ascii())?;
+        write!(to, ", reference {} of {}", self.reference.escape_ascii(), self.reference_len)?;
+        write!(to, ", issued {:?}, signed on {:?}", self.issued, self.signed_on)
     }
 }
 
 #[cfg(test)]
 mod tests {
     use super::*;
-    use crate::day::Day;
-    use crate::field::FILLER;
     use crate::seal::printed;
     use crate::{calls, entry, specimens, text};
     use std::ptr::addr_of;
@@ -83,9 +113,8 @@ mod tests {
         assert_eq!(std::mem::size_of::<SealAnswer>(), 312);
         assert_eq!((std::mem::size_of::<Day>(), std::mem::align_of::<SealAnswer>()), (4, 8));
         let answer = SealAnswer::blank(Answer::not_refused(0));
-        let fields =
-            [addr_of!(answer.expected) as usize, addr_of!(answer.value) as usize, addr_of!(answer.header) as usize];
-        assert_eq!(fields.map(|field| field - addr_of!(answer) as usize), [4, 8, 32]);
+        let fields = [addr_of!(answer.expected) as usize, addr_of!(answer.value) as usize];
+        assert_eq!(fields.map(|field| field - addr_of!(answer) as usize), [4, 8]);
     }
 
     #[test]
@@ -94,15 +123,15 @@ mod tests {
         let done = calls::read_seal(1, &sample, entry.len());
         assert_eq!(done, calls::read_seal(1, &sample, entry::LONGEST));
         assert_eq!(done.written, entry);
-        let SealAnswer { number, expected, value, signature, header } = done.answer;
-        assert_eq!((number, expected, value), (0, 255, entry.len() as u64));
-        assert_eq!(signature, Stretch { start: 70, length: 64 });
-        assert_eq!((header.version, header.definition, header.category), (2, 0x5e, 3));
-        assert_eq!((&header.country, &header.signer), (b"UTO", b"UT01"));
-        assert_eq!((header.reference_len, &header.reference[..5]), (5, &b"FFAFF"[..]));
-        assert_eq!(header.reference[5..], [FILLER; 250]);
-        assert_eq!(header.issued, Day { year: 2016, month: 8, day: 8 });
-        assert_eq!(header.signed_on, Day { year: 2007, month: 8, day: 9 });
+        let answer = done.answer;
+        assert_eq!((answer.number, answer.expected, answer.value), (0, 255, entry.len() as u64));
+        assert_eq!(answer.signature, Stretch { start: 70, length: 64 });
+        assert_eq!((answer.version, answer.definition, answer.category), (2, 0x5e, 3));
+        assert_eq!((&answer.country, &answer.signer), (b"UTO", b"UT01"));
+        assert_eq!((answer.reference_len, &answer.reference[..5]), (5, &b"FFAFF"[..]));
+        assert_eq!(answer.reference[5..], [FILLER; 250]);
+        assert_eq!(answer.issued, Day { year: 2016, month: 8, day: 8 });
+        assert_eq!(answer.signed_on, Day { year: 2007, month: 8, day: 9 });
     }
 
     #[test]

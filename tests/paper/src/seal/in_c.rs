@@ -1,7 +1,8 @@
-//! A seal's header as C has it: what is read of a seal, and what is given to write one.
+//! A seal's header as C gives it to write one: fields of what C receives of a seal that is read.
 
 use crate::day::Day;
 use crate::field::FILLER;
+use crate::seal::answer::SealAnswer;
 use crate::seal::header::Header;
 use std::fmt;
 
@@ -50,6 +51,21 @@ impl HeaderInC {
         }
     }
 
+    /// Field by field, as a host does that writes what it read.
+    pub fn read(answer: &SealAnswer) -> HeaderInC {
+        HeaderInC {
+            issued: answer.issued,
+            signed_on: answer.signed_on,
+            version: answer.version,
+            definition: answer.definition,
+            category: answer.category,
+            reference_len: answer.reference_len,
+            country: answer.country,
+            signer: answer.signer,
+            reference: answer.reference,
+        }
+    }
+
     /// The header that these fields are, where `of` would give them again: None where a place behind the reference is no
     /// filler.
     pub fn header(&self) -> Option<Header> {
@@ -80,6 +96,7 @@ impl fmt::Display for HeaderInC {
 mod tests {
     use super::*;
     use crate::seal::{self, printed};
+    use crate::{calls, entry};
 
     #[test]
     fn as_large_as_in_c() {
@@ -91,6 +108,7 @@ mod tests {
         let header = seal::read(&printed::signed()).unwrap().header;
         let in_c = HeaderInC::of(&header);
         assert_eq!(in_c.header(), Some(header));
+        assert_eq!(in_c, HeaderInC::read(&calls::read_seal(1, &printed::signed(), entry::LONGEST).answer));
         for place in 5..255 {
             let mut other = in_c;
             other.reference[place] = b'0';

@@ -11,4 +11,5 @@ fields-in-c-spec =
     (tie.spec
     (λ c κs. search rules)
     (λ c κs. search rules)
-    (λ c. rw (c.header-in-c.ensures, c.before.stretch-in-c.ensures)))
+    (λ c κs. search rules)
+    (λ c. rw (c.day-in-c2.ensures, c.before.day-in-c.ensures, c.before.before.stretch-in-c.ensures)))
