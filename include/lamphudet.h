@@ -43,7 +43,7 @@ extern "C" {
 
 /*
  * The version of this header, as a string and as a number for #if: 10000 times the first of its
- * three numbers, 100 times the second, and the third; 0.4.0 is 400. A later version has a greater
+ * three numbers, 100 times the second, and the third; 0.3.2 is 302. A later version has a greater
  * number. lamphudet_version() is that of the library that was linked.
  *
  * What a version promises:
@@ -51,12 +51,12 @@ extern "C" {
  *   - An answer that changes is in CHANGELOG.md, which is installed in share/doc/lamphudet, with the
  *     request that asked for it.
  *   - Structs, the entry's layout and how a call is declared change only with a new SONAME, the name
- *     by which a program asks for the shared library: liblamphudet.so.0.4. While the first number is
+ *     by which a program asks for the shared library: liblamphudet.so.0.3. While the first number is
  *     0 it has the first two, from 1 on the first alone. As long as it is the same a host need not be
  *     compiled again, and entries that were kept are entries.
  */
-#define LAMPHUDET_VERSION "0.4.0"
-#define LAMPHUDET_VERSION_NUMBER 400
+#define LAMPHUDET_VERSION "0.3.2"
+#define LAMPHUDET_VERSION_NUMBER 302
 
 /* The compiler warns where a call's answer is thrown away, if it knows how. */
 #if defined(__GNUC__)

@@ -7,10 +7,10 @@ abbrev pub major : ℕ
 major = 0
 
 abbrev pub minor : ℕ
-minor = 4
+minor = 3
 
 abbrev pub patch : ℕ
-patch = 0
+patch = 2
 
 -- the three as one number, of which a later version has a greater one: minor and patch stay below 100
 unfoldable pub version_number : ℕ

@@ -6,9 +6,9 @@ ghost use Rattle.version.specs.Version.{version_number};
 
 const MAJOR: u32 = 0;
 
-const MINOR: u32 = 4;
+const MINOR: u32 = 3;
 
-const PATCH: u32 = 0;
+const PATCH: u32 = 2;
 
 pub fn number() -> u32
     ensures { result ≡ version_number }
