@@ -32,8 +32,7 @@ use Rattle.seal_features.specs.Signature.{signature_at}
 use Rattle.seal.specs.Seal as seal
 use Rattle.seal.specs.Seal.{text_in, with_text, said_in, SealAnswer, answer_by, read_seal}
 use Rattle.text_theorems.proofs.Acceptance.{accepted_exactly}
-use Rattle.seal_header.specs.Head.{head_octets}
-use Rattle.seal_theorems.specs.Sealed.{Contents, joined, octets_of, Shaped}
+use Rattle.seal_theorems.specs.Sealed.{head_octets, Contents, joined, octets_of, Shaped}
 use Rattle.seal_theorems.specs.Sealed.{Sealed, feature_place, header_in, signature_in, answer_in}
 use Rattle.seal_theorems.specs.Expected.{Zones, zones_in}
 use Rattle.seal_theorems.proofs.Places.{then_there}

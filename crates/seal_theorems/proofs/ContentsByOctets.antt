@@ -23,8 +23,8 @@ use Rattle.seal_header.specs.declared.header.Header.{Header}
 use Rattle.seal_header.specs.Header.{header_of}
 use Rattle.seal_features.specs.Features.{text_tag, signature_tag}
 use Rattle.seal.specs.Seal.{text_in}
-use Rattle.seal_header.specs.Head.{Head, head_octets}
-use Rattle.seal_theorems.specs.Sealed.{Feature, Contents, feature_of, joined, octets_of, is_other, are_others}
+use Rattle.seal_header.specs.Head.{Head}
+use Rattle.seal_theorems.specs.Sealed.{head_octets, Feature, Contents, feature_of, joined, octets_of, is_other, are_others}
 use Rattle.seal_theorems.specs.Sealed.{HeadKept, Shaped, feature_place, header_in, signature_in}
 use Rattle.seal_theorems.specs.Expected.{Zones, zones_in}
 use Rattle.seal_fields.proofs.Spaced.{filled_tells}

@@ -25,8 +25,8 @@ use Rattle.seal_fields.proofs.Filled.{length-filled}
 use Rattle.seal_header.specs.Reference.{version, width, reference, is_reference, before}
 use Rattle.seal_header.specs.Header.{country, header_check, header_by, said_by, header_of, header_end}
 use Rattle.seal_fields.specs.Day.{three_octets, day_octets}
-use Rattle.seal_header.specs.Head.{Head, count_of, reference_of, head_octets}
-use Rattle.seal_theorems.specs.Sealed.{HeadKept, header_in}
+use Rattle.seal_header.specs.Head.{Head}
+use Rattle.seal_theorems.specs.Sealed.{count_of, reference_of, head_octets, HeadKept, header_in}
 use Rattle.seal_theorems.proofs.Places.{then_there}
 use Rattle.seal_fields.proofs.Days.{day_read}
 use Rattle.seal_theorems.proofs.References.{read_reference}

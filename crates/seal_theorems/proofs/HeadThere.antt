@@ -23,8 +23,8 @@ use Rattle.seal_fields.proofs.Filled.{length-filled}
 use Rattle.seal_header.specs.Reference.{version, reference_length, width}
 use Rattle.seal_header.specs.Header.{country, header_check, header_end}
 use Rattle.seal_fields.specs.Day.{day_octets}
-use Rattle.seal_header.specs.Head.{Head, reference_of, head_octets}
-use Rattle.seal_theorems.specs.Sealed.{HeadKept}
+use Rattle.seal_header.specs.Head.{Head}
+use Rattle.seal_theorems.specs.Sealed.{reference_of, head_octets, HeadKept}
 use Rattle.seal_theorems.proofs.Places.{there_then, octet_there}
 use Rattle.seal_fields.proofs.Days.{read_day}
 use Rattle.seal_theorems.proofs.References.{signer_at, certificate_at, Referred, reference_stands, referred}

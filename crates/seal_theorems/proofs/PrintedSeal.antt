@@ -27,8 +27,7 @@ use Rattle.c40.specs.Image.{packed, pair, image_of}
 use Rattle.seal_fields.specs.Spaces.{filled}
 use Rattle.seal.specs.Seal.{read_seal}
 use Rattle.seal_fields.specs.Day.{day_number, three_octets, day_octets}
-use Rattle.seal_header.specs.Head.{count_of, reference_of, head_octets}
-use Rattle.seal_theorems.specs.Sealed.{joined}
+use Rattle.seal_theorems.specs.Sealed.{count_of, reference_of, head_octets, joined}
 use Rattle.seal_theorems.specs.Sealed.{octets_of, header_in, signature_in}
 use Rattle.seal_fields.specs.Spaces.{spaced}
 use Rattle.seal_theorems.specs.Around.{printed_head, around}

@@ -23,8 +23,8 @@ use Rattle.c40.proofs.Fields.{FieldStands, field_read, read_field}
 use Rattle.seal_fields.specs.Hex.{is_hex, hex_of}
 use Rattle.seal_header.specs.Reference.{version, more_by, reference_length, width, reference, is_letter_or_digit, is_reference, before}
 use Rattle.seal_fields.specs.Hex.{hex_digit, hexadecimal}
-use Rattle.seal_header.specs.Head.{Head, count_of, reference_of}
-use Rattle.seal_theorems.specs.Sealed.{ReferenceKept}
+use Rattle.seal_header.specs.Head.{Head}
+use Rattle.seal_theorems.specs.Sealed.{count_of, reference_of, ReferenceKept}
 use Rattle.seal_fields.proofs.Short.{of_four}
 use Rattle.seal_theorems.proofs.Places.{then_there}
 use Rattle.seal_fields.proofs.Hexadecimal.{two_said, said_two, hex_c40}

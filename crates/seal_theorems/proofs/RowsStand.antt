@@ -29,7 +29,8 @@ use Rattle.seal_header.specs.Header.{is_version, country}
 use Rattle.seal_features.specs.declared.features.Features.{Features}
 use Rattle.seal.specs.Seal.{feature_octets, text_in}
 use Rattle.seal_fields.specs.Day.{three_octets, day_octets}
-use Rattle.seal_header.specs.Head.{Head, reference_of}
+use Rattle.seal_header.specs.Head.{Head}
+use Rattle.seal_theorems.specs.Sealed.{reference_of}
 use Rattle.seal_theorems.specs.SealChecks.{is_image}
 use Rattle.seal_theorems.specs.RowsStand.{StandsAt, CountryStands, ReferenceStands, DayStands, ImageStands, TextStands}
 use Rattle.seal_theorems.proofs.Places.{there_then}

@@ -32,8 +32,7 @@ use Rattle.seal.specs.Seal.{read_seal}
 use Rattle.text_theorems.specs.Accepted.{Keeps}
 use Rattle.text_theorems.proofs.Acceptance.{accepted_exactly}
 use Rattle.seal_fields.specs.Day.{three_octets, day_octets}
-use Rattle.seal_header.specs.Head.{count_of, reference_of, head_octets}
-use Rattle.seal_theorems.specs.Sealed.{joined, octets_of}
+use Rattle.seal_theorems.specs.Sealed.{count_of, reference_of, head_octets, joined, octets_of}
 use Rattle.seal_theorems.specs.Sealed.{are_others, HeadKept, Sealed, header_in, signature_in, answer_in}
 use Rattle.seal_fields.specs.Spaces.{spaced}
 use Rattle.seal_theorems.specs.Around.{printed_head, around}

@@ -10,8 +10,8 @@ use Rattle.seal_fields.specs.Day.{is_day}
 use Rattle.seal_fields.specs.Spaces.{filled}
 use Rattle.seal_header.specs.Reference.{version}
 use Rattle.seal_fields.specs.Day.{day_octets}
-use Rattle.seal_header.specs.Head.{Head, reference_of}
-use Rattle.seal_theorems.specs.Sealed.{ReferenceKept}
+use Rattle.seal_header.specs.Head.{Head}
+use Rattle.seal_theorems.specs.Sealed.{reference_of, ReferenceKept}
 
 -- these octets stand at a place
 abbrev pub StandsAt : List ℕ → (at : ℕ) → List ℕ → Type 0

@@ -1,7 +1,7 @@
 -- What a sound seal of an emergency document is: the joined encodings of a header, features and a signature, said with encoders
 -- and without the reader. The words in quotes are those of document 02, request 2026-08; what they leave to source 002 is that of
 -- its table 1.
-use Rattle.std.specs.Prelude.{ℕ, ◌+◌, ◌-◌, ◌≤◌, ◌≡◌, ◌⊎◌, Bool, true, not, ◌&&◌, List, [], ◌∷◌, ◌++◌, map, eqb, ltb, length, take, drop}
+use Rattle.std.specs.Prelude.{ℕ, ◌+◌, ◌-◌, ◌≤◌, ◌≡◌, ◌⊎◌, Bool, true, cond, not, ◌&&◌, List, [], ◌∷◌, ◌++◌, map, eqb, ltb, length, take, drop}
 use Rattle.refusal.specs.Outcome.{passed}
 use Rattle.zone.specs.declared.form.Source.TheVariants.{Seal}
 use Rattle.zone.specs.Form.{may_stand}
@@ -14,12 +14,12 @@ use Rattle.tlv.specs.declared.Stretch.{Stretch}
 use Rattle.tlv.specs.Element.{tlv}
 use Rattle.c40.specs.Values.{is_c40}
 use Rattle.c40.specs.Image.{image_of}
-use Rattle.seal_fields.specs.Day.{is_day}
-use Rattle.seal_fields.specs.Hex.{is_hex}
+use Rattle.seal_fields.specs.Day.{is_day, day_octets}
+use Rattle.seal_fields.specs.Hex.{is_hex, hexadecimal}
 use Rattle.seal_fields.specs.Spaces.{filled}
 use Rattle.seal_header.specs.declared.header.Header.{Header}
 use Rattle.seal_header.specs.Reference.{is_letter_or_digit}
-use Rattle.seal_header.specs.Head.{Head, head_octets}
+use Rattle.seal_header.specs.Head.{Head}
 use Rattle.seal_features.specs.Features.{text_tag, signature_tag}
 use Rattle.seal.specs.Seal.{SealAnswer}
 use Rattle.text_theorems.specs.Accepted.{Keeps}
@@ -42,6 +42,20 @@ pub record Contents : Type 0 where
   pub signature : List ℕ
 
 -- ---- its octets
+
+-- version octet 03 says between signer and certificate reference how many characters the latter has
+unfoldable pub count_of : Head → List ℕ
+count_of h = cond (eqb h.version 0x02) [] (hexadecimal (length h.certificate))
+
+unfoldable pub reference_of : Head → List ℕ
+reference_of h = h.signer ++ (count_of h ++ h.certificate)
+
+-- "octet DC, version octet, issuing country, signer and certificate reference, issue date, signature date, feature definition
+-- reference, type category"; for emergency documents "reference 5E, category 03"
+unfoldable pub head_octets : Head → List ℕ
+head_octets h =
+    0xDC ∷ h.version ∷ (image_of h.country ++ (image_of (reference_of h) ++ (day_octets h.issued ++ (day_octets h.signed
+    ++ (0x5E ∷ 0x03 ∷ [])))))
 
 unfoldable pub feature_of : Feature → List ℕ
 feature_of f = tlv f.tag f.content

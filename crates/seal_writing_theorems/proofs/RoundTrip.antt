@@ -31,9 +31,11 @@ use Rattle.c40.specs.Image.{image_of}
 use Rattle.seal_fields.specs.Spaces.{filled, spaced}
 use Rattle.seal_fields.proofs.Spaced.{spaced_c40, filled_spaced}
 use Rattle.seal_header.specs.declared.header.Header.{Header}
-use Rattle.seal_header.specs.Head.{head_octets}
+use Rattle.seal_header.specs.Head as headed
+use Rattle.seal_header.specs.Head.{Head}
 use Rattle.seal_features.specs.Features.{text_tag, signature_tag}
 use Rattle.seal.specs.Seal.{SealAnswer, read_seal}
+use Rattle.seal_theorems.specs.Sealed.{count_of, reference_of, head_octets}
 use Rattle.seal_theorems.specs.Sealed.{Contents, joined, octets_of, are_others, Shaped, Sealed, header_in, signature_in, answer_in}
 use Rattle.seal_theorems.proofs.Acceptance.{sealed_answer, sealed_signature}
 use Rattle.seal_writing.specs.Carried.{is_carried}
@@ -41,6 +43,11 @@ use Rattle.seal_writing.specs.Seal.{head_of, signed_octets, seal_octets, is_td2,
 use Rattle.seal_writing.proofs.PartsJoined.{carried_apart, carried_joined}
 use Rattle.seal_writing_theorems.specs.Written.{IsAccepted, Given, contents_of, given_back}
 use Rattle.seal_writing_theorems.proofs.Headers.{length-spaced, head_kept, header_back}
+
+-- the octets of a header are those that are said of seals that are read
+head_same : (h : Head) → head_octets h ≡ headed.head_octets h
+unfolding head_octets headed.head_octets reference_of headed.reference_of count_of headed.count_of
+head_same h = refl
 
 -- the form that stands in seals
 td2_told : (f : Form) → is_td2 f ≡ true → f ≡ Td2
@@ -87,7 +94,10 @@ module _ (h : Header) (r : Record) (g : List ℕ) where
 
   pub contents_octets : octets_of (contents_of h r g) ≡ seal_octets h r g
   unfolding octets_of contents_of joined seal_octets signed_octets
-  contents_octets = sym (append_assoc (head_octets (head_of h)) (tlv text_tag (image_of (spaced (text_of r)))) (tlv signature_tag g))
+  contents_octets =
+      let text = tlv text_tag (image_of (spaced (text_of r))) in
+      ap (λ (l : List ℕ). l ++ (text ++ tlv signature_tag g)) (head_same (head_of h))
+      ∙ sym (append_assoc (headed.head_octets (head_of h)) text (tlv signature_tag g))
 
   module _ (k : Given h r g) where
     pure : every is_character (text_of r) ≡ true
