@@ -133,7 +133,7 @@ static enum asked understand_reading(struct words *files)
 
 static enum asked understand_writing(struct words *files)
 {
-    struct options taken = { "write", writing, OF_WRITING };
+    struct options taken = { "--write", writing, OF_WRITING };
     enum asked asked = options_take(&taken, files);
 
     if (asked != TO_WORK) {
@@ -153,7 +153,7 @@ static enum asked understand_writing(struct words *files)
 int main(int count, char **words)
 {
     struct words left = { words + 1, count - 1 };
-    int writes = left.count > 0 && strcmp(left.at[0], "write") == 0;
+    int writes = left.count > 0 && strcmp(left.at[0], "--write") == 0;
 
     if (writes) {
         skip(&left, 1);

@@ -2,9 +2,9 @@
 
 const char usage[] =
     "usage: scanner [--house HOUSE] [--hex] [--out FILE] FILE ..\n"
-    "       scanner write [--like FILE] [--octet VERSION] [--country LETTERS] [--signer CHARACTERS]\n"
-    "                     [--reference CHARACTERS] [--issued YYYY-MM-DD] [--signed YYYY-MM-DD]\n"
-    "                     [--signature FILE] [--hex] [--out FILE] ENTRY\n"
+    "       scanner --write [--like FILE] [--octet VERSION] [--country LETTERS] [--signer CHARACTERS]\n"
+    "                       [--reference CHARACTERS] [--issued YYYY-MM-DD] [--signed YYYY-MM-DD]\n"
+    "                       [--signature FILE] [--hex] [--out FILE] ENTRY\n"
     "       scanner --help | -h | --version\n"
     "\n"
     "Reads a seal from each FILE, or from standard input where - is given: the octets that the\n"
@@ -13,7 +13,7 @@ const char usage[] =
     "its octet. The house is 1 unless one is given. --out names a file for the entries that were\n"
     "accepted, which desk run reads; where a FILE cannot be read, it is left as it is.\n"
     "\n"
-    "scanner write makes the seal of the one entry, of TD2, that ENTRY holds. The fields of its\n"
+    "scanner --write makes the seal of the one entry, of TD2, that ENTRY holds. The fields of its\n"
     "header are those of a seal that --like names, and over these the ones that are given; the\n"
     "version octet is 3, but with --like the seal's. --signature names the file of the signature;\n"
     "without it the signature is empty, and what is to be signed is all of the seal but its last\n"
@@ -23,8 +23,8 @@ const char usage[] =
     "begins with # is a remark. On standard input one line end behind the seal is left out:\n"
     "dmtxread -n puts one there.\n"
     "\n"
-    "Options stand before the files, each once, with a blank or a = before the value; -- ends\n"
-    "them. A FILE that is called write stands behind --, or is given as ./write.\n"
+    "Options stand before the files, --write before all, each once, with a blank or a = before the\n"
+    "value; -- ends them.\n"
     "\n"
     "Exit status: 0 where every seal was accepted, or the seal was written; 1 where one was\n"
     "refused, 2 where the scanner could not do its work.\n";

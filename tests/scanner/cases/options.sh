@@ -4,15 +4,15 @@
 "$folder/scanner" --help > "$folder/usage"
 try 'the usage names every option' [ "$(grep -c -e '--house .*--hex.*--out\|--help | -h | --version' "$folder/usage")" = 2 ]
 for option in like octet country signer reference issued signed signature hex out; do
-    try "the usage of write names --$option" grep -q "\[--${option}[] ]" <(sed -n '/scanner write/,/ENTRY$/p' "$folder/usage")
+    try "the usage of --write names --$option" grep -q "\[--${option}[] ]" <(sed -n '/scanner --write/,/ENTRY$/p' "$folder/usage")
 done
-for words in '-h' '--hex --help' '--house 1 -h' 'write --help' 'write --hex -h'; do
+for words in '-h' '--hex --help' '--house 1 -h' '--write --help' '--write --hex -h'; do
     # The words are several.
     # shellcheck disable=SC2086
     holds "help by $words" 0 "$folder/usage" $words
 done
 holds 'the version' 0 <(echo "scanner $version") --version
-holds 'the version, of write' 0 <(echo "scanner $version") write --version
+holds 'the version, of writing' 0 <(echo "scanner $version") --write --version
 
 octets_of "$samples/seal.hex" > "$folder/octets"
 cp "$folder/octets" "$folder/--dashes"
@@ -25,7 +25,7 @@ dashes_taken() {
 try 'a file whose name begins with dashes' dashes_taken
 cp "$folder/octets" "$folder/write"
 write_taken() {
-    (cd "$folder" && ./scanner -- write && ./scanner ./write && ./scanner octets write) | diff <(cat "$folder"/seal{,,,}) -
+    (cd "$folder" && ./scanner write && ./scanner -- write && ./scanner octets write) | diff <(cat "$folder"/seal{,,,}) -
 }
 try 'a file that is called write' write_taken
 

@@ -5,15 +5,15 @@
 "$folder/scanner" --hex --out "$folder/entry" "$samples/version-03.hex" > /dev/null
 header=(--country UTO --signer UT01 --reference FFAFF --issued 2016-08-08 --signed 2007-08-09)
 octets 07070707 > "$folder/signature"
-holds 'a seal is written' 0 "$expected/write" write "${header[@]}" --signature "$folder/signature" "$folder/entry"
+holds 'a seal is written' 0 "$expected/write" --write "${header[@]}" --signature "$folder/signature" "$folder/entry"
 { sed '$d' "$expected/write" && echo "  written      76 octets, to $folder/seal-out" && echo; } > "$folder/written"
 holds 'a seal is written to a file' 0 "$folder/written" \
-    write "${header[@]}" --signature "$folder/signature" --out "$folder/seal-out" "$folder/entry"
+    --write "${header[@]}" --signature "$folder/signature" --out "$folder/seal-out" "$folder/entry"
 try 'it is the sample' cmp "$folder/seal-out" <(octets_of "$samples/version-03.hex")
 
 # Without a signature: FF 00 behind what is signed.
 message() {
-    "$folder/scanner" write "${header[@]}" --out "$folder/unsigned" "$folder/entry" > /dev/null \
+    "$folder/scanner" --write "${header[@]}" --out "$folder/unsigned" "$folder/entry" > /dev/null \
         && cmp <(head -c -2 "$folder/unsigned") <(head -c 70 "$folder/seal-out") \
         && cmp <(tail -c 2 "$folder/unsigned") <(octets ff00)
 }
@@ -23,13 +23,13 @@ try 'what is signed does not depend on the signature' message
 entry_hex=$(od -An -v -tx1 "$folder/entry" | tr -d ' \n')
 printf '# a signature\n0707 0707\n' > "$folder/signature.hex"
 holds 'an entry and a signature in hex' 0 "$expected/write" \
-    write "${header[@]}" --hex --signature="$folder/signature.hex" - <<< "$entry_hex"
+    --write "${header[@]}" --hex --signature="$folder/signature.hex" - <<< "$entry_hex"
 holds 'an entry on standard input' 0 "$expected/write" \
-    write "${header[@]}" --octet=3 --signature "$folder/signature" - < "$folder/entry"
+    --write "${header[@]}" --octet=3 --signature "$folder/signature" - < "$folder/entry"
 holds 'the header of a seal' 0 "$expected/write" \
-    write --like "$folder/seal-out" --signature "$folder/signature" -- "$folder/entry"
+    --write --like "$folder/seal-out" --signature "$folder/signature" -- "$folder/entry"
 holds 'a field over that of a seal' 0 <(sed 's/UTO$/D<</; s/d9c5d9ad/6abcd9ad/; /nationality\|state/s/D<</UTO/' "$expected/write") \
-    write --like "$folder/seal-out" --country D --signature "$folder/signature" "$folder/entry"
+    --write --like "$folder/seal-out" --country D --signature "$folder/signature" "$folder/entry"
 
 # ---- what is read of every accepted sample, with its version set to 3, is written and read back
 
@@ -44,7 +44,7 @@ read_seal_of() {
 comes_back() {
     octets_of "$1" > "$folder/octets"
     read_seal_of "$folder/octets" \
-        && "$folder/scanner" write --like "$folder/octets" --octet 3 --signature "$folder/signature" --out "$folder/again" \
+        && "$folder/scanner" --write --like "$folder/octets" --octet 3 --signature "$folder/signature" --out "$folder/again" \
             "$folder/entry" > /dev/null \
         && "$folder/scanner" "$folder/again" > "$folder/read-again" \
         && grep -qx '  version      03' "$folder/read-again" \
@@ -54,7 +54,7 @@ comes_back() {
 unchanged() {
     local status
     read_seal_of "$folder/octets" && rm -f "$folder/as-read"
-    "$folder/scanner" write --like "$folder/octets" --signature "$folder/signature" --out "$folder/as-read" "$folder/entry" \
+    "$folder/scanner" --write --like "$folder/octets" --signature "$folder/signature" --out "$folder/as-read" "$folder/entry" \
         > "$folder/shown"
     status=$?
     if grep -qx '  version      02' "$folder/read"; then
@@ -80,13 +80,13 @@ cp "$folder/seal-out" "$folder/before"
 refused_with() {
     local name=$1 number=$2
     shift 2
-    "$folder/scanner" write --out "$folder/seal-out" "$@" > "$folder/output"
+    "$folder/scanner" --write --out "$folder/seal-out" "$@" > "$folder/output"
     try "$name" [ "$?.$(sed -n 's/^  refused, \([0-9]*\) at place 0: .*/\1/p' "$folder/output")" = "1.$number" ]
     try "$name leaves what was there" cmp "$folder/before" "$folder/seal-out"
 }
 octets 00 > "$folder/no-entry"
 refused_with 'no entry' 18 "${header[@]}" "$folder/no-entry"
-holds 'no entry is shown as it is' 1 "$expected/write-entry" write "${header[@]}" "$folder/no-entry"
+holds 'no entry is shown as it is' 1 "$expected/write-entry" --write "${header[@]}" "$folder/no-entry"
 refused_with 'an empty file' 18 "${header[@]}" /dev/null
 cat "$folder/entry" "$folder/entry" > "$folder/two"
 refused_with 'two entries' 18 "${header[@]}" "$folder/two"
@@ -100,12 +100,12 @@ head -c 65462 /dev/zero > "$folder/long"
 refused_with 'a signature that is too long' 28 "${header[@]}" --signature "$folder/long" "$folder/entry"
 head -c 65461 /dev/zero > "$folder/long"
 holds_longest() {
-    "$folder/scanner" write "${header[@]}" --signature "$folder/long" --out "$folder/longest-out" "$folder/entry" > /dev/null \
+    "$folder/scanner" --write "${header[@]}" --signature "$folder/long" --out "$folder/longest-out" "$folder/entry" > /dev/null \
         && [[ $(wc -c < "$folder/longest-out") -eq 65535 ]] && "$folder/scanner" "$folder/longest-out" > /dev/null
 }
 try 'the longest seal is written and read back' holds_longest
 octets_of "$samples/24-dc.hex" > "$folder/none"
-holds 'the header of what is no seal' 1 "$expected/write-like" write --like "$folder/none" "$folder/entry"
+holds 'the header of what is no seal' 1 "$expected/write-like" --write --like "$folder/none" "$folder/entry"
 
 # A passport's entry is one that no seal holds.
 octets "$(sed -n 's/^  entry        //p' tests/desk/expected/t3)" > "$folder/passport"
