@@ -6,14 +6,14 @@ forms=crates/zone/specs/Form.antt
 # The parts of a form in text order, each with its width.
 layout_of() {
     sed -n "/^row $1 = /,/^}/p" $forms | tr '\n' ' ' | sed 's/.*layout =//; s/\[\];.*//' | tr -s ' ' \
-        | sed 's/ ∷ /\n/g' | sed -n 's/^ *\([a-zA-Z0-9]*\) of \([0-9]*\) *$/\2 \1/p'
+        | sed 's/ ∷ /\n/g' | sed -n 's/^ *\([a-z0-9_]*\) of \([0-9]*\) *$/\2 \1/p'
 }
 # The words that C has for each part.
 in_words() {
     sed -E 's/ code$/ document code/; s/ state$/ issuing state/; s/ number$/ document number/; s/ optional$/ optional data/
         s/ optional2$/ second optional data/; s/ personal$/ personal number/; s/ composite$/ composite check digit/
-        s/ numberCheck$/ check digit of the document number/; s/ birthCheck$/ check digit of the birth/
-        s/ expiryCheck$/ check digit of the expiry/; s/ personalCheck$/ check digit of the personal number/'
+        s/ number_check$/ check digit of the document number/; s/ birth_check$/ check digit of the birth/
+        s/ expiry_check$/ check digit of the expiry/; s/ personal_check$/ check digit of the personal number/'
 }
 table_of() {
     sed -n "/lamphudet_part $1\[\] = {/,/};/p" include/lamphudet.h | grep -oE '\{ [1-9][0-9]*, "[^"]*" \}' \
@@ -43,7 +43,7 @@ told_visas() {
 # A long number, in the forms that have one: with the check place, the optional field and its width.
 long_number() {
     local at
-    at="$(start_of "$1" numberCheck), $(start_of "$1" optional), $(width_of "$1" optional)"
+    at="$(start_of "$1" number_check), $(start_of "$1" optional), $(width_of "$1" optional)"
     grep -q "text_len == $(total_of "$1") ? lamphudet_long_number_at(text, $at, place)" include/lamphudet.h
 }
 for form in Td1 Td2 Td3 MrvA MrvB; do

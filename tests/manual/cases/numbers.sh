@@ -13,9 +13,9 @@ in_c() {
 # The numbers of the definition. The digit's is that of every refusal with a digit.
 defined() {
     {
-        sed -n 's/^whyOf Cause\.\([A-Za-z]*\) = by \([0-9]*\)$/\2 \1/p' $numbers
-        sed -n 's/^numberOf (expecting digit) = \([0-9]*\)$/\1/p' $numbers \
-            | sed "s/\$/ $(sed -n 's/^whyOf (Cause\.\([A-Za-z]*\) digit) = expecting digit$/\1/p' $numbers)/"
+        sed -n 's/^why_of Cause\.\([A-Za-z]*\) = by \([0-9]*\)$/\2 \1/p' $numbers
+        sed -n 's/^number_of (expecting digit) = \([0-9]*\)$/\1/p' $numbers \
+            | sed "s/\$/ $(sed -n 's/^why_of (Cause\.\([A-Za-z]*\) digit) = expecting digit$/\1/p' $numbers)/"
     } | in_c | sort -n
 }
 in_enum() {
@@ -25,7 +25,7 @@ in_pages() {
     sed -n '/^\.It [0-9]*$/{s/^\.It //;N;s/\n\.Dv LAMPHUDET_REFUSED_/ /;s/ :$//;p;}' man/*.3 | sort -nu
 }
 try 'the definition has some numbers' [ "$(defined | wc -l)" -gt 20 ]
-try 'every cause has a number' [ "$(defined | wc -l)" = "$(grep -c '^whyOf ' $numbers)" ]
+try 'every cause has a number' [ "$(defined | wc -l)" = "$(grep -c '^why_of ' $numbers)" ]
 try "lamphudet.h's enum has them" diff <(defined) <(in_enum)
 try 'the pages have them' diff <(defined) <(in_pages)
 
@@ -74,7 +74,7 @@ list_of() {
     body=$(sed -n "s/^$1\( reader\)* = //p" $calls)
     [[ -n $body ]] || { echo "no list $1" && return; }
     grep -oE '[0-9]+' <<< "$body"
-    if [[ $body =~ (of[A-Z][A-Za-z]*)$ ]]; then
+    if [[ $body =~ (of_[a-z_]*)$ ]]; then
         list_of "${BASH_REMATCH[1]}"
     fi
 }
@@ -82,16 +82,16 @@ list_of() {
 told_by() {
     {
         case $1 in
-        lamphudet_read_text) list_of ofText && list_of entered ;;
-        lamphudet_read_presentation) list_of ofPresentation && list_of entered ;;
-        lamphudet_read_seal) list_of ofSeal && list_of entered ;;
-        lamphudet_look_inside) list_of ofInside ;;
-        lamphudet_read_detail) list_of ofDetails ;;
-        lamphudet_write_text) list_of ofTextWriterInC ;;
-        lamphudet_write_seal) list_of ofSealWriterInC ;;
-        lamphudet_open_entry | lamphudet_next_entry) list_of ofRun ;;
-        lamphudet_look_over) list_of ofList ;;
-        lamphudet_digest) list_of ofDigest ;;
+        lamphudet_read_text) list_of of_text && list_of entered ;;
+        lamphudet_read_presentation) list_of of_presentation && list_of entered ;;
+        lamphudet_read_seal) list_of of_seal && list_of entered ;;
+        lamphudet_look_inside) list_of of_inside ;;
+        lamphudet_read_detail) list_of of_details ;;
+        lamphudet_write_text) list_of of_text_writer_in_c ;;
+        lamphudet_write_seal) list_of of_seal_writer_in_c ;;
+        lamphudet_open_entry | lamphudet_next_entry) list_of of_run ;;
+        lamphudet_look_over) list_of of_list ;;
+        lamphudet_digest) list_of of_digest ;;
         lamphudet_group_file | lamphudet_full_name | lamphudet_house_entries | lamphudet_version | lamphudet_seals_version) ;;
         *) echo "no list for $1" ;;
         esac
@@ -103,10 +103,10 @@ ranges() {
 }
 # The table of the lists in the page on the demands.
 lists() {
-    sed -n 's/^\(of[A-Za-z]*\|entered\)\( reader\)* = .*/\1/p' $calls | grep -vx ofFields | sort
+    sed -n 's/^\(of_[a-z_]*\|entered\)\( reader\)* = .*/\1/p' $calls | grep -vx of_fields | sort
 }
 rows() {
-    sed -n 's/^| .* | \([0-9].*\) | `\([A-Za-z]*\)` |$/\2 \1/p' docs/DEMANDS.md
+    sed -n 's/^| .* | \([0-9].*\) | `\([a-z_]*\)` |$/\2 \1/p' docs/DEMANDS.md
 }
 in_row() {
     rows | sed -n "s/^$1 //p" | grep -oE '[0-9]+( to [0-9]+)?' | sed 's/ to / /' | ranges
@@ -134,7 +134,7 @@ in_sentence() {
         here && said { print }' man/*.3 | tr '\n' ' ')
     {
         grep -oE '[0-9]+( to [0-9]+)?' <<< "$sentence" | sed 's/ to / /' | ranges
-        [[ $sentence != *'those of the text'* ]] || list_of ofText
+        [[ $sentence != *'those of the text'* ]] || list_of of_text
     } | sort -nu
 }
 calls_declared() {

@@ -9,7 +9,7 @@ defined_version="$(part_of major).$(part_of minor).$(part_of patch)"
 defined_number=$((10000 * $(part_of major) + 100 * $(part_of minor) + $(part_of patch)))
 
 try 'the definition has a version' grep -qxE '[0-9]+\.[0-9]{1,2}\.[0-9]{1,2}' <<< "$defined_version"
-try 'the number is worked out as here' grep -qx 'versionNumber = 10000 \* major + 100 \* minor + patch' $definition
+try 'the number is worked out as here' grep -qx 'version_number = 10000 \* major + 100 \* minor + patch' $definition
 try 'the header has the version' [ "$version" = "$defined_version" ]
 try 'the header has its number' grep -qx "#define LAMPHUDET_VERSION_NUMBER $defined_number" include/lamphudet.h
 
