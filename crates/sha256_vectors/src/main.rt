@@ -3,60 +3,61 @@
 // Python's hashlib.
 #![tactic(auto)]
 
-use libc::STDOUT_FILENO;
 use refusal::Written;
+use std::io;
 
 // 32 octets in hex.
-fn print_octets(octets: &[u8]) {
-    let mut i = 0;
-    while i < octets.len() {
-        io::print_hex(STDOUT_FILENO, octets[i] as u64, 2);
-        i += 1;
+fn print_octets(rt: &impl Print, octets: &[u8]) -> io::Result<()> {
+    for octet in octets {
+        print!(rt; "{octet:02x}")?;
     }
-    io::write_all(STDOUT_FILENO, b"\n");
+    println!(rt)
 }
 
 // The digest, or the number of its refusal.
-fn print_answer(message: &[u8], out: &mut [u8]) {
+fn print_answer(rt: &impl Print, message: &[u8], out: &mut [u8]) -> io::Result<()> {
     match digest::digest(message, out) {
-        Written::Octets(_) => print_octets(out),
+        Written::Octets(_) => print_octets(rt, out),
         Written::Refused(refusal) => {
-            io::write_all(STDOUT_FILENO, b"refused ");
             let cause = refusal.cause;
-            io::print_decimal(STDOUT_FILENO, cause.number() as u64);
-            io::write_all(STDOUT_FILENO, b"\n");
+            let number = cause.number();
+            println!(rt; "refused {number}")
         }
     }
 }
 
-fn print_message(message: &[u8]) {
+fn print_message(rt: &impl Print, message: &[u8]) -> io::Result<()> {
     let mut out = [0u8; 32];
-    print_answer(message, &mut out);
+    print_answer(rt, message, &mut out)
 }
 
 // The first n of a run of one octet.
-fn print_run(run: &[u8], n: usize) {
-    print_message(lent::part(run, 0, n));
+fn print_run(rt: &impl Print, run: &[u8], n: usize) -> io::Result<()> {
+    print_message(rt, lent::part(run, 0, n))
 }
 
-fn main() {
-    print_message(b"");
-    print_message(b"abc");
-    print_message(b"abcdbcdecdefdefgefghfghighijhijkijkljklmklmnlmnomnopnopq");
+fn main(rt: HostRuntime) -> io::Result<()> {
+    print_message(&rt, b"")?;
+    print_message(&rt, b"abc")?;
     print_message(
+        &rt,
+        b"abcdbcdecdefdefgefghfghighijhijkijkljklmklmnlmnomnopnopq",
+    )?;
+    print_message(
+        &rt,
         b"abcdefghbcdefghicdefghijdefghijkefghijklfghijklmghijklmnhijklmnoijklmnopjklmnopqklmnopqrlmnopqrsmnopqrstnopqrstu",
-    );
+    )?;
     let run = [b'a'; 65536];
-    print_run(&run, 55);
-    print_run(&run, 56);
-    print_run(&run, 63);
-    print_run(&run, 64);
-    print_run(&run, 65);
-    print_run(&run, 119);
-    print_run(&run, 120);
-    print_run(&run, 1000);
-    print_run(&run, 65535);
-    print_run(&run, 65536);
+    print_run(&rt, &run, 55)?;
+    print_run(&rt, &run, 56)?;
+    print_run(&rt, &run, 63)?;
+    print_run(&rt, &run, 64)?;
+    print_run(&rt, &run, 65)?;
+    print_run(&rt, &run, 119)?;
+    print_run(&rt, &run, 120)?;
+    print_run(&rt, &run, 1000)?;
+    print_run(&rt, &run, 65535)?;
+    print_run(&rt, &run, 65536)?;
     let mut short = [0u8; 31];
-    print_answer(b"abc", &mut short);
+    print_answer(&rt, b"abc", &mut short)
 }

@@ -8,54 +8,46 @@ ghost use Rattle.std.specs.Prelude.{◌<◌};
 mod list;
 
 use lent::octet;
-use libc::STDOUT_FILENO;
 use list::{CODES, undetected};
+use std::io;
 use zone::codes::characters;
 
-fn main() {
-    slips(b"One character for another, in one place", 10);
-    io::write_all(STDOUT_FILENO, b"\n");
-    slips(b"Two neighbours exchanged", 5);
+fn main(rt: HostRuntime) -> io::Result<()> {
+    slips(&rt, "One character for another, in one place", 10)?;
+    println!(rt)?;
+    slips(&rt, "Two neighbours exchanged", 5)
 }
 
 // The pairs whose values agree modulo a number.
-fn slips(slip: &[u8], modulus: usize)
+fn slips(rt: &impl Print, slip: &str, modulus: usize) -> io::Result<()>
     requires { 0 < modulus }
 {
     let pairs = undetected(modulus);
     let count = pairs.count;
     let numbers = pairs.numbers;
-    io::write_all(STDOUT_FILENO, slip);
-    io::write_all(STDOUT_FILENO, b": not found of ");
-    io::print_decimal(STDOUT_FILENO, count as u64);
-    io::write_all(STDOUT_FILENO, b" pairs.");
-    lines(&numbers[..count]);
+    print!(rt; "{slip}: not found of {count} pairs.")?;
+    lines(rt, &numbers[..count])
 }
 
-fn lines(numbers: &[usize]) {
+fn lines(rt: &impl Print, numbers: &[usize]) -> io::Result<()> {
     let mut last = CODES;
-    let mut i = 0;
-    while i < numbers.len() {
-        let number = numbers[i];
-        pair(number, last);
-        last = number / CODES;
-        i += 1;
+    for number in numbers {
+        pair(rt, *number, last)?;
+        last = *number / CODES;
     }
-    io::write_all(STDOUT_FILENO, b"\n");
+    println!(rt)
 }
 
 // In a new line, unless the last one had the same lower character.
-fn pair(number: usize, last: usize) {
+fn pair(rt: &impl Print, number: usize, last: usize) -> io::Result<()> {
     let by_code = characters();
     let lower = number / CODES;
     if lower == last {
-        io::write_all(STDOUT_FILENO, b" ");
+        print!(rt; " ")?;
     } else {
-        io::write_all(STDOUT_FILENO, b"\n");
+        println!(rt)?;
     }
-    let upper = number % CODES;
-    io::write_all(
-        STDOUT_FILENO,
-        &[octet(&by_code, lower), octet(&by_code, upper)],
-    );
+    let one = octet(&by_code, lower) as char;
+    let other = octet(&by_code, number % CODES) as char;
+    print!(rt; "{one}{other}")
 }

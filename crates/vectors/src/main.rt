@@ -6,43 +6,42 @@
 mod print;
 
 use lent::{octet, part};
+use std::io;
+use std::io::{BufWriter, Read, Write};
 
-fn main() {
-    let mut room = io::large_buffer();
-    let n = io::read_full(0, &mut room);
-    io::write_all(
-        1,
-        b"Texts of machine readable zones, and what the library reads each as.\n",
-    );
-    lines(&room[..n]);
+fn main(rt: HostRuntime) -> io::Result<()> {
+    let mut samples = Vec::new(rt.alloc());
+    rt.reader().read_to_end(&mut samples)?;
+    let mut out = BufWriter::new(rt.alloc(), io::writer(&rt))?;
+    out.write_all(b"Texts of machine readable zones, and what the library reads each as.\n")?;
+    lines(&mut out, &samples)?;
+    out.flush()
 }
 
 // Every line, the last one too, ends in a line end.
-fn lines(samples: &[u8]) {
+fn lines<W: Write>(out: &mut W, samples: &[u8]) -> io::Result<()> {
     let mut start = 0;
     let mut titled = false;
-    let mut next = 0;
-    while next < samples.len() {
-        let at = next;
-        next += 1;
-        if samples[at] == b'\n' {
-            titled = line(part(samples, start, at - start), titled);
-            start = next;
+    for (at, c) in samples.iter().enumerate() {
+        if *c == b'\n' {
+            titled = line(out, part(samples, start, at - start), titled)?;
+            start = at + 1;
         }
     }
+    Ok(())
 }
 
 // The line behind a title is a text, whatever it holds. Any other is a title, a remark or blank. Answers whether it is a title.
-fn line(line: &[u8], titled: bool) -> bool {
+fn line<W: Write>(out: &mut W, line: &[u8], titled: bool) -> io::Result<bool> {
     if titled {
-        print::sample(line);
-        return false;
+        print::sample(out, line)?;
+        return Ok(false);
     }
     match octet(line, 0) {
-        0 | b'#' => false,
+        0 | b'#' => Ok(false),
         _ => {
-            print::title(line);
-            true
+            print::title(out, line)?;
+            Ok(true)
         }
     }
 }
