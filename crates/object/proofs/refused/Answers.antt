@@ -2,10 +2,8 @@
 use Rattle.tlv.specs.Read.{outcome_in}
 use Rattle.object.specs.Inner.Seen.{object_answer, table_of, said_version}
 use mathlib.Core.Path.{refl}
-use Rattle.object.proofs.refused.Statement.{statement}
-use Rattle.object.proofs.refused.Tie as tie
+use Rattle.object.proofs.refused.Goals as goal
 
-pub refused-spec : {M : Type 1} → statement M
+pub returns : goal.returns
 unfolding object_answer table_of said_version outcome_in
-refused-spec = tie.close (tie.spec
-    (λ c. refl))
+returns c = refl

@@ -1,9 +1,0 @@
--- The refusal, in the paper's numbers.
-use borrow.Author.Rules.{rules}
-use Rattle.object.proofs.entries.refuse.Statement.{statement}
-use Rattle.object.proofs.entries.refuse.Tie as tie
-
-pub refuse-spec : {M : Type 1} → statement M
-refuse-spec = tie.close (tie.spec
-    (λ c κs. search rules)
-    (λ c. rw c.at.ensures))

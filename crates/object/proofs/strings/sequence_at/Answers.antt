@@ -1,0 +1,16 @@
+-- The element, then what is in it.
+use Rattle.tlv.specs.Element.{taken_of}
+use Rattle.tlv.specs.Read.{and_then}
+use Rattle.object.specs.Object.{sequence_at}
+use mathlib.Core.Path.{sym, ap, ◌∙◌}
+use Rattle.object.proofs.strings.sequence_at.Goals as goal
+
+pub returns-in-Value : goal.returns-in-Value
+unfolding sequence_at and_then
+returns-in-Value c = let told = sym c.element.ensures ∙ ap taken_of c.in-Value.is in
+    rw told c.strings_in.ensures
+
+pub returns-in-Refused : goal.returns-in-Refused
+unfolding sequence_at and_then
+returns-in-Refused c = let told = sym c.element.ensures ∙ ap taken_of c.in-Refused.is in
+    rw told

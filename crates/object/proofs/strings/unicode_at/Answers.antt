@@ -1,0 +1,15 @@
+-- The element, and nothing behind it.
+use Rattle.tlv.specs.Element.{taken_of}
+use Rattle.tlv.specs.Read.{and_then}
+use mathlib.Core.Path.{sym, ap, ◌∙◌}
+use Rattle.object.proofs.strings.unicode_at.Goals as goal
+
+pub returns-in-Value : goal.returns-in-Value
+unfolding and_then
+returns-in-Value c = let told = sym c.element.ensures ∙ ap taken_of c.in-Value.is in
+    rw told c.closed.ensures
+
+pub returns-in-Refused : goal.returns-in-Refused
+unfolding and_then
+returns-in-Refused c = let told = sym c.element.ensures ∙ ap taken_of c.in-Refused.is in
+    rw told
