@@ -4,5 +4,5 @@ pub mod Versions
 pub mod Told
 -- the laws by which the tag list is walked
 pub mod TagList
--- a list of known tags without a repeat has at most fifteen (`fifteen-tags`)
+-- a list of known tags without a repeat has at most fifteen (`fifteen_tags`)
 pub mod FifteenTags

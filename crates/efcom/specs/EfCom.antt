@@ -26,7 +26,7 @@ unfoldable pub once_from : ℕ → List ℕ → List ℕ → Outcome
 once_from place before [] = passed
 once_from place before (c ∷ t) = cond (stands c before) (refused (by 11) place) (once_from (suc place) (c ∷ before) t)
 
--- both; more than fifteen are never left to refuse (`fifteen-tags`)
+-- both; more than fifteen are never left to refuse (`fifteen_tags`)
 unfoldable pub tags_check : List ℕ → Stretch → Outcome
 tags_check s v = or_else (known_from v.from (cut s v)) (once_from v.from [] (cut s v))
 

@@ -4,5 +4,5 @@ pub mod EntryPlaces
 pub mod EntriesWalked
 -- what was seen of the entries decides as their list does
 pub mod EntriesByTable
--- entries whose numbers are within 1 to 16 and differ are at most sixteen (`sixteen-entries`)
+-- entries whose numbers are within 1 to 16 and differ are at most sixteen (`sixteen_entries`)
 pub mod SixteenEntries

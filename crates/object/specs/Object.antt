@@ -57,7 +57,7 @@ unfoldable pub numbers_once : List ℕ → List GroupHash → Outcome
 numbers_once before [] = passed
 numbers_once before (e ∷ es) = cond (stands e.group before) (refused (by 12) e.place) (numbers_once (e.group ∷ before) es)
 
--- then fewer than 2 (12 at the list); more than 16 are never left to refuse (`sixteen-entries`)
+-- then fewer than 2 (12 at the list); more than 16 are never left to refuse (`sixteen_entries`)
 unfoldable pub entries_check : List GroupHash → ℕ → Outcome
 entries_check es at = or_else (numbers_once [] es) (unless (leb 2 (length es)) 12 at)
 

@@ -1,4 +1,4 @@
--- Both stages are what stands before the files, and then these (`front-walked`).
+-- Both stages are what stands before the files, and then these (`front_walked`).
 use Prim.Native.Nat.{ℕ}
 use mathlib.Core.Path.{◌≡◌, refl, ap, sym, ◌∙◌}
 use mathlib.Core.List.{List}

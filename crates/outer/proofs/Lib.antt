@@ -2,5 +2,5 @@
 pub mod FilesWalked
 -- both stages are what stands before the files, and then these
 pub mod BeforeFiles
--- no two answers are told alike (`walked-tells`)
+-- no two answers are told alike (`walked_tells`)
 pub mod Told

@@ -4,7 +4,7 @@ pub mod Joined
 pub mod Past
 -- walks by a number of steps: any that is enough gives the same
 pub mod Steps
--- the reader takes exactly what the encoder gives (`reads`, `back`, `prefix-free`)
+-- the reader takes exactly what the encoder gives (`reads`, `back`, `prefix_free`)
 pub mod Encoded
 -- an element that stands at a place: read there, its parts and places
 pub mod Standing
@@ -12,7 +12,7 @@ pub mod Standing
 pub mod Stretches
 -- what every refusal of steps in their order has (`EachRead`)
 pub mod Each
--- no two answers are told alike (`taken-tells`)
+-- no two answers are told alike (`taken_tells`)
 pub mod Told
 -- the element that stands at a place, whatever its tag
 pub mod Whatever

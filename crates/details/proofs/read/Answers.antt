@@ -1,4 +1,4 @@
--- The file, and what goes on in it (`read-onward`).
+-- The file, and what goes on in it (`read_onward`).
 use Rattle.tlv.specs.Read.{and_then}
 use Rattle.details.proofs.SideBySide.{read_onward}
 use Rattle.details.proofs.read.Goals as goal

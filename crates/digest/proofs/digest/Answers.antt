@@ -1,4 +1,4 @@
--- Each return by the tests that led to it; the copy leaves all but 32 octets (`front-copied`).
+-- Each return by the tests that led to it; the copy leaves all but 32 octets (`front_copied`).
 use mathlib.Core.Path.{◌∙◌}
 use borrow.Author.Tests.{le-leb, lt-leb}
 use borrow.Author.Rules.{rules}

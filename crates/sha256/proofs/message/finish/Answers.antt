@@ -1,4 +1,4 @@
--- A short end fills one block, a long one two (`finish-one`, `finish-two`).
+-- A short end fills one block, a long one two (`finish_one`, `finish_two`).
 use Rattle.sha256.proofs.ChainLaws.{finish_one, finish_two}
 use Rattle.sha256.proofs.message.finish.Goals as goal
 

@@ -1,4 +1,4 @@
--- What is left of the padded message gives the same as all of it; a turn takes a block off (`chained-block`).
+-- What is left of the padded message gives the same as all of it; a turn takes a block off (`chained_block`).
 use lib.ListN.{length, drop}
 use mathlib.Core.Path.{◌≡◌}
 use Prim.Native.Nat.{◌-◌, ◌%◌, ◌≤◌}

@@ -1,4 +1,4 @@
--- A copy to the front of zeros, and one store behind it (`mark-after`).
+-- A copy to the front of zeros, and one store behind it (`mark_after`).
 use Rattle.sha256.proofs.PaddingLaws.{mark_after}
 use Rattle.sha256.proofs.message.marked.Goals as goal
 

@@ -1,4 +1,4 @@
--- Two words stored at the block's end are the eight octets of the length (`put-length`).
+-- Two words stored at the block's end are the eight octets of the length (`put_length`).
 use lib.Bits.{and_mask, mask_lt}
 use Prim.Native.Nat.{◌/◌, ◌*◌, ◌%◌, ◌^◌}
 use borrow.Author.Rules.{rules}

@@ -1,4 +1,4 @@
--- The words before place i stand joined in front; a turn puts one more behind them (`joined-more`).
+-- The words before place i stand joined in front; a turn puts one more behind them (`joined_more`).
 use mathlib.Core.Path.{◌≡◌}
 use mathlib.Core.List.{◌++◌}
 use Prim.Native.Nat.{◌≤◌, ◌-◌, ◌*◌}

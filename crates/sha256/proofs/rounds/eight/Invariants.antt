@@ -1,4 +1,4 @@
--- What is left of the rounds gives the same as all of them; a turn takes one off (`rounds-more`).
+-- What is left of the rounds gives the same as all of them; a turn takes one off (`rounds_more`).
 use mathlib.Core.Path.{◌≡◌}
 use Prim.Native.Nat.{◌≤◌, ◌-◌}
 use lib.ListN.{drop}

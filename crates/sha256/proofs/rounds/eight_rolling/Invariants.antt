@@ -1,4 +1,4 @@
--- A turn takes one round off (`rounds-more`) and stores the word that goes into its place (`rolled-more`).
+-- A turn takes one round off (`rounds_more`) and stores the word that goes into its place (`rolled_more`).
 use mathlib.Core.Path.{◌≡◌}
 use Prim.Native.Nat.{◌+◌, ◌≤◌, ◌-◌}
 use lib.ListN.{length, take, drop}

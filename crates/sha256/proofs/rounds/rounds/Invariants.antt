@@ -1,5 +1,5 @@
 -- What is left of the rounds gives the same as all of them; a turn takes sixteen off, or eight where no word is missing any
--- more, on words that the ring holds (`rounds-turn`).
+-- more, on words that the ring holds (`rounds_turn`).
 use mathlib.Core.Path.{◌≡◌}
 use lib.ListN.{drop}
 use Prim.Native.Nat.{◌≤◌, ◌%◌, ◌-◌}
