@@ -1,0 +1,6 @@
+-- The stretch, cut out.
+use borrow.Author.Rules.{rules}
+use Rattle.nightly.proofs.house_entries.Goals as goal
+
+pub returns : goal.returns
+returns c = rw (c.cut.ensures, c.house_stretch-stretch.ensures)
