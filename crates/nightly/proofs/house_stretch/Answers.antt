@@ -8,9 +8,9 @@ use Rattle.nightly.proofs.house_stretch.Goals as goal
 pub returns-in-Whole : goal.returns-in-Whole
 returns-in-Whole c =
     let a = c.args in
-    let seen = c.seen-1.given in
-    seen_own a.list.now a.house seen.0.0
-    (sym (ap walked_of seen.1) ∙ c.walk.ensures)
+    let seen = c.in-Whole in
+    seen_own a.list.now a.house seen.seen
+    (sym (ap walked_of seen.is) ∙ c.walk.ensures)
 
 pub returns-in-Refused : goal.returns-in-Refused
 returns-in-Refused c =

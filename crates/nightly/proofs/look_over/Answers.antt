@@ -8,8 +8,8 @@ use Rattle.nightly.proofs.look_over.Goals as goal
 pub returns-in-Whole : goal.returns-in-Whole
 returns-in-Whole c =
     let w = c.args.list.now in
-    let seen = c.seen-1.given in
-    seen_counted w 0 seen.0.0 (sym (ap walked_of seen.1) ∙ c.walk.ensures)
+    let seen = c.in-Whole in
+    seen_counted w 0 seen.seen (sym (ap walked_of seen.is) ∙ c.walk.ensures)
 
 pub returns-in-Refused : goal.returns-in-Refused
 returns-in-Refused c =

@@ -12,12 +12,12 @@ returns-then-is_below c =
     let a = c.args in
     let w = a.list.now in
     let told = c.next-standing.ensures in
-    let step = c.step-1.given in
-    let on = sym (ap (λ (s : Standing). s.onward) told) ∙ ap onward_of step.1 in
+    let step = c.in-Next in
+    let on = sym (ap (λ (s : Standing). s.onward) told) ∙ ap onward_of step.is in
     let house = ap (λ (s : Standing). s.house) told in
     let below = rw (c.part-in-Next.ensures, c.part.ensures)
     at (sym c.is_below.ensures ∙ c.if-is_below.true) in
-    rw house (sym (entry_stands w (key_at w a) a.at step.0.0 on below))
+    rw house (sym (entry_stands w (key_at w a.before) a.at step.end on below))
 
 pub returns-else-is_below : goal.returns-else-is_below
 unfolding standing_of key_at
@@ -25,11 +25,11 @@ returns-else-is_below c =
     let a = c.args in
     let w = a.list.now in
     let told = c.next-standing.ensures in
-    let step = c.step-1.given in
-    let on = sym (ap (λ (s : Standing). s.onward) told) ∙ ap onward_of step.1 in
+    let step = c.in-Next in
+    let on = sym (ap (λ (s : Standing). s.onward) told) ∙ ap onward_of step.is in
     let below = rw (c.part-in-Next.ensures, c.part.ensures)
     at (sym c.is_below.ensures ∙ c.if-is_below.false) in
-    rw c.at.ensures (sym (entry_not_above w (key_at w a) a.at step.0.0 on below))
+    rw c.at.ensures (sym (entry_not_above w (key_at w a.before) a.at step.end on below))
 
 pub returns-in-End : goal.returns-in-End
 unfolding standing_of
@@ -38,7 +38,7 @@ returns-in-End c =
     let w = a.list.now in
     let told = c.next-standing.ensures in
     let on = sym (ap (λ (s : Standing). s.onward) told) ∙ ap onward_of c.in-End.is in
-    rw c.at-in-End.ensures (sym (entry_none w (key_at w a) a.at on))
+    rw c.at-in-End.ensures (sym (entry_none w (key_at w a.before) a.at on))
 
 pub returns-in-Refused : goal.returns-in-Refused
 unfolding standing_of
@@ -47,4 +47,4 @@ returns-in-Refused c =
     let w = a.list.now in
     let told = c.next-standing.ensures in
     let on = sym (ap (λ (s : Standing). s.onward) told) ∙ ap onward_of c.in-Refused.is in
-    sym (entry_refused w (key_at w a) a.at _ _ on)
+    sym (entry_refused w (key_at w a.before) a.at _ _ on)

@@ -19,23 +19,23 @@ pub loop-at-smaller : goal.loop-at-smaller
 loop-at-smaller c =
     let w = c.args.list.now in
     let l = c.loop-at in
-    let place = c.place-1.given in
-    let e = sym c.entry_at.ensures ∙ ap entered_of place.1 in
+    let place = c.in-Stands in
+    let e = sym c.entry_at.ensures ∙ ap entered_of place.is in
     let h = c.loop-at-test.true in
-    omega (arith, h, entry_behind w (key_at w l) l.at place.0.0 e)
+    omega (arith, h, entry_behind w (key_at w l.before) l.at place.place e)
 
 pub loop-at-preserved : goal.loop-at-preserved
 loop-at-preserved c =
     let a = c.args in
     let w = a.list.now in
     let l = c.loop-at in
-    let place = c.place-1.given in
-    let e = sym c.entry_at.ensures ∙ ap entered_of place.1 in
+    let place = c.in-Stands in
+    let e = sym c.entry_at.ensures ∙ ap entered_of place.is in
     let h = c.loop-at-test.true in
-    let behind = entry_behind w (key_at w l) l.at place.0.0 e in (
+    let behind = entry_behind w (key_at w l.before) l.at place.place e in (
       omega (arith, l.invariant.0, behind),
       rw c.grown-next.ensures
-          (seen_next w (key_at w l) l.at a.house l.entries l.own place.0.0 h e ∙ l.invariant.1),
+          (seen_next w (key_at w l.before) l.at a.house l.entries l.own place.place h e ∙ l.invariant.1),
     )
 
 pub returns-in-Refused : goal.returns-in-Refused
@@ -44,7 +44,7 @@ returns-in-Refused c =
     let w = a.list.now in
     let l = c.loop-at in
     let e = sym c.entry_at.ensures ∙ ap entered_of c.in-Refused.is in
-    seen_refused w (key_at w l) l.at a.house l.entries l.own _ _
+    seen_refused w (key_at w l.before) l.at a.house l.entries l.own _ _
     c.loop-at-test.true e
     ∙ l.invariant.1
 
@@ -53,4 +53,4 @@ returns c =
     let a = c.args in
     let w = a.list.now in
     let l = c.loop-at in
-    seen_done w (key_at w l) l.at a.house l.entries l.own c.loop-at-test.false ∙ l.invariant.1
+    seen_done w (key_at w l.before) l.at a.house l.entries l.own c.loop-at-test.false ∙ l.invariant.1
