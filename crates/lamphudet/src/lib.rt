@@ -1,6 +1,6 @@
-// The calls that a C host makes. A call here decides nothing: it hands the lent ranges on and tells the answer in numbers,
-// or a record in its fields. Each also promises that what it was lent for reading is octets, so that what is shown of octets is
-// shown of every call.
+// The calls that a C host makes, exported by `lamphudet_c`. A call here decides nothing: it hands the lent ranges on and tells the
+// answer in numbers, or a record in its fields. Each also promises that what it was lent for reading is octets, so that what is
+// shown of octets is shown of every call.
 #![tactic(auto)]
 
 ghost use Rattle.std.specs.Prelude.{◌≡◌};
@@ -29,8 +29,7 @@ use border::received::{AnswerInC, DetailInC, NameInC, StretchInC};
 use zone::form::Source;
 
 // A text is read, and its record entered under a house.
-#[unsafe(no_mangle)]
-pub extern "C" fn lamphudet_read_text(house: u32, text: &[u8], entry: &mut [u8]) -> AnswerInC
+pub fn lamphudet_read_text(house: u32, text: &[u8], entry: &mut [u8]) -> AnswerInC
     ensures value { result ≡ in_c (read_answer house (read_text Alone text.now) entry.old) }
     ensures after { entry.new ≡ read_out house (read_text Alone text.now) entry.old }
     ensures are_octets { AreOctets text.now }
@@ -42,12 +41,7 @@ pub extern "C" fn lamphudet_read_text(house: u32, text: &[u8], entry: &mut [u8])
 }
 
 // A presentation is read, and its record entered under a house.
-#[unsafe(no_mangle)]
-pub extern "C" fn lamphudet_read_presentation(
-    house: u32,
-    presentation: &[u8],
-    entry: &mut [u8],
-) -> AnswerInC
+pub fn lamphudet_read_presentation(house: u32, presentation: &[u8], entry: &mut [u8]) -> AnswerInC
     ensures value { result ≡ in_c (read_answer house (read_presentation presentation.now) entry.old) }
     ensures after { entry.new ≡ read_out house (read_presentation presentation.now) entry.old }
     ensures are_octets { AreOctets presentation.now }
@@ -59,8 +53,7 @@ pub extern "C" fn lamphudet_read_presentation(
 }
 
 // The record of exactly one entry is written as a text.
-#[unsafe(no_mangle)]
-pub extern "C" fn lamphudet_write_text(entry: &[u8], text: &mut [u8]) -> AnswerInC
+pub fn lamphudet_write_text(entry: &[u8], text: &mut [u8]) -> AnswerInC
     ensures value { result ≡ in_c (written_answer entry.now text.old) }
     ensures text_after { text.new ≡ written_out entry.now text.old }
     ensures are_octets { AreOctets entry.now }
@@ -69,8 +62,7 @@ pub extern "C" fn lamphudet_write_text(entry: &[u8], text: &mut [u8]) -> AnswerI
 }
 
 // The house and the record of exactly one entry.
-#[unsafe(no_mangle)]
-pub extern "C" fn lamphudet_open_entry(entry: &[u8]) -> RecordInC
+pub fn lamphudet_open_entry(entry: &[u8]) -> RecordInC
     ensures value { result ≡ opened_in_c entry.now }
     ensures are_octets { AreOctets entry.now }
 {
@@ -78,8 +70,7 @@ pub extern "C" fn lamphudet_open_entry(entry: &[u8]) -> RecordInC
 }
 
 // Where a run of entries goes on.
-#[unsafe(no_mangle)]
-pub extern "C" fn lamphudet_next_entry(run: &[u8], offset: u64) -> AnswerInC
+pub fn lamphudet_next_entry(run: &[u8], offset: u64) -> AnswerInC
     ensures value { result ≡ next_in_c (read_entry run.now offset).onward }
     ensures are_octets { AreOctets run.now }
 {
@@ -89,8 +80,7 @@ pub extern "C" fn lamphudet_next_entry(run: &[u8], offset: u64) -> AnswerInC
 }
 
 // The SHA-256 digest of the input, into the first 32 octets of the output.
-#[unsafe(no_mangle)]
-pub extern "C" fn lamphudet_digest(input: &[u8], digest: &mut [u8]) -> AnswerInC
+pub fn lamphudet_digest(input: &[u8], digest: &mut [u8]) -> AnswerInC
     ensures value { result ≡ in_c (digest_answer input.now digest.old) }
     ensures digest_after { digest.new ≡ digest_out input.now digest.old }
     ensures are_octets { AreOctets input.now }
@@ -99,8 +89,7 @@ pub extern "C" fn lamphudet_digest(input: &[u8], digest: &mut [u8]) -> AnswerInC
 }
 
 // Where the file of a group stands in a presentation.
-#[unsafe(no_mangle)]
-pub extern "C" fn lamphudet_group_file(presentation: &[u8], group: u32) -> StretchInC
+pub fn lamphudet_group_file(presentation: &[u8], group: u32) -> StretchInC
     ensures value { result ≡ stretch_in_c (group_stretch presentation.now group) }
     ensures are_octets { AreOctets presentation.now }
 {
@@ -108,8 +97,7 @@ pub extern "C" fn lamphudet_group_file(presentation: &[u8], group: u32) -> Stret
 }
 
 // How many elements a group's file has.
-#[unsafe(no_mangle)]
-pub extern "C" fn lamphudet_look_inside(file: &[u8]) -> AnswerInC
+pub fn lamphudet_look_inside(file: &[u8]) -> AnswerInC
     ensures value { result ≡ count_in_c (look_inside file.now) }
     ensures are_octets { AreOctets file.now }
 {
@@ -117,8 +105,7 @@ pub extern "C" fn lamphudet_look_inside(file: &[u8]) -> AnswerInC
 }
 
 // Where a detail of group 11 stands in its file, asked for by the tag that the file's list names it by.
-#[unsafe(no_mangle)]
-pub extern "C" fn lamphudet_read_detail(file: &[u8], tag: u32) -> DetailInC
+pub fn lamphudet_read_detail(file: &[u8], tag: u32) -> DetailInC
     ensures value { result ≡ detail_in_c (read_detail file.now tag) }
     ensures are_octets { AreOctets file.now }
 {
@@ -126,8 +113,7 @@ pub extern "C" fn lamphudet_read_detail(file: &[u8], tag: u32) -> DetailInC
 }
 
 // Where the full name stands, in group 11's file or in the text.
-#[unsafe(no_mangle)]
-pub extern "C" fn lamphudet_full_name(file: &[u8], text: &[u8]) -> NameInC
+pub fn lamphudet_full_name(file: &[u8], text: &[u8]) -> NameInC
     ensures value { result ≡ name_in_c (full_name file.now text.now) }
     ensures are_octets { AreOctets file.now }
     ensures are_octets_2 { AreOctets text.now }
@@ -136,8 +122,7 @@ pub extern "C" fn lamphudet_full_name(file: &[u8], text: &[u8]) -> NameInC
 }
 
 // How many entries the store's nightly list has.
-#[unsafe(no_mangle)]
-pub extern "C" fn lamphudet_look_over(list: &[u8]) -> AnswerInC
+pub fn lamphudet_look_over(list: &[u8]) -> AnswerInC
     ensures value { result ≡ count_in_c (look_over list.now) }
     ensures are_octets { AreOctets list.now }
 {
@@ -145,8 +130,7 @@ pub extern "C" fn lamphudet_look_over(list: &[u8]) -> AnswerInC
 }
 
 // Where the entries of a house stand in the list.
-#[unsafe(no_mangle)]
-pub extern "C" fn lamphudet_house_entries(list: &[u8], house: u32) -> StretchInC
+pub fn lamphudet_house_entries(list: &[u8], house: u32) -> StretchInC
     ensures value { result ≡ stretch_in_c (house_stretch list.now house) }
     ensures are_octets { AreOctets list.now }
 {
@@ -154,8 +138,7 @@ pub extern "C" fn lamphudet_house_entries(list: &[u8], house: u32) -> StretchInC
 }
 
 // The version of this library.
-#[unsafe(no_mangle)]
-pub extern "C" fn lamphudet_version() -> u32
+pub fn lamphudet_version() -> u32
     ensures { result ≡ version_number }
 {
     version::number()

@@ -1,6 +1,5 @@
-// The calls that a C host makes to read seals and to write them. They decide nothing: they hand the lent ranges on and tell the
-// answer in numbers.
-// What was lent for reading is octets, as in `lamphudet`.
+// The calls that a C host makes to read seals and to write them, exported by `lamphudet_seals_c`. They decide nothing: they hand
+// the lent ranges on and tell the answer in numbers. What was lent for reading is octets, as in `lamphudet`.
 #![tactic(auto)]
 
 ghost use Rattle.std.specs.Prelude.{◌≡◌};
@@ -19,8 +18,7 @@ mod given;
 pub mod received;
 
 // A seal is read, and its record entered under a house.
-#[unsafe(no_mangle)]
-pub extern "C" fn lamphudet_read_seal(house: u32, seal: &[u8], entry: &mut [u8]) -> SealInC
+pub fn lamphudet_read_seal(house: u32, seal: &[u8], entry: &mut [u8]) -> SealInC
     ensures value { result ≡ read_seal_in_c house seal.now entry.old }
     ensures after { entry.new ≡ read_seal_out house seal.now entry.old }
     ensures are_octets { AreOctets seal.now }
@@ -35,8 +33,7 @@ pub extern "C" fn lamphudet_read_seal(house: u32, seal: &[u8], entry: &mut [u8])
 }
 
 // The seal of one entry's record, of a header and a signature.
-#[unsafe(no_mangle)]
-pub extern "C" fn lamphudet_write_seal(
+pub fn lamphudet_write_seal(
     entry: &[u8],
     header: HeaderInC,
     signature: &[u8],
@@ -51,8 +48,7 @@ pub extern "C" fn lamphudet_write_seal(
 }
 
 // The version of this library, by a name of its own: both libraries may be linked into one program.
-#[unsafe(no_mangle)]
-pub extern "C" fn lamphudet_seals_version() -> u32
+pub fn lamphudet_seals_version() -> u32
     ensures { result ≡ version_number }
 {
     version::number()
