@@ -2,5 +2,5 @@
 #![tactic(auto)]
 
 pub mod answer;
-pub mod details;
+pub mod detail;
 pub mod received;

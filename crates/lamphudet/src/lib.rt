@@ -1,6 +1,6 @@
-// The calls that a C host makes, exported by `lamphudet_c`. A call here decides nothing: it hands the lent ranges on and tells the
-// answer in numbers, or a record in its fields. Each also promises that what it was lent for reading is octets, so that what is
-// shown of octets is shown of every call.
+// The calls that a C host makes, exported by `lamphudet_c`. A call here decides nothing: it hands the lent ranges on and tells
+// the answer in numbers, or a record in its fields. Each also promises that what it was lent for reading is octets, so that what
+// is shown of octets is shown of every call.
 #![tactic(auto)]
 
 ghost use Rattle.std.specs.Prelude.{◌≡◌};
@@ -24,7 +24,7 @@ ghost use Rattle.as_entry.specs.Opened.{opened_in_c};
 
 use as_entry::received::RecordInC;
 use border::answer::{count_in_c, entries_in_c, in_c, next_in_c, stretch_in_c};
-use border::details::{detail_in_c, name_in_c};
+use border::detail::{detail_in_c, name_in_c};
 use border::received::{AnswerInC, DetailInC, NameInC, StretchInC};
 use zone::form::Source;
 

@@ -2,8 +2,8 @@
 use borrow.Author.Rules.{rules}
 use Rattle.border.specs.Answer.{in_c}
 use Rattle.border.specs.Details.{detail_in_c}
-use Rattle.border.proofs.details.detail_in_c.Statement.{statement}
-use Rattle.border.proofs.details.detail_in_c.Tie as tie
+use Rattle.border.proofs.detail.detail_in_c.Statement.{statement}
+use Rattle.border.proofs.detail.detail_in_c.Tie as tie
 
 pub detail-in-c-spec : {M : Type 1} → statement M
 unfolding detail_in_c in_c

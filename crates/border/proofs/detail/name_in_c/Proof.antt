@@ -1,8 +1,8 @@
 -- The source and the stretch.
 use borrow.Author.Rules.{rules}
 use Rattle.border.specs.Details.{name_in_c}
-use Rattle.border.proofs.details.name_in_c.Statement.{statement}
-use Rattle.border.proofs.details.name_in_c.Tie as tie
+use Rattle.border.proofs.detail.name_in_c.Statement.{statement}
+use Rattle.border.proofs.detail.name_in_c.Tie as tie
 
 pub name-in-c-spec : {M : Type 1} → statement M
 unfolding name_in_c

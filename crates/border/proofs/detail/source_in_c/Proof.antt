@@ -1,8 +1,8 @@
 -- The three cases of `source_in_c`.
 use borrow.Author.Rules.{rules}
 use Rattle.border.specs.Details.{source_in_c}
-use Rattle.border.proofs.details.source_in_c.Statement.{statement}
-use Rattle.border.proofs.details.source_in_c.Tie as tie
+use Rattle.border.proofs.detail.source_in_c.Statement.{statement}
+use Rattle.border.proofs.detail.source_in_c.Tie as tie
 
 pub source-in-c-spec : {M : Type 1} → statement M
 unfolding source_in_c
