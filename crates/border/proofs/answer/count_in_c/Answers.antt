@@ -1,0 +1,13 @@
+-- The two cases of `count_in_c`.
+use borrow.Author.Rules.{rules}
+use Rattle.border.specs.Answer.{in_c}
+use Rattle.border.specs.Calls.{count_in_c}
+use Rattle.border.proofs.answer.count_in_c.Goals as goal
+
+pub returns-in-Elements : goal.returns-in-Elements
+unfolding count_in_c in_c
+returns-in-Elements c = rw (c.not_refused.ensures, c.in-Elements.is)
+
+pub returns-in-Refused : goal.returns-in-Refused
+unfolding count_in_c in_c
+returns-in-Refused c = rw (c.denied.ensures, c.in-Refused.is)

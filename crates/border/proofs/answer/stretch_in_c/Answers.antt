@@ -1,0 +1,14 @@
+-- A stretch that runs backwards is empty, as in the definition.
+use mathlib.Core.Path.{◌≡◌, refl}
+use native.Mathlib.Omega.{arith}
+use Prim.Native.Nat.{◌-◌}
+use Rattle.border.specs.Calls.{stretch_in_c}
+use Rattle.border.proofs.answer.stretch_in_c.Goals as goal
+
+pub returns-else-v : goal.returns-else-v
+unfolding stretch_in_c
+returns-else-v c = let e : c.args.v.to - c.args.v.from ≡ 0 = omega (arith, c.if-v.false) in rw e
+
+pub returns-then-v : goal.returns-then-v
+unfolding stretch_in_c
+returns-then-v c = refl

@@ -1,0 +1,6 @@
+-- Two calls.
+use borrow.Author.Rules.{rules}
+use Rattle.chip.proofs.files.is_digested.Goals as goal
+
+pub returns : goal.returns
+returns c = rw (c.alike.ensures, c.digest_of-own.ensures)

@@ -1,0 +1,6 @@
+-- The stretch, cut out.
+use borrow.Author.Rules.{rules}
+use Rattle.chip.proofs.group_file.group_file.Goals as goal
+
+pub returns : goal.returns
+returns c = rw (c.cut.ensures, c.group_stretch-stretch.ensures)

@@ -1,0 +1,74 @@
+use borrow.Author.Rules.{rules}
+use Prim.Native.Nat.{◌-◌}
+use mathlib.Core.Path.{◌≡◌, refl, ap, sym, ◌∙◌}
+use native.Mathlib.Omega.{arith}
+use lib.ListN.{length}
+use Rattle.tlv.specs.Element.{taken_of}
+use Rattle.tlv.specs.Tags.{group_of}
+use Rattle.outer.specs.Outer.{files}
+use Rattle.chip.specs.Inner.Found.{or_found}
+use Rattle.outer.proofs.FilesWalked.{file_behind}
+use Rattle.chip.proofs.FirstFile.{found_here, found_on, found_done, found_refused}
+use Rattle.chip.proofs.group_file.group_from.Goals as goal
+
+pub loop-at-smaller-then-found-own : goal.loop-at-smaller-then-found-own
+loop-at-smaller-then-found-own c =
+    let a = c.args in
+    let l = c.loop-at in
+    let e = sym c.file_at.ensures
+    ∙ ap taken_of c.in-Value.is in
+    let b = file_behind a.w.now l.at c.in-Value.held e in
+    omega (arith, b.0, b.1)
+
+pub loop-at-preserved-then-found-own : goal.loop-at-preserved-then-found-own
+loop-at-preserved-then-found-own c =
+    let a = c.args in
+    let l = c.loop-at in
+    let w = a.w.now in
+    let e = sym c.file_at.ensures
+    ∙ ap taken_of c.in-Value.is in
+    let v = c.in-Value.held in
+    let g = c.group_of-own.ensures.0 ∙ ap group_of c.octet-tag.ensures in
+    let h = c.loop-at-test.true in
+    let b = file_behind w l.at v e in (
+      found_here w a.group l.at l.found v h e (rw (← g) c.if-found-own.true) ∙ l.invariant.0,
+      λ z. absurd (omega (arith, b.0, z)),
+    )
+
+pub loop-at-smaller : goal.loop-at-smaller
+loop-at-smaller c =
+    let a = c.args in
+    let l = c.loop-at in
+    let e = sym c.file_at.ensures
+    ∙ ap taken_of c.in-Value.is in
+    let b = file_behind a.w.now l.at c.in-Value.held e in
+    omega (arith, b.0, b.1)
+
+pub loop-at-preserved : goal.loop-at-preserved
+loop-at-preserved c =
+    let a = c.args in
+    let l = c.loop-at in
+    let w = a.w.now in
+    let e = sym c.file_at.ensures
+    ∙ ap taken_of c.in-Value.is in
+    let v = c.in-Value.held in
+    let g = c.group_of-own.ensures.0 ∙ ap group_of c.octet-tag.ensures in
+    let h = c.loop-at-test.true in
+    (found_on w a.group l.at l.found v h e (rw (← g) c.if-found-own.false) ∙ l.invariant.0, l.invariant.1)
+
+pub returns-in-Refused : goal.returns-in-Refused
+returns-in-Refused c =
+    let a = c.args in
+    let l = c.loop-at in
+    found_refused a.w.now a.group l.at l.found _ _ c.loop-at-test.true
+    (sym c.file_at.ensures ∙ ap taken_of c.in-Refused.is)
+    ∙ l.invariant.0
+
+pub returns : goal.returns
+returns c =
+    let a = c.args in
+    let l = c.loop-at in
+    found_done a.w.now a.group l.at l.found c.loop-at-test.false l.invariant.1 ∙ l.invariant.0
+
+pub loop-at-init : goal.loop-at-init
+loop-at-init c = (refl, λ z. refl)

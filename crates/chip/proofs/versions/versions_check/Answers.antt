@@ -1,0 +1,8 @@
+-- The test, refused at the object's start.
+use borrow.Author.Rules.{rules}
+use Rattle.chip.specs.Versions.{versions_check}
+use Rattle.chip.proofs.versions.versions_check.Goals as goal
+
+pub returns : goal.returns
+unfolding versions_check
+returns c = rw (c.judged.ensures, c.agrees.ensures)

@@ -1,0 +1,14 @@
+-- The detail, or the refusal, told in numbers.
+use native.Mathlib.Omega.{arith}
+use borrow.Author.Rules.{rules}
+use Rattle.zone.proofs.Octets.{lent_octets}
+use Rattle.lamphudet.proofs.lamphudet_read_detail.Goals as goal
+
+pub returns : goal.returns
+returns c =
+    let lent = c in
+    let octets = lent_octets lent.args.file.now (λ i. omega (arith, lent.shared_slice_known-1.given i)) in
+    record {
+      value = rw (c.detail_in_c.ensures, c.read.ensures);
+      are_octets = octets;
+    }

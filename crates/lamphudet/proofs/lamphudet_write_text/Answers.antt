@@ -1,0 +1,16 @@
+-- The two promises below, told in numbers.
+use native.Mathlib.Omega.{arith}
+use borrow.Author.Rules.{rules}
+use Rattle.zone.proofs.Octets.{lent_octets}
+use Rattle.lamphudet.proofs.lamphudet_write_text.Goals as goal
+
+pub returns : goal.returns
+returns c =
+    let w = c.write_one.ensures in
+    let lent = c in
+    let octets = lent_octets lent.args.entry.now (λ i. omega (arith, lent.shared_slice_known-1.given i)) in
+    record {
+      value = rw (c.in_c.ensures, w.result_value);
+      text_after = w.out_after;
+      are_octets = octets;
+    }
