@@ -11,12 +11,12 @@ use Rattle.zone.specs.Alphabet.{filler, is_digit, is_letter}
 use Rattle.zone.specs.Codes.{code_of}
 use Rattle.zone.specs.Part as text
 use Rattle.zone.specs.Record.{padded, plain, held_rows}
-use Rattle.zone.specs.Rooms.{code_room, state_room, date_room, number_room, own_room, name_room}
+use Rattle.zone.specs.Rooms.{own_room, name_room}
 use Rattle.zone.specs.declared.record.Record.{Record}
 use Rattle.zone.proofs.Padded.{copied_behind, padded_append, padded_spare}
 use Rattle.sound.proofs.SoundRecord.{Sound}
 use Rattle.entry.specs.Codes.{form_code, sex_code}
-use Rattle.entry.specs.Inner.Units.{unit_of, gap, front_units, rest_units, all_units, before, spare, front, rest, units_of}
+use Rattle.entry.specs.Inner.Units.{unit_of, gap, front_units, all_units, before, spare, front, rest, units_of}
 use Rattle.entry.specs.Inner.Units.{placed, placed_key, placed_after_key, placed_rest}
 
 -- one field more, behind what ends at its place

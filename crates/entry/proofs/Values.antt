@@ -1,6 +1,6 @@
 -- The values of a house and a sound record fit the row, and how many numbers they are.
 use Prim.Native.Nat.{ℕ, ◌^◌, ◌≤◌, ◌<◌}
-use mathlib.Core.Path.{◌≡◌, refl, ap, ◌∙◌}
+use mathlib.Core.Path.{◌≡◌, refl, ◌∙◌}
 use mathlib.Core.Bool.{true}
 use mathlib.Core.List.{List, [], ◌∷◌, map}
 use native.Mathlib.Omega.{arith}
@@ -18,7 +18,7 @@ use Rattle.field.specs.Rules.{rule_rows}
 use Rattle.zone.specs.declared.record.Record.{Record}
 use Rattle.zone.proofs.Every.{every_take}
 use Rattle.sound.proofs.SoundRecord.{Sound}
-use Rattle.cells.specs.Cells.{counted, row_bits, rounded_up}
+use Rattle.cells.specs.Cells.{counted}
 use Rattle.cells.proofs.Fitting.{is_held, FitsCell, Fits, fits_append, Sized, fits_sized, sized_append}
 use Rattle.cells.proofs.RowOctets.{length_octets_of}
 use Rattle.entry.specs.Codes.{form_code, sex_code}

@@ -7,7 +7,7 @@ use lib.ListN.{length, take, drop, length-take, length-drop, length-append, take
 use lib.Seq.{take_all, length-take-le, take-append-le, drop-append-le, drop-append-add, drop-drop, drop_at, take-append-add}
 use lib.Seq.{drop-cons, set_at, take_at}
 use native.Mathlib.Numerals.{add-one}
-use Rattle.lent.specs.Copied.{copied_at, copied}
+use Rattle.lent.specs.Copied.{copied_at}
 
 module _ (t : List ℕ) (b : ℕ) (s : List ℕ) (fits : b + length s ≤ length t) where
   pub copied_there : copied_at t b s ≡ take b t ++ (s ++ drop (b + length s) t)

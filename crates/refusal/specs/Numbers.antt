@@ -2,7 +2,6 @@
 -- its 2026-01, 21 and 22 in its 2026-10, 23 in its 2026-14, 24 to 27 in its 2026-08, 28 in its 2026-13.
 use Rattle.std.specs.Prelude.{ℕ}
 use Rattle.refusal.specs.declared.Cause.{Cause}
-use Rattle.refusal.specs.declared.Cause.TheVariants
 
 -- by one of the paper's numbers; or by 9 with the digit that the check worked out, which no other number has (document 02,
 -- 2026-07)

@@ -9,8 +9,8 @@ use lib.Seq.{take_all}
 use Rattle.zone.specs.Alphabet.{is_character, every}
 use Rattle.zone.specs.Codes.{code_of, character_of}
 use Rattle.zone.specs.Part.{Part, code, state, number, nationality, birth, sex, expiry, name, own}
-use Rattle.zone.specs.Record.{trimmed, padded, plain, plain_room, is_plain, held_rows, held, holding}
-use Rattle.zone.specs.Rooms.{state_room, number_room, name_room, own_room}
+use Rattle.zone.specs.Record.{trimmed, plain, plain_room, is_plain, held_rows, held, holding}
+use Rattle.zone.specs.Rooms.{number_room, name_room, own_room}
 use Rattle.zone.specs.declared.form.Form.{Form}
 use Rattle.zone.specs.declared.form.Recognised.TheVariants.{As}
 use Rattle.zone.specs.declared.record.Record.{Record}

@@ -1,5 +1,5 @@
 -- Characters that are no fillers.
-use Prim.Native.Nat.{ℕ, ◌-◌, zero, suc, ◌+◌, ◌≤◌, ◌<◌}
+use Prim.Native.Nat.{ℕ, zero, suc, ◌≤◌, ◌<◌}
 use mathlib.Core.Path.{◌≡◌, refl}
 use mathlib.Core.Bool.{true, false, Bool, cond, ◌&&◌}
 use borrow.Author.Tests.{not-true}

@@ -3,7 +3,7 @@ use Prim.Native.Nat.{ℕ, ◌+◌, ◌-◌, ◌≤◌}
 use mathlib.Core.Path.{◌≡◌, refl, ap, sym, ◌∙◌}
 use mathlib.Core.List.{List}
 use native.Mathlib.Omega.{arith}
-use lib.ListN.{length, take, drop, length-take, length-drop}
+use lib.ListN.{length, drop, length-take, length-drop}
 use Rattle.refusal.specs.Outcome.{Outcome, passed, refused}
 use Rattle.refusal.proofs.Outcomes.{refused_not_passed}
 use Rattle.zone.specs.declared.form.Form.{Form}
@@ -11,7 +11,7 @@ use Rattle.zone.specs.declared.form.Source.{Source}
 use Rattle.zone.specs.declared.form.Recognised.{Recognised}
 use Rattle.zone.specs.declared.form.Recognised.TheVariants.{As, Unknown}
 use Rattle.zone.specs.Part.{Part, name}
-use Rattle.zone.specs.Form.{form_of, start, width, field, own_part, before_own}
+use Rattle.zone.specs.Form.{form_of, start, width, field, own_part}
 use Rattle.zone.specs.Record.{trimmed, trimmed_length, padded, holding}
 use Rattle.zone.specs.Rooms.{name_room, own_room}
 use Rattle.zone.proofs.Own.{own_room_lem}

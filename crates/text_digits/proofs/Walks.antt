@@ -8,7 +8,7 @@ use Rattle.refusal.specs.Outcome.{Outcome, or_else}
 use Rattle.refusal.proofs.Outcomes.{or_else_assoc, or_else_passed}
 use Rattle.zone.specs.declared.form.Form.{Form}
 use Rattle.zone.specs.Part.{Part, number_check, optional, birth, birth_check, expiry_check, personal, personal_check, composite}
-use Rattle.zone.specs.Form.{row, forms, part_of, parts, start, start_in, width, width_in, has}
+use Rattle.zone.specs.Form.{row, forms, part_of, parts, start, start_in, width, width_in}
 use Rattle.zone.proofs.AllForms.{all_forms}
 use Rattle.text_digits.specs.Digits.{digit_rows, digit_check, in_order}
 use Rattle.text_digits.specs.Inner.Checks.{if_has, in_turn}

@@ -1,5 +1,5 @@
 -- The document number, short or long: document 01, "The text", Field rules, Number.
-use Rattle.std.specs.Prelude.{ℕ, ◌+◌, ◌-◌, Bool, true, false, cond, not, ◌&&◌, List, ◌++◌, take, get_or, leb, ltb}
+use Rattle.std.specs.Prelude.{ℕ, ◌-◌, Bool, true, false, cond, not, ◌&&◌, List, ◌++◌, take, get_or, leb, ltb}
 use Rattle.zone.specs.Alphabet.{is_filler, first_filler}
 use Rattle.zone.specs.Part.{number, number_check, optional}
 use Rattle.zone.specs.Form.{start, width, longest, field}

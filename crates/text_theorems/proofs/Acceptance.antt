@@ -19,7 +19,7 @@ use Rattle.zone.specs.declared.form.Recognised.TheVariants.{As, Unknown}
 use Rattle.zone.specs.Alphabet.{is_character, is_filler, is_foreign, first_foreign}
 use Rattle.zone.proofs.First.{first_none, none_first}
 use Rattle.zone.specs.Part.{Part, code, state, number, number_check, optional, birth, birth_check, sex, expiry, expiry_check}
-use Rattle.zone.specs.Part.{nationality, composite, name, personal, personal_check}
+use Rattle.zone.specs.Part.{nationality, composite, name, personal_check}
 use Rattle.zone.proofs.Parts.{in_rows_lem, ◌and◌, all_said}
 use Rattle.zone.specs.Form.{row, is_visa, is_alone, is_visa_code, selects_visa, may_stand, form_of, parts, start, width, has, total}
 use Rattle.zone.specs.Form.{field, covered}

@@ -1,13 +1,13 @@
 -- The code stands first in every form, so that a text's first two characters tell whether it is a visa's.
 use Prim.Native.Nat.{ℕ, ◌+◌, ◌<◌}
-use mathlib.Core.Path.{◌≡◌, refl, ap, sym, ◌∙◌}
+use mathlib.Core.Path.{◌≡◌, ap, sym, ◌∙◌}
 use mathlib.Core.List.{List, ◌∷◌}
 use native.Mathlib.Nat.{zero-add}
 use native.Mathlib.Omega.{arith}
 use borrow.Author.Rules.{rules}
 use lib.ListN.{get_or, drop}
 use Rattle.zone.specs.declared.form.Form.{Form}
-use Rattle.zone.specs.Part.{Part, code}
+use Rattle.zone.specs.Part.{code}
 use Rattle.zone.specs.Form.{row, forms, is_visa_code, selects_visa, part_of, parts, start, start_in, field}
 use Rattle.zone.proofs.AllForms.{all_forms}
 use Rattle.zone.proofs.Fields.{in_field}

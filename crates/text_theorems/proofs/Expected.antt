@@ -10,7 +10,7 @@ use native.Mathlib.Omega.{arith}
 use borrow.Author.Rules.{rules}
 use borrow.Author.Tests.{ne_eqb, eqb-false, ltb-true}
 use lib.Dec.{eqb, lit<}
-use lib.ListN.{length, get_or}
+use lib.ListN.{get_or}
 use Rattle.refusal.specs.Numbers.{Why, by, expecting, number_of}
 use Rattle.refusal.specs.Calls.{of_fields, of_text, tells}
 use Rattle.refusal.specs.Outcome.{refused, refused_unless}

@@ -1,11 +1,10 @@
 -- The first refusal of a list of checks, and that it is the first failing one.
 use Prim.Native.Nat.{ℕ}
-use mathlib.Core.Path.{◌≡◌, refl, ap, sym, ◌∙◌}
+use mathlib.Core.Path.{◌≡◌, refl, sym}
 use mathlib.Core.List.{List, [], ◌∷◌, ◌++◌}
 use native.Mathlib.Omega.{arith}
 use Rattle.refusal.specs.Numbers.{Why}
 use Rattle.refusal.specs.Outcome.{Outcome, passed, refused, or_else}
-use Rattle.refusal.proofs.Outcomes.{or_else_assoc}
 use Rattle.text_theorems.specs.Ordered.{FirstFailing, here, later}
 
 pub never : (n : Why) (p : ℕ) → passed ≡ refused n p → ⊥

@@ -1,18 +1,18 @@
 -- The issuer's own data in a text: where they stand in the text of a record, and that they are read back.
-use Prim.Native.Nat.{ℕ, ◌+◌, ◌-◌, ◌≤◌}
+use Prim.Native.Nat.{ℕ, ◌-◌, ◌≤◌}
 use mathlib.Core.Path.{◌≡◌, refl, ap, sym, ◌∙◌}
-use mathlib.Core.Bool.{Bool, true, false, cond, ◌&&◌, ◌||◌}
+use mathlib.Core.Bool.{Bool, true, false, cond, ◌||◌}
 use mathlib.Core.Logic.{◌⊎◌, inl, inr}
-use mathlib.Core.List.{List, [], ◌∷◌, ◌++◌}
+use mathlib.Core.List.{List, [], ◌++◌}
 use native.Mathlib.Omega.{arith}
 use borrow.Author.Rules.{rules}
-use lib.ListN.{length, take, drop, replicate, length-take}
+use lib.ListN.{length, drop, replicate, length-take}
 use lib.Seq.{take_all, take_at, drop_at}
 use Rattle.lent.proofs.Bools.{or_either}
 use Rattle.zone.specs.declared.form.Form.{Form}
 use Rattle.zone.specs.declared.record.Record.{Record}
 use Rattle.zone.specs.Alphabet.{filler}
-use Rattle.zone.specs.Part.{Part, optional, optional2, personal, personal_check, own, composite, same}
+use Rattle.zone.specs.Part.{optional, optional2, personal, personal_check, own, composite, same}
 use Rattle.zone.specs.Form.{row, forms, width, width_in, has, field, own_part, before_own}
 use Rattle.zone.specs.Record.{trimmed_length, trimmed, padded, held_rows, held}
 use Rattle.zone.proofs.AllForms.{all_forms}

@@ -14,7 +14,7 @@ use Rattle.zone.specs.declared.form.Source.{Source}
 use Rattle.zone.specs.declared.form.Form.{Form}
 use Rattle.zone.specs.Alphabet.{is_character, is_filler, is_letter, is_digit, every, filler}
 use Rattle.zone.specs.declared.record.Record.{Record}
-use Rattle.zone.specs.Part.{Part, number, optional, name, own, same}
+use Rattle.zone.specs.Part.{Part, number, optional, name, same}
 use Rattle.zone.specs.Rooms.{number_room, name_room, own_room}
 use Rattle.zone.specs.Form.{start, width, total, longest, field, own_part, before_own, own_place}
 use Rattle.zone.specs.Record.{trimmed_length, trimmed, padded, plain_room, is_plain, held_rows, held, holding}

@@ -2,12 +2,12 @@
 -- (`text-read-back`); so no two have one text (`text-tells`).
 use Prim.Native.Nat.{ℕ, suc, ◌+◌, ◌-◌, ◌≤◌, ◌<◌}
 use mathlib.Core.Path.{◌≡◌, refl, ap, sym, ◌∙◌}
-use mathlib.Core.Bool.{Bool, true, false, cond, ◌&&◌, false≢true}
+use mathlib.Core.Bool.{Bool, true, false, cond, ◌&&◌}
 use mathlib.Core.List.{List, [], ◌∷◌, ◌++◌, append_assoc}
 use native.Mathlib.Omega.{arith}
 use borrow.Author.Tests.{lt-ltb, ltb-false}
 use lib.Dec.{ltb}
-use lib.ListN.{length, take, get_or, replicate, length-append, take-append-drop}
+use lib.ListN.{length, take, get_or, length-append, take-append-drop}
 use lib.Seq.{take_all, take-take, take-append_seam, get_or-take, get_or-append_seam}
 use Rattle.lent.proofs.Bools.{and_both}
 use Rattle.refusal.specs.Outcome.{passed}

@@ -3,7 +3,7 @@ use Prim.Native.Nat.{ℕ, ◌≤◌}
 use mathlib.Core.Path.{◌≡◌, refl, ap, sym, ◌∙◌}
 use mathlib.Core.Bool.{Bool, true, false, cond}
 use mathlib.Core.List.{List, [], ◌∷◌, ◌++◌}
-use lib.ListN.{length, take, drop, get_or}
+use lib.ListN.{length, take, get_or}
 use Rattle.zone.specs.declared.record.Record.{Record}
 use Rattle.zone.specs.Part.{Part, code, state, nationality, birth, sex, expiry, optional, optional2, composite, personal, own}
 use Rattle.zone.specs.Part.{same}
@@ -22,7 +22,6 @@ use Rattle.digit.proofs.Written.{digit_character}
 use Rattle.sound.proofs.SoundRecord.{Sound, held_pure}
 use Rattle.writing.specs.Text.{number_in, further_in, is_wide, at_check, in_optional, own_at, given_rows, given, last_digit, given_all}
 use Rattle.writing.specs.Text.{text_of}
-use Rattle.writing.specs.Inner.Puts.{put}
 use Rattle.writing.proofs.CompositePlace.{covered_clear}
 use Rattle.writing.proofs.Further.{further_all}
 use Rattle.writing.proofs.InPlace.{length_in_place, field_in_place, every_in_place}

@@ -3,8 +3,8 @@
 use Prim.Native.Nat.{ℕ}
 use mathlib.Core.Path.{◌≡◌, refl, ap, sym, ◌∙◌}
 use mathlib.Core.Bool.{Bool, true, false, ◌&&◌, false≢true}
-use mathlib.Core.List.{List, ◌∷◌}
-use lib.ListN.{length, get_or, drop}
+use mathlib.Core.List.{List}
+use lib.ListN.{length, get_or}
 use Rattle.refusal.specs.Numbers.{by}
 use Rattle.refusal.specs.Outcome.{refused, or_else}
 use Rattle.zone.specs.declared.form.Form.{Form}
@@ -12,7 +12,7 @@ use Rattle.zone.specs.declared.form.Source.{Source}
 use Rattle.zone.specs.declared.form.Source.TheVariants.{Alone}
 use Rattle.zone.specs.declared.form.Recognised.TheVariants.{As}
 use Rattle.zone.specs.Part.{code}
-use Rattle.zone.specs.Form.{row, is_visa, is_alone, selects_visa, form_of, parts, start, field}
+use Rattle.zone.specs.Form.{row, is_visa, is_alone, selects_visa, form_of, parts, field}
 use Rattle.zone.proofs.FormTold.{told_by, told_so}
 use Rattle.field.specs.Code.{code_rule}
 use Rattle.field.proofs.Characters.{code_tells}

@@ -5,7 +5,7 @@ use Rattle.refusal.specs.Numbers.{expecting}
 use Rattle.refusal.specs.Outcome.{Outcome, unless, refused_unless}
 use Rattle.zone.specs.declared.form.Form.{Form}
 use Rattle.zone.specs.Alphabet.{is_filler}
-use Rattle.zone.specs.Part.{Part, code, state, number, number_check, optional, birth, birth_check, sex, expiry, expiry_check}
+use Rattle.zone.specs.Part.{code, state, number, number_check, optional, birth, birth_check, sex, expiry, expiry_check}
 use Rattle.zone.specs.Part.{nationality, composite, name, personal, personal_check}
 use Rattle.zone.specs.Rows.{PartRow, ◌is◌}
 use Rattle.zone.specs.Form.{start, width, field, covered}

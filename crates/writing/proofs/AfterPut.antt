@@ -1,28 +1,19 @@
 -- Nothing put in the place of a part, one character more, and one copy behind another.
-use Prim.Native.Nat.{ℕ, suc, ◌+◌, ◌-◌, ◌≤◌, ◌<◌}
-use mathlib.Core.Path.{◌≡◌, ap, sym, ◌∙◌}
-use mathlib.Core.Bool.{Bool, true, false}
-use mathlib.Core.Logic.{◌⊎◌, inl, inr}
+use Prim.Native.Nat.{ℕ, suc, ◌+◌, ◌≤◌, ◌<◌}
+use mathlib.Core.Path.{◌≡◌, ◌∙◌}
 use mathlib.Core.List.{List, [], ◌∷◌, ◌++◌}
 use native.Mathlib.Nat.{add-zero}
 use native.Mathlib.Numerals.{add-one}
 use native.Mathlib.Omega.{arith}
-use lib.ListN.{length, take, drop, set, replicate, length-take, length-append, take-append-drop}
-use lib.Seq.{take_all, take-nil, drop-drop}
-use Rattle.lent.specs.Copied.{copied, copied_at}
-use Rattle.zone.specs.declared.form.Form.{Form}
+use lib.ListN.{length, set, length-append, take-append-drop}
+use lib.Seq.{take_all, take-nil}
+use Rattle.lent.specs.Copied.{copied_at}
 use Rattle.zone.specs.declared.record.Record.{Record}
 use Rattle.zone.specs.Part.{Part}
-use Rattle.zone.specs.Form.{start, width, total, field}
-use Rattle.zone.specs.Record.{padded}
+use Rattle.zone.specs.Form.{start, width, total}
 use Rattle.zone.proofs.Widths.{within}
-use Rattle.zone.proofs.Padded.{padded_spare, padded_cut, fillers_left}
-use Rattle.zone.specs.Alphabet.{every, filler}
 use Rattle.writing.specs.Inner.Puts.{put}
-use Rattle.zone.proofs.Parts.{apart}
 use Rattle.lent.proofs.Copies.{copied_there, set_behind, copied_both}
-use Rattle.zone.proofs.Every.{every_append, every_take, every_drop}
-use Rattle.writing.proofs.OneMarked.{put_fits}
 
 module _ (r : Record) where
   pub put_none : (x : Part) (t : List ℕ) → length t ≡ total r.form → put r x [] t ≡ t

@@ -6,9 +6,8 @@ use mathlib.Core.Logic.{◌⊎◌, inl, inr}
 use mathlib.Core.List.{List, [], ◌∷◌, ◌++◌, append-nil, append_assoc}
 use native.Mathlib.Nat.{add-zero}
 use native.Mathlib.Omega.{arith}
-use lib.ListN.{length, take, set, replicate, length-replicate, length-append}
+use lib.ListN.{length, take, replicate, length-replicate, length-append}
 use lib.Seq.{take_all}
-use Rattle.lent.specs.Copied.{copied_at}
 use Rattle.lent.proofs.Bools.{and_both, or_either, not_true}
 use Rattle.zone.specs.declared.record.Record.{Record}
 use Rattle.zone.specs.Alphabet.{filler}
@@ -16,13 +15,13 @@ use Rattle.zone.specs.Part.{Part, code, state, number, number_check, optional, b
 use Rattle.zone.specs.Part.{nationality, optional2, composite, name, personal, personal_check, own, same, among}
 use Rattle.zone.specs.Rows.{PartRow, all_rows}
 use Rattle.zone.specs.Record.{held_rows, held}
-use Rattle.zone.specs.Form.{layout, start, width, has, total, covered, own_part, before_own}
+use Rattle.zone.specs.Form.{layout, start, width, has, total, own_part, before_own}
 use Rattle.zone.proofs.Parts.{same_one, OfRows, in_rows_or, in_rows_lem, rows_then, rows_pass}
 use Rattle.zone.proofs.Own.{own_parts}
 use Rattle.zone.proofs.Widths.{fixed, ones}
 use Rattle.digit.specs.Check.{digit_of}
 use Rattle.writing.specs.Text.{number_in, further_in, is_wide, at_check, in_optional, given_rows, given, in_place, before_last}
-use Rattle.writing.specs.Text.{own_at, last_digit, given_all, text_of}
+use Rattle.writing.specs.Text.{own_at, last_digit, text_of}
 use Rattle.writing.specs.Inner.Puts.{put, mark, put_opening, put_short, put_long, put_number, put_dates, put_person, put_last}
 use Rattle.writing.specs.Inner.Puts.{put_own, put_all}
 use Rattle.sound.proofs.SoundRecord.{Sound}

@@ -1,6 +1,6 @@
 -- The text of a record: document 01, "The text", and document 02, request 2026-06. Each part in its place, with fillers behind
 -- what it is given; the composite digit comes last, since it covers all the rest.
-use Rattle.std.specs.Prelude.{ℕ, ◌+◌, Bool, cond, List, [], ◌∷◌, ◌++◌, ltb, take, drop}
+use Rattle.std.specs.Prelude.{ℕ, Bool, cond, List, [], ◌∷◌, ◌++◌, ltb, take, drop}
 use Rattle.zone.specs.Part.{Part, number, number_check, optional, birth_check, expiry_check, optional2, composite, name, personal}
 use Rattle.zone.specs.Part.{personal_check, own, same}
 use Rattle.zone.specs.Rows.{PartRow, ◌is◌, in_rows}

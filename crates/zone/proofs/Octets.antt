@@ -3,7 +3,7 @@ use Prim.Native.Nat.{ℕ, zero, suc, ◌<◌}
 use mathlib.Core.List.{List, [], ◌∷◌}
 use native.Mathlib.Omega.{arith}
 use borrow.Author.Tests.{lt-ltb, ltb-true}
-use lib.ListN.{length, get_or}
+use lib.ListN.{get_or}
 use Rattle.lent.proofs.Bools.{and_both}
 use Rattle.zone.specs.Alphabet.{every}
 use Rattle.zone.specs.Octets.{is_octet, AreOctets}

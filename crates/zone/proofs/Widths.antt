@@ -9,7 +9,6 @@ use borrow.Author.Tests.{ltb-true, ltb-false}
 use lib.Dec.{ltb}
 use Rattle.lent.proofs.Bools.{and_both}
 use mathlib.Core.Logic.{◌⊎◌, inl, inr}
-use lib.ListN.{length}
 use Rattle.zone.specs.declared.form.Form.{Form}
 use Rattle.zone.specs.Part.{Part, code, state, number, birth, sex, expiry, nationality, same, among, number_check}
 use Rattle.zone.specs.Part.{birth_check}
@@ -18,7 +17,6 @@ use Rattle.zone.specs.Rooms.{code_room, state_room, date_room, nine, number_room
 use Rattle.zone.specs.Form.{Cell, ◌of◌, row, forms, layout, start_in, start, width_in, width, total, longest, has}
 use Rattle.zone.specs.Form.{part_of, parts}
 use Rattle.zone.proofs.AllForms.{all_forms}
-use Rattle.zone.specs.Alphabet.{every}
 
 pub record Fixed (f : Form) : Type 0 where
   pub code_width : width f code ≡ code_room

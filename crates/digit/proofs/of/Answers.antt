@@ -1,11 +1,10 @@
-use Prim.Native.Nat.{◌≤◌, ◌<◌, ◌+◌, ◌-◌, ◌%◌}
-use mathlib.Core.Path.{◌≡◌, ◌∙◌}
+use mathlib.Core.Path.{◌∙◌}
 use native.Mathlib.Nat.{mod-lt}
 use native.Mathlib.Omega.{arith}
 use borrow.Author.Rules.{rules}
 use lib.Dec.{lit<}
-use lib.ListN.{length, take, drop}
-use Rattle.digit.specs.Check.{sum_from, check_of, digit_of}
+use lib.ListN.{take, drop}
+use Rattle.digit.specs.Check.{check_of, digit_of}
 use Rattle.digit.specs.Inner.Thirds.{as_digit}
 use Rattle.digit.proofs.Sums.{sum_more, sum-rest}
 use Rattle.digit.proofs.ByThirds.{weighed_sum}

@@ -1,6 +1,5 @@
 -- The file's name where it is not empty, and else the text's.
-use borrow.Author.Rules.{rules}
-use mathlib.Core.Path.{◌≡◌, ap, sym, ◌∙◌}
+use mathlib.Core.Path.{ap, sym, ◌∙◌}
 use Rattle.full_name.specs.FullName.{is_empty, full_name}
 use Rattle.full_name.proofs.find.Goals as goal
 

@@ -1,5 +1,4 @@
 -- What was read of the file, or nothing.
-use borrow.Author.Rules.{rules}
 use mathlib.Core.Path.{ap, sym, ◌∙◌}
 use Rattle.tlv.specs.Element.{taken_of}
 use Rattle.full_name.specs.FullName.{in_file, value_in}

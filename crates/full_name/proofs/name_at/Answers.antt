@@ -1,5 +1,4 @@
 -- The form's row has the place.
-use borrow.Author.Rules.{rules}
 use native.Mathlib.Omega.{arith}
 use Rattle.zone.specs.Part.{name}
 use Rattle.zone.specs.Inner.Places.{places_of}

@@ -1,5 +1,4 @@
 -- The stretch, cut from the one that holds it.
-use borrow.Author.Rules.{rules}
 use Rattle.full_name.specs.FullName.{part_of, full_name_part}
 use Rattle.full_name.proofs.part.Goals as goal
 

@@ -1,5 +1,4 @@
 -- The blank record.
-use borrow.Author.Rules.{rules}
 use Rattle.text.specs.Read.{answer_of}
 use Rattle.group_text.specs.Text.{answer_by}
 use Rattle.group_text.proofs.refuse.Goals as goal

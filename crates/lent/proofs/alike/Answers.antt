@@ -2,9 +2,7 @@ use Rattle.lent.specs.Octets.{alike}
 use Rattle.lent.proofs.Comparing.{alike_length, alike_more, alike_fails, alike_end}
 use borrow.Author.Rules.{rules}
 use native.Mathlib.Omega.{arith}
-use mathlib.Core.Path.{◌≡◌, refl}
-use Prim.Native.Nat.{◌≤◌, ◌-◌}
-use lib.ListN.{length, drop}
+use mathlib.Core.Path.{refl}
 use Rattle.lent.proofs.alike.Goals as goal
 
 pub returns-then-a-b : goal.returns-then-a-b

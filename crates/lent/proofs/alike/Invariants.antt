@@ -1,9 +1,6 @@
 -- What is left from i on decides, of two that are as long.
 use Rattle.lent.specs.Octets.{alike}
-use Rattle.lent.proofs.Comparing.{alike_length, alike_more, alike_fails, alike_end}
-use borrow.Author.Rules.{rules}
-use native.Mathlib.Omega.{arith}
-use mathlib.Core.Path.{◌≡◌, refl}
+use mathlib.Core.Path.{◌≡◌}
 use Prim.Native.Nat.{◌≤◌, ◌-◌}
 use lib.ListN.{length, drop}
 use Rattle.lent.proofs.alike.Given as goal

@@ -1,12 +1,8 @@
 -- What was copied stands before what the range had.
-use mathlib.Core.Logic.{inl, inr}
-use Prim.Native.Nat.{◌≤◌, ◌<◌, ◌-◌, ◌+◌}
-use mathlib.Core.Path.{◌≡◌, ◌∙◌}
+use Prim.Native.Nat.{◌≤◌, ◌-◌}
+use mathlib.Core.Path.{◌≡◌}
 use mathlib.Core.List.{◌++◌}
 use lib.ListN.{length, take, drop}
-use native.Mathlib.Omega.{arith}
-use borrow.Author.Rules.{rules}
-use Rattle.lent.proofs.Lists.{copy_more, copy_ends}
 use Rattle.lent.proofs.copy.Given as goal
 
 abbrev pub invariant-loop-i : goal.invariant-loop-i

@@ -1,12 +1,8 @@
 -- A store at i makes one more octet the same.
-use Prim.Native.Nat.{◌≤◌, ◌<◌, ◌-◌, ◌+◌}
-use mathlib.Core.Path.{◌≡◌, ap, ◌∙◌, refl}
+use Prim.Native.Nat.{◌≤◌, ◌-◌}
+use mathlib.Core.Path.{◌≡◌}
 use mathlib.Core.List.{◌++◌}
-use lib.ListN.{length, drop, set, replicate, length-set}
-use native.Mathlib.Omega.{arith}
-use borrow.Author.Rules.{rules}
-use borrow.Author.Fill.{fill_more}
-use Rattle.lent.proofs.Lists.{fill_ends}
+use lib.ListN.{length, drop, replicate}
 use Rattle.lent.proofs.fill.Given as goal
 
 abbrev pub invariant-loop-i : goal.invariant-loop-i

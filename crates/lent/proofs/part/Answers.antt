@@ -2,7 +2,6 @@
 use native.Mathlib.Nat.{add-sub_cancel_left}
 use native.Mathlib.Omega.{arith}
 use Rattle.lent.proofs.Lists.{take_none, take_rest}
-use borrow.Author.Rules.{rules}
 use Rattle.lent.proofs.part.Goals as goal
 
 pub returns-then-s-at : goal.returns-then-s-at

@@ -1,7 +1,6 @@
 -- Past the end a store changes nothing.
 use mathlib.Core.Path.{sym}
 use lib.Seq.{set_out}
-use borrow.Author.Rules.{rules}
 use Rattle.lent.proofs.put.Goals as goal
 
 pub returns-else-at-to : goal.returns-else-at-to

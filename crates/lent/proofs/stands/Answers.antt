@@ -1,8 +1,5 @@
-use Prim.Native.Nat.{◌≤◌, ◌-◌}
-use mathlib.Core.Path.{◌≡◌, refl}
+use mathlib.Core.Path.{refl}
 use borrow.Author.Rules.{rules}
-use lib.ListN.{length, drop}
-use Rattle.lent.specs.Octets.{stands}
 use Rattle.lent.proofs.Among.{stands_more, stands_here, stands_nowhere}
 use Rattle.lent.proofs.stands.Goals as goal
 

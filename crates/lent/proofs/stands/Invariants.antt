@@ -1,10 +1,8 @@
 -- What is left from i on decides for the whole.
 use Prim.Native.Nat.{◌≤◌, ◌-◌}
-use mathlib.Core.Path.{◌≡◌, refl}
-use borrow.Author.Rules.{rules}
+use mathlib.Core.Path.{◌≡◌}
 use lib.ListN.{length, drop}
 use Rattle.lent.specs.Octets.{stands}
-use Rattle.lent.proofs.Among.{stands_more, stands_here, stands_nowhere}
 use Rattle.lent.proofs.stands.Given as goal
 
 abbrev pub invariant-loop-i : goal.invariant-loop-i

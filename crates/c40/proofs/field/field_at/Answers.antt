@@ -1,6 +1,5 @@
 -- What was measured decides whether there are as many characters as there is room for; only then they are written.
 -- the octets that were cut out are the field's
-use borrow.Author.Rules.{rules}
 use native.Mathlib.Omega.{arith}
 use mathlib.Core.Path.{sym, ap, ◌∙◌}
 use lib.ListN.{length}
@@ -9,7 +8,6 @@ use Rattle.c40.specs.Reader.{Reading, read_c40}
 use Rattle.c40.specs.Field.{octets_for, image_at, is_field, field_at}
 use Rattle.c40.specs.Inner.Left.{answered, text_of, text_from}
 use Rattle.c40.proofs.Storing.{field_written, other_field, bad_field}
-
 use Rattle.c40.proofs.field.field_at.Goals as goal
 
 pub write-requires : goal.write-requires

@@ -1,11 +1,8 @@
 -- How many are left tells what the last pair holds.
-use borrow.Author.Rules.{rules}
-use Prim.Native.Nat.{◌+◌, ◌-◌, ◌≤◌}
-use mathlib.Core.Path.{◌≡◌, sym, ap, ◌∙◌}
+use Prim.Native.Nat.{◌≤◌}
 use mathlib.Core.List.{[]}
 use native.Mathlib.Omega.{arith}
 use lib.ListN.{length}
-use lib.Seq.{sets}
 use Rattle.c40.specs.Field.{octets_for}
 use Rattle.c40.proofs.Imaging.{two_left, one_left, none_left, pair_stored}
 use Rattle.c40.proofs.image.put_last.Goals as goal

@@ -1,11 +1,8 @@
 use borrow.Author.Rules.{rules}
 use Prim.Native.Nat.{◌+◌, ◌-◌, ◌≤◌}
-use mathlib.Core.Path.{◌≡◌, refl, ◌∙◌}
+use mathlib.Core.Path.{refl, ◌∙◌}
 use native.Mathlib.Omega.{arith}
-use lib.ListN.{length, drop}
-use lib.Seq.{sets}
-use Rattle.c40.specs.Field.{octets_for}
-use Rattle.c40.specs.Inner.Imaged.{imaged}
+use lib.ListN.{length}
 use Rattle.c40.proofs.Imaging.{octets_more, valued, room_first, room_left, three_stored}
 use Rattle.c40.proofs.image.put_pairs.Goals as goal
 

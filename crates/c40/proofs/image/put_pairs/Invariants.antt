@@ -1,13 +1,10 @@
 -- What is left from place i, stored behind n octets, gives the same as the whole.
-use borrow.Author.Rules.{rules}
 use Prim.Native.Nat.{◌+◌, ◌-◌, ◌≤◌}
-use mathlib.Core.Path.{◌≡◌, refl, ◌∙◌}
-use native.Mathlib.Omega.{arith}
+use mathlib.Core.Path.{◌≡◌}
 use lib.ListN.{length, drop}
 use lib.Seq.{sets}
 use Rattle.c40.specs.Field.{octets_for}
 use Rattle.c40.specs.Inner.Imaged.{imaged}
-use Rattle.c40.proofs.Imaging.{octets_more, valued, room_first, room_left, three_stored}
 use Rattle.c40.proofs.image.put_pairs.Given as goal
 
 abbrev pub invariant-loop-i : goal.invariant-loop-i

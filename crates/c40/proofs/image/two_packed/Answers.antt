@@ -1,5 +1,4 @@
 -- The two values.
-use borrow.Author.Rules.{rules}
 use native.Mathlib.Omega.{arith}
 use Rattle.c40.specs.Image.{packed}
 use Rattle.c40.proofs.image.two_packed.Goals as goal

@@ -1,9 +1,5 @@
 use borrow.Author.Rules.{rules}
-use Prim.Native.Nat.{◌≤◌, ◌-◌}
-use mathlib.Core.Path.{◌≡◌, refl}
-use mathlib.Core.Bool.{◌&&◌}
-use lib.ListN.{length, drop}
-use Rattle.c40.specs.Inner.Left.{all_three}
+use mathlib.Core.Path.{refl}
 use Rattle.c40.proofs.Counting.{pass_three, all_passed}
 use Rattle.c40.proofs.measure.all_three.Goals as goal
 

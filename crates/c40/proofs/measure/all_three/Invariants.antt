@@ -1,11 +1,9 @@
 -- What was passed and what is left decide for the whole.
-use borrow.Author.Rules.{rules}
 use Prim.Native.Nat.{◌≤◌, ◌-◌}
-use mathlib.Core.Path.{◌≡◌, refl}
+use mathlib.Core.Path.{◌≡◌}
 use mathlib.Core.Bool.{◌&&◌}
 use lib.ListN.{length, drop}
 use Rattle.c40.specs.Inner.Left.{all_three}
-use Rattle.c40.proofs.Counting.{pass_three, all_passed}
 use Rattle.c40.proofs.measure.all_three.Given as goal
 
 abbrev pub invariant-loop-i : goal.invariant-loop-i

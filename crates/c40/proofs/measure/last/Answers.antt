@@ -1,5 +1,4 @@
 -- Each return by the tests that led to it, in the order of `last_pair`.
-use borrow.Author.Rules.{rules}
 use Rattle.c40.specs.Reader.{last_pair, two, one}
 use Rattle.c40.specs.Inner.Left.{fitted, values_at}
 use Rattle.c40.proofs.measure.last.Goals as goal

@@ -1,5 +1,4 @@
 -- Pairs of three tell how many characters there are.
-use borrow.Author.Rules.{rules}
 use mathlib.Core.Path.{sym, ◌∙◌}
 use Rattle.c40.proofs.Counting.{three_answered}
 use Rattle.c40.proofs.measure.measured.Goals as goal

@@ -1,11 +1,9 @@
 -- What is left from place i, behind n characters, answers the same as the whole.
-use borrow.Author.Rules.{rules}
 use Prim.Native.Nat.{◌≤◌, ◌-◌}
-use mathlib.Core.Path.{◌≡◌, ◌∙◌}
+use mathlib.Core.Path.{◌≡◌}
 use lib.ListN.{length, drop}
 use Rattle.c40.specs.Reader.{read_c40}
 use Rattle.c40.specs.Inner.Left.{answered, fitted}
-use Rattle.c40.proofs.Counting.{all_fitted, three_at, three_full, not_last, last_at, half_at, none_at}
 use Rattle.c40.proofs.measure.paired.Given as goal
 
 abbrev pub invariant-loop-i : goal.invariant-loop-i

@@ -1,5 +1,4 @@
 -- The tests are those of `is_one`.
-use borrow.Author.Rules.{rules}
 use Rattle.c40.specs.Values.{is_c40}
 use Rattle.c40.specs.Reader.{is_one}
 use Rattle.c40.proofs.pair.is_one.Goals as goal

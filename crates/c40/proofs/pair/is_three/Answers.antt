@@ -1,5 +1,4 @@
 -- The tests are those of `is_three`.
-use borrow.Author.Rules.{rules}
 use Rattle.c40.specs.Reader.{is_three}
 use Rattle.c40.proofs.pair.is_three.Goals as goal
 

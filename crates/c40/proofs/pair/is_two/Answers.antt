@@ -1,5 +1,4 @@
 -- The tests are those of `is_two`.
-use borrow.Author.Rules.{rules}
 use Rattle.c40.specs.Reader.{is_two}
 use Rattle.c40.proofs.pair.is_two.Goals as goal
 

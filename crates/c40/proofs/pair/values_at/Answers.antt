@@ -1,5 +1,4 @@
 -- The quotients and remainders of `values_of`.
-use borrow.Author.Rules.{rules}
 use Rattle.c40.specs.Reader.{values_of}
 use Rattle.c40.specs.Inner.Left.{values_at}
 use Rattle.c40.proofs.Packing.{small_values}

@@ -1,12 +1,9 @@
 -- What is left from place i, stored behind n characters, gives the same as the whole.
-use borrow.Author.Rules.{rules}
 use Prim.Native.Nat.{◌≤◌, ◌-◌}
-use mathlib.Core.Path.{◌≡◌, refl, ◌∙◌}
-use native.Mathlib.Omega.{arith}
+use mathlib.Core.Path.{◌≡◌}
 use lib.ListN.{length}
 use lib.Seq.{sets}
 use Rattle.c40.specs.Inner.Left.{text_from}
-use Rattle.c40.proofs.Storing.{three_from, three_shorter, three_written}
 use Rattle.c40.proofs.write.write.Given as goal
 
 abbrev pub invariant-loop-n : goal.invariant-loop-n

@@ -1,5 +1,4 @@
 -- The sums of the parts, and their digit.
-use borrow.Author.Rules.{rules}
 use Rattle.digit.specs.Inner.Covered.{composite_sum}
 use Rattle.digit.proofs.composite.digit_by.Goals as goal
 

@@ -9,6 +9,6 @@ overflow_mul-result c = omega (arith, count_le {a = c.octet.result} _ (search ru
 
 pub returns : goal.returns
 returns c = (
-      rw (c.weight.ensures, c.octet.ensures),
-      omega (arith, count_le {a = c.octet.result} _ (search rules) c.weight.ensures),
-    )
+  rw (c.weight.ensures, c.octet.ensures),
+  omega (arith, count_le {a = c.octet.result} _ (search rules) c.weight.ensures),
+)

@@ -2,7 +2,6 @@
 use Prim.Native.Nat.{◌<◌}
 use mathlib.Core.Path.{◌≡◌}
 use native.Mathlib.Omega.{arith}
-use borrow.Author.Rules.{rules}
 use Rattle.zone.specs.Part.{Part, number_check, birth_check, expiry_check}
 use Rattle.zone.specs.Form.{start, width}
 use Rattle.zone.specs.declared.form.Form.{Form}

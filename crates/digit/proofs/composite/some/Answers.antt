@@ -1,5 +1,4 @@
 -- One call on the characters.
-use borrow.Author.Rules.{rules}
 use Rattle.digit.proofs.composite.some.Goals as goal
 
 pub returns : goal.returns

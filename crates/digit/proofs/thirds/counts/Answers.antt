@@ -1,10 +1,8 @@
-use Prim.Native.Nat.{◌≤◌, ◌-◌}
-use mathlib.Core.Path.{◌≡◌}
 use native.Mathlib.Omega.{arith}
 use borrow.Author.Rules.{rules}
-use lib.ListN.{length, length-take, length-set}
+use lib.ListN.{length-take, length-set}
 use Rattle.digit.proofs.Sums.{counted_le}
-use Rattle.digit.proofs.Counting.{CountsUpTo, counts_none, counts_more, counts_all}
+use Rattle.digit.proofs.Counting.{counts_none, counts_more, counts_all}
 use Rattle.digit.proofs.thirds.counts.Goals as goal
 
 pub loop-i-init : goal.loop-i-init

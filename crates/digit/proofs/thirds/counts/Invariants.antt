@@ -1,11 +1,8 @@
 -- What was passed is worked out, and 0 stands behind it.
 use Prim.Native.Nat.{◌≤◌, ◌-◌}
 use mathlib.Core.Path.{◌≡◌}
-use native.Mathlib.Omega.{arith}
-use borrow.Author.Rules.{rules}
-use lib.ListN.{length, length-take, length-set}
-use Rattle.digit.proofs.Sums.{counted_le}
-use Rattle.digit.proofs.Counting.{CountsUpTo, counts_none, counts_more, counts_all}
+use lib.ListN.{length}
+use Rattle.digit.proofs.Counting.{CountsUpTo}
 use Rattle.digit.proofs.thirds.counts.Given as goal
 
 abbrev pub invariant-loop-i : goal.invariant-loop-i

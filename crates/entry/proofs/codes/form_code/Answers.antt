@@ -1,5 +1,4 @@
 -- The form's own row has it.
-use borrow.Author.Rules.{rules}
 use Rattle.zone.proofs.FormTold.{entered_tells}
 use Rattle.entry.proofs.codes.form_code.Goals as goal
 

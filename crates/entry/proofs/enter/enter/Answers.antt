@@ -1,5 +1,4 @@
 -- What passed is entered; a refusal is handed on.
-use borrow.Author.Rules.{rules}
 use Rattle.entry.specs.Entry.{entry_answer, entry_out}
 use Rattle.entry.specs.Entered.{entered_answer, entered_out}
 use Rattle.entry.proofs.enter.enter.Goals as goal

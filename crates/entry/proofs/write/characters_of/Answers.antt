@@ -1,5 +1,4 @@
 -- The fields over fillers, one behind the other (`copied_placed`).
-use borrow.Author.Rules.{rules}
 use Rattle.sound.proofs.SoundRecord.{taken_apart}
 use Rattle.entry.proofs.Placing.{copied_placed}
 use Rattle.entry.proofs.Values.{own_taken}

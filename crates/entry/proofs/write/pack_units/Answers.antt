@@ -1,5 +1,4 @@
 -- The front's octets, and the rest's behind them (`units-packed`).
-use borrow.Author.Rules.{rules}
 use Rattle.entry.proofs.EntryUnits.{units_packed}
 use Rattle.entry.proofs.write.pack_units.Goals as goal
 

@@ -1,5 +1,4 @@
 -- Each field is copied to its unit.
-use borrow.Author.Rules.{rules}
 use Rattle.entry.specs.Inner.Units.{placed_after_key}
 use Rattle.entry.proofs.write.put_after_key.Goals as goal
 

@@ -1,5 +1,4 @@
 -- Each is copied behind the one before.
-use borrow.Author.Rules.{rules}
 use native.Mathlib.Omega.{arith}
 use Rattle.sound.proofs.SoundRecord.{taken_apart}
 use Rattle.entry.specs.Inner.Units.{placed_rest}

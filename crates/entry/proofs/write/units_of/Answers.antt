@@ -1,11 +1,9 @@
 -- The characters as codes, and the numbers between them (`numbers-placed`).
 -- the lengths fit an octet, and the name's stands among the units
-use borrow.Author.Rules.{rules}
 use native.Mathlib.Omega.{arith}
 use Rattle.sound.proofs.SoundRecord.{taken_apart}
 use Rattle.entry.proofs.Placing.{numbers_placed}
 use Rattle.entry.proofs.Values.{own_taken}
-
 use Rattle.entry.proofs.write.units_of.Goals as goal
 
 pub overflow_cast-units-4 : goal.overflow_cast-units-4

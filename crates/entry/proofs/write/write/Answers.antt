@@ -1,12 +1,11 @@
 -- What may be entered has the size that was tested.
-use mathlib.Core.Path.{◌≡◌, ◌∙◌}
+use mathlib.Core.Path.{◌∙◌}
 use borrow.Author.Tests.{le-leb, lt-leb}
-use borrow.Author.Rules.{rules}
 use native.Mathlib.Omega.{arith}
 use Rattle.lent.proofs.Bools.{and_both}
 use Rattle.sound.specs.Sound.{is_sound}
 use Rattle.sound.proofs.SoundRecord.{taken_apart}
-use Rattle.entry.specs.Entry.{size, is_house, entry_answer, entry_out}
+use Rattle.entry.specs.Entry.{is_house, entry_answer, entry_out}
 use Rattle.entry.proofs.EntryUnits.{both_most, size_by_lem}
 use Rattle.entry.proofs.write.write.Goals as goal
 

@@ -1,5 +1,4 @@
 -- The tests are those of `card_rule`.
-use borrow.Author.Rules.{rules}
 use Rattle.field.specs.Code.{card_rule, is_second}
 use Rattle.field.proofs.code.is_card.Goals as goal
 

@@ -1,5 +1,4 @@
 -- The tests are those of `passport_rule`.
-use borrow.Author.Rules.{rules}
 use Rattle.field.specs.Code.{passport_rule, is_second}
 use Rattle.field.proofs.code.is_passport.Goals as goal
 

@@ -1,5 +1,4 @@
 -- Each arm is a row of `days_in`.
-use borrow.Author.Rules.{rules}
 use borrow.Author.Tests.{ne_eqb}
 use Rattle.field.specs.Date.{days_in, is_short}
 use Rattle.field.proofs.date.days_in.Goals as goal
@@ -7,20 +6,20 @@ use Rattle.field.proofs.date.days_in.Goals as goal
 pub returns-then-is_leap : goal.returns-then-is_leap
 unfolding days_in is_short
 returns-then-is_leap c = simp (
-      c.if-is_leap.true,
-      ← c.is_leap.ensures,
-      c.in-2.is,
-      c.in-Known.is,
-    )
+  c.if-is_leap.true,
+  ← c.is_leap.ensures,
+  c.in-2.is,
+  c.in-Known.is,
+)
 
 pub returns-else-is_leap : goal.returns-else-is_leap
 unfolding days_in is_short
 returns-else-is_leap c = simp (
-      c.if-is_leap.false,
-      ← c.is_leap.ensures,
-      c.in-2.is,
-      c.in-Known.is,
-    )
+  c.if-is_leap.false,
+  ← c.is_leap.ensures,
+  c.in-2.is,
+  c.in-Known.is,
+)
 
 pub returns-in-4 : goal.returns-in-4
 unfolding days_in is_short
@@ -41,13 +40,13 @@ returns-in-11 c = simp (c.in-11.is, c.in-Known.is)
 pub returns-in_default : goal.returns-in_default
 unfolding days_in is_short
 returns-in_default c = simp (
-      ne_eqb _ _ c.in_default.in_default-own.rest.0.0.0.0.1,
-      ne_eqb _ _ c.in_default.in_default-own.rest.0.0.0.1,
-      ne_eqb _ _ c.in_default.in_default-own.rest.0.0.1,
-      ne_eqb _ _ c.in_default.in_default-own.rest.0.1,
-      ne_eqb _ _ c.in_default.in_default-own.rest.1,
-      c.in-Known.is,
-    )
+  ne_eqb _ _ c.in_default.in_default-own.rest.0.0.0.0.1,
+  ne_eqb _ _ c.in_default.in_default-own.rest.0.0.0.1,
+  ne_eqb _ _ c.in_default.in_default-own.rest.0.0.1,
+  ne_eqb _ _ c.in_default.in_default-own.rest.0.1,
+  ne_eqb _ _ c.in_default.in_default-own.rest.1,
+  c.in-Known.is,
+)
 
 pub returns-in-Unknown : goal.returns-in-Unknown
 unfolding days_in is_short

@@ -1,5 +1,4 @@
 -- A known day is tested, an unknown one passes.
-use borrow.Author.Rules.{rules}
 use Rattle.field.specs.Date.{day_rule}
 use Rattle.field.proofs.date.is_day.Goals as goal
 

@@ -1,5 +1,4 @@
 -- The tests are those of `expiry_rule`.
-use borrow.Author.Rules.{rules}
 use Rattle.field.specs.Date.{year_of, month_of, day_of, birth_rule, expiry_rule}
 use Rattle.field.proofs.date.is_expiry.Goals as goal
 

@@ -1,5 +1,4 @@
 -- Both are digits.
-use borrow.Author.Rules.{rules}
 use Rattle.field.proofs.Known.{known_digits}
 use Rattle.field.proofs.date.is_known.Goals as goal
 

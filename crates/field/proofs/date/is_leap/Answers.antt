@@ -1,5 +1,4 @@
 -- A known year is tested, an unknown one passes.
-use borrow.Author.Rules.{rules}
 use Rattle.field.specs.Date.{is_leap}
 use Rattle.field.proofs.date.is_leap.Goals as goal
 

@@ -1,5 +1,4 @@
 -- A known month is tested, an unknown one passes.
-use borrow.Author.Rules.{rules}
 use Rattle.field.specs.Date.{month_rule}
 use Rattle.field.proofs.date.is_month.Goals as goal
 

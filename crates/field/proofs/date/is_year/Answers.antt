@@ -1,5 +1,4 @@
 -- Each arm is the row of `year_rule`.
-use borrow.Author.Rules.{rules}
 use Rattle.field.specs.Date.{year_rule}
 use Rattle.field.proofs.date.is_year.Goals as goal
 

@@ -1,5 +1,4 @@
 -- Two octets.
-use borrow.Author.Rules.{rules}
 use Rattle.field.proofs.date.pair_at.Goals as goal
 
 pub returns : goal.returns

@@ -1,8 +1,6 @@
 -- The tests that led to each `return` are those of `pair_of`; a filler is no digit.
 use Prim.Native.Char.{code}
-use mathlib.Core.Logic.{⊎_elim}
 use lib.Dec.{eqb}
-use borrow.Author.Rules.{rules}
 use borrow.Author.Tests.{eqb-true, le-leb, lt-leb}
 use Rattle.lent.proofs.Tests.{tests}
 use Rattle.lent.proofs.Bools.{and_both}
@@ -33,6 +31,6 @@ pub returns-else-a-b : goal.returns-else-a-b
 unfolding pair_of is_digit is_filler
 returns-else-a-b c =
     elim c.in_default.branch [
-      in_default-via-then-a-lt48 w ↦ simp (lt-leb _ _ w.if-a-lt48-1.true, c.if-a-b.false)
-    | in_default-via-else-a-lt48+else-a-lt58 w ↦ simp (le-leb _ _ w.if-a-lt48-1.false, lt-leb _ (code "9") w.if-a-lt58-1.false, c.if-a-b.false)
+      | in_default-via-then-a-lt48 w ↦ simp (lt-leb _ _ w.if-a-lt48-1.true, c.if-a-b.false)
+      | in_default-via-else-a-lt48+else-a-lt58 w ↦ simp (le-leb _ _ w.if-a-lt48-1.false, lt-leb _ (code "9") w.if-a-lt58-1.false, c.if-a-b.false)
     ]

@@ -1,9 +1,5 @@
-use Prim.Native.Nat.{◌≤◌, ◌-◌}
-use mathlib.Core.Path.{◌≡◌, refl}
-use mathlib.Core.Bool.{◌&&◌}
+use mathlib.Core.Path.{refl}
 use borrow.Author.Rules.{rules}
-use lib.ListN.{length, drop}
-use Rattle.zone.specs.Alphabet.{every}
 use Rattle.field.specs.Letters.{is_name_character}
 use Rattle.zone.proofs.Every.{every_step, every_done}
 use Rattle.field.proofs.letters.are_name_characters.Goals as goal

@@ -1,12 +1,10 @@
 -- What was passed and what is left decide for the whole.
 use Prim.Native.Nat.{◌≤◌, ◌-◌}
-use mathlib.Core.Path.{◌≡◌, refl}
+use mathlib.Core.Path.{◌≡◌}
 use mathlib.Core.Bool.{◌&&◌}
-use borrow.Author.Rules.{rules}
 use lib.ListN.{length, drop}
 use Rattle.zone.specs.Alphabet.{every}
 use Rattle.field.specs.Letters.{is_name_character}
-use Rattle.zone.proofs.Every.{every_step, every_done}
 use Rattle.field.proofs.letters.are_name_characters.Given as goal
 
 abbrev pub invariant-loop-i : goal.invariant-loop-i

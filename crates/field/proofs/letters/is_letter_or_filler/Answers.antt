@@ -1,5 +1,4 @@
 -- The two tests.
-use borrow.Author.Rules.{rules}
 use Rattle.zone.specs.Alphabet.{is_filler}
 use Rattle.field.proofs.letters.is_letter_or_filler.Goals as goal
 

@@ -1,5 +1,4 @@
 -- The first character, and all of them.
-use borrow.Author.Rules.{rules}
 use Rattle.field.specs.Letters.{name_rule}
 use Rattle.field.proofs.letters.is_name.Goals as goal
 

@@ -1,5 +1,4 @@
 -- The four, and of the next unit what stands above.
-use borrow.Author.Rules.{rules}
 use Rattle.packing.specs.Packed.{four_on}
 use Rattle.packing.proofs.pack.four_on.Goals as goal
 

@@ -1,10 +1,7 @@
 use borrow.Author.Rules.{rules}
-use Prim.Native.Nat.{◌≤◌, ◌<◌, ◌*◌, ◌-◌}
+use Prim.Native.Nat.{◌<◌, ◌*◌}
 use mathlib.Core.Path.{◌≡◌, sym, ◌∙◌}
-use mathlib.Core.List.{◌++◌}
 use native.Mathlib.Omega.{arith}
-use lib.ListN.{length, take, drop}
-use Rattle.packing.specs.Packed.{packed}
 use Rattle.packing.proofs.Packing.{none_on, pack_more, pack_ends}
 use Rattle.packing.proofs.pack.pack_fours.Goals as goal
 

@@ -1,10 +1,8 @@
 use borrow.Author.Rules.{rules}
-use Prim.Native.Nat.{◌≤◌, ◌<◌, ◌*◌, ◌-◌}
+use Prim.Native.Nat.{◌<◌}
 use mathlib.Core.Path.{◌≡◌, ◌∙◌}
-use mathlib.Core.List.{◌++◌}
 use native.Mathlib.Omega.{arith}
-use lib.ListN.{length, take, drop}
-use Rattle.packing.specs.Packed.{packed, on}
+use Rattle.packing.specs.Packed.{on}
 use Rattle.packing.proofs.Packing.{pack_more, pack_ends}
 use Rattle.packing.proofs.pack.pack_fours_on.Goals as goal
 

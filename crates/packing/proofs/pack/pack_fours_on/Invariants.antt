@@ -1,12 +1,9 @@
 -- The octets of the units before the i-th four stand in front; a turn puts three more behind them (`pack-more`).
-use borrow.Author.Rules.{rules}
-use Prim.Native.Nat.{◌≤◌, ◌<◌, ◌*◌, ◌-◌}
-use mathlib.Core.Path.{◌≡◌, ◌∙◌}
+use Prim.Native.Nat.{◌≤◌, ◌*◌, ◌-◌}
+use mathlib.Core.Path.{◌≡◌}
 use mathlib.Core.List.{◌++◌}
-use native.Mathlib.Omega.{arith}
 use lib.ListN.{length, take, drop}
 use Rattle.packing.specs.Packed.{packed, on}
-use Rattle.packing.proofs.Packing.{pack_more, pack_ends}
 use Rattle.packing.proofs.pack.pack_fours_on.Given as goal
 
 abbrev pub invariant-loop-i : goal.invariant-loop-i

@@ -1,5 +1,4 @@
 -- Where there is room, the loop.
-use borrow.Author.Rules.{rules}
 use borrow.Author.Tests.{le-leb, lt-leb, lt-ltb, le-ltb}
 use Rattle.packing.specs.Packed.{packed_on_over}
 use Rattle.packing.proofs.pack.pack_on.Goals as goal

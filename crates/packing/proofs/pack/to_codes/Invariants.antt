@@ -1,11 +1,8 @@
 -- What is passed, and what is left as codes, are the whole as codes.
-use Prim.Native.Nat.{◌≤◌, ◌<◌, ◌-◌}
-use mathlib.Core.Path.{◌≡◌, refl, ◌∙◌}
+use Prim.Native.Nat.{◌≤◌, ◌-◌}
+use mathlib.Core.Path.{◌≡◌}
 use mathlib.Core.List.{◌++◌, map}
-use native.Mathlib.Omega.{arith}
-use borrow.Author.Rules.{rules}
-use lib.ListN.{length, take, drop, length-set}
-use Rattle.lent.proofs.Changed.{map_step, map_done}
+use lib.ListN.{length, take, drop}
 use Rattle.zone.specs.Codes.{code_of}
 use Rattle.packing.proofs.pack.to_codes.Given as goal
 

@@ -3,17 +3,12 @@
 use Prim.Native.Nat.{ℕ}
 use mathlib.Core.Path.{◌≡◌, refl}
 use mathlib.Core.List.{List, [], ◌∷◌}
-use borrow.Author.Rules.{rules}
-use denote.Enum.Declared.{tag_of}
-use types.Run.{OneOf, miss}
-use Rattle.refusal.specs.contracts.Cause as cause
 use Rattle.refusal.specs.declared.Cause.{Cause}
 use Rattle.refusal.specs.declared.Cause.TheVariants.{Length, Character, Code, State, Number, Date, Sex, Name, Digit}
 use Rattle.refusal.specs.declared.Cause.TheVariants.{Encoding, EfCom, SecurityObject, Algorithm, Group, Digest, Output}
 use Rattle.refusal.specs.declared.Cause.TheVariants.{Unsound, Entry, Versions, Details, Depth, Templates, Order}
 use Rattle.refusal.specs.declared.Cause.TheVariants.{SealHeader, SealFeature, SealText, SealSignature, SealInput}
 use Rattle.refusal.specs.Numbers.{no_digit, why_of, expected_of}
-
 use Rattle.refusal.proofs.Cause.expected.Goals as goal
 
 others : List ℕ

@@ -1,5 +1,4 @@
 -- Each arm is the row of `number_of` for that cause.
-use borrow.Author.Rules.{rules}
 use Rattle.refusal.proofs.Cause.number.Goals as goal
 
 pub returns-in-Length : goal.returns-in-Length

@@ -1,5 +1,4 @@
 -- It holds or not: the two cases of `unless`.
-use borrow.Author.Rules.{rules}
 use Rattle.refusal.proofs.Verdict.judged.Goals as goal
 
 pub returns-then-holds : goal.returns-then-holds

@@ -1,5 +1,4 @@
 -- The two cases of `or_else`.
-use borrow.Author.Rules.{rules}
 use Rattle.refusal.proofs.Verdict.or_else.Goals as goal
 
 pub returns-in-Passed : goal.returns-in-Passed

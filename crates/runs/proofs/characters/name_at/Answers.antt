@@ -1,5 +1,4 @@
 -- A copy over fillers.
-use borrow.Author.Rules.{rules}
 use lib.ListN.{take, drop}
 use Rattle.zone.proofs.Padded.{copied_padded}
 use Rattle.runs.proofs.characters.name_at.Goals as goal

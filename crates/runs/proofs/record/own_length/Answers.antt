@@ -1,5 +1,4 @@
 -- Five bits.
-use borrow.Author.Rules.{rules}
 use Rattle.zone.specs.Part as text
 use Rattle.cells.proofs.Shifts.{bits_below}
 use Rattle.units.specs.Unpacked.{bits_within}

@@ -1,5 +1,4 @@
 -- The entry's octets stand alone, and their characters are unpacked.
-use borrow.Author.Rules.{rules}
 use Rattle.runs.specs.Inner.Units.{held}
 use Rattle.runs.proofs.record.read_units.Goals as goal
 

@@ -1,6 +1,5 @@
 -- Field by field, from the units of the entry (`record-read`).
 use Prim.Native.Nat.{◌+◌}
-use borrow.Author.Rules.{rules}
 use native.Mathlib.Omega.{arith}
 use Rattle.units.specs.Unpacked.{bits_within}
 use Rattle.runs.proofs.RecordRead.{units_are, record_read}

@@ -1,5 +1,4 @@
 -- The front's units, and the rest's behind them (`units-unpacked`).
-use borrow.Author.Rules.{rules}
 use Rattle.runs.proofs.UnitsRead.{units_unpacked}
 use Rattle.runs.proofs.record.unpack_units.Goals as goal
 

@@ -1,6 +1,6 @@
 -- House and whole first; what is left is the record.
 use borrow.Author.Rules.{rules}
-use mathlib.Core.Path.{◌≡◌, ap, ◌∙◌}
+use mathlib.Core.Path.{ap, ◌∙◌}
 use mathlib.Core.Bool.{and_assoc}
 use Rattle.cells.specs.Bits.{bits_at}
 use Rattle.cells.specs.Cells.{numbers_at}

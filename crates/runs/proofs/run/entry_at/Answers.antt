@@ -1,5 +1,4 @@
 -- By the form that the bits tell.
-use borrow.Author.Rules.{rules}
 use mathlib.Core.Path.{sym, ◌∙◌}
 use Rattle.cells.specs.Cells.{numbers_at}
 use Rattle.units.specs.Unpacked.{bits_within}

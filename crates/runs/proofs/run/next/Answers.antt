@@ -1,5 +1,4 @@
 -- The end, past the end, or an entry at the front of what is left.
-use borrow.Author.Rules.{rules}
 use borrow.Author.Tests.{eq-eqb, ne_eqb, lt-ltb, le-ltb}
 use Rattle.runs.specs.Run.{standing_of, read_entry}
 use Rattle.lent.proofs.Lists.{rest_all}

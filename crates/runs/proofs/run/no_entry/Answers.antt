@@ -1,5 +1,4 @@
 -- The refusal, and the blank record beside it.
-use borrow.Author.Rules.{rules}
 use Rattle.runs.specs.Run.{standing_of, no_entry}
 use Rattle.runs.proofs.run.no_entry.Goals as goal
 

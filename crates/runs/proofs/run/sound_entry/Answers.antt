@@ -1,5 +1,4 @@
 -- The one test that is left, turned into a test of the record that the bits say.
-use borrow.Author.Rules.{rules}
 use mathlib.Core.Path.{sym, ◌∙◌}
 use mathlib.Core.Bool.{and_assoc}
 use Rattle.lent.proofs.Bools.{and_both}

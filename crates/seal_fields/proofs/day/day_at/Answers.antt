@@ -1,5 +1,4 @@
 -- The number in three octets.
-use borrow.Author.Rules.{rules}
 use Rattle.seal_fields.specs.Day.{day_at}
 use Rattle.seal_fields.proofs.day.day_at.Goals as goal
 

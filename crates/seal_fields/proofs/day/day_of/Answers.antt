@@ -1,5 +1,4 @@
 -- The three parts of the number.
-use borrow.Author.Rules.{rules}
 use mathlib.Core.Path.{refl}
 use Rattle.seal_fields.specs.Day.{day_of}
 use Rattle.seal_fields.proofs.day.day_of.Goals as goal

@@ -1,5 +1,4 @@
 -- Each arm is a row of `days_in`.
-use borrow.Author.Rules.{rules}
 use borrow.Author.Tests.{ne_eqb}
 use Rattle.field.specs.Date.{is_short}
 use Rattle.seal_fields.specs.Day.{days_in}
@@ -32,9 +31,9 @@ returns-in-11 c = simp c.in-11.is
 pub returns-in_default : goal.returns-in_default
 unfolding days_in is_short
 returns-in_default c = simp (
-      ne_eqb _ _ c.in_default.in_default-own.rest.0.0.0.0.1,
-      ne_eqb _ _ c.in_default.in_default-own.rest.0.0.0.1,
-      ne_eqb _ _ c.in_default.in_default-own.rest.0.0.1,
-      ne_eqb _ _ c.in_default.in_default-own.rest.0.1,
-      ne_eqb _ _ c.in_default.in_default-own.rest.1,
-    )
+  ne_eqb _ _ c.in_default.in_default-own.rest.0.0.0.0.1,
+  ne_eqb _ _ c.in_default.in_default-own.rest.0.0.0.1,
+  ne_eqb _ _ c.in_default.in_default-own.rest.0.0.1,
+  ne_eqb _ _ c.in_default.in_default-own.rest.0.1,
+  ne_eqb _ _ c.in_default.in_default-own.rest.1,
+)

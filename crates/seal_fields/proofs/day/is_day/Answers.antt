@@ -1,5 +1,4 @@
 -- The tests are those of `is_day`.
-use borrow.Author.Rules.{rules}
 use Rattle.seal_fields.specs.Day.{is_day}
 use Rattle.seal_fields.proofs.day.is_day.Goals as goal
 

@@ -1,5 +1,4 @@
 -- The three octets of the number, each below 256.
-use borrow.Author.Rules.{rules}
 use native.Mathlib.Nat.{mod-mod}
 use Rattle.c40.specs.Inner.Imaged.{reduced}
 use Rattle.seal_fields.specs.Day.{day_number, three_octets, day_octets}

@@ -1,9 +1,5 @@
-use Prim.Native.Nat.{◌≤◌, ◌-◌}
-use mathlib.Core.Path.{◌≡◌, refl}
-use mathlib.Core.Bool.{◌&&◌}
+use mathlib.Core.Path.{refl}
 use borrow.Author.Rules.{rules}
-use lib.ListN.{length, drop}
-use Rattle.zone.specs.Alphabet.{every}
 use Rattle.zone.proofs.Every.{every_step, every_done}
 use Rattle.seal_fields.specs.Hex.{is_hex}
 use Rattle.seal_fields.proofs.hex.all_hex.Goals as goal

@@ -1,11 +1,9 @@
 -- What was passed and what is left decide for the whole.
 use Prim.Native.Nat.{◌≤◌, ◌-◌}
-use mathlib.Core.Path.{◌≡◌, refl}
+use mathlib.Core.Path.{◌≡◌}
 use mathlib.Core.Bool.{◌&&◌}
-use borrow.Author.Rules.{rules}
 use lib.ListN.{length, drop}
 use Rattle.zone.specs.Alphabet.{every}
-use Rattle.zone.proofs.Every.{every_step, every_done}
 use Rattle.seal_fields.specs.Hex.{is_hex}
 use Rattle.seal_fields.proofs.hex.all_hex.Given as goal
 

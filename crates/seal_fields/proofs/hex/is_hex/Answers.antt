@@ -1,5 +1,4 @@
 -- The tests are those of `is_hex`.
-use borrow.Author.Rules.{rules}
 use Rattle.seal_fields.specs.Hex.{is_hex_letter, is_hex}
 use Rattle.seal_fields.proofs.hex.is_hex.Goals as goal
 

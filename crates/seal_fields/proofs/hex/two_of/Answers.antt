@@ -1,5 +1,4 @@
 -- The two characters.
-use borrow.Author.Rules.{rules}
 use Rattle.seal_fields.specs.Hex.{hexadecimal}
 use Rattle.seal_fields.proofs.hex.two_of.Goals as goal
 

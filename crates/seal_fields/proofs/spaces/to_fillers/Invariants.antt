@@ -1,11 +1,8 @@
 -- What is passed, and what is left with its spaces filled, are the whole with its spaces filled.
-use Prim.Native.Nat.{◌≤◌, ◌<◌, ◌-◌}
-use mathlib.Core.Path.{◌≡◌, refl, ◌∙◌}
+use Prim.Native.Nat.{◌≤◌, ◌-◌}
+use mathlib.Core.Path.{◌≡◌}
 use mathlib.Core.List.{◌++◌}
-use native.Mathlib.Omega.{arith}
-use borrow.Author.Rules.{rules}
-use lib.ListN.{length, take, drop, length-set}
-use Rattle.lent.proofs.Changed.{map_step, map_done}
+use lib.ListN.{length, take, drop}
 use Rattle.seal_fields.specs.Spaces.{filled}
 use Rattle.seal_fields.proofs.spaces.to_fillers.Given as goal
 

@@ -1,5 +1,4 @@
 -- A field that is read fills its room; of none every place is a filler.
-use borrow.Author.Rules.{rules}
 use mathlib.Core.Path.{sym, ◌∙◌}
 use Rattle.zone.specs.Record.{padded}
 use Rattle.zone.proofs.Padded.{padded_exact}

@@ -19,7 +19,7 @@ read_by-requires c = let s = c.args.s.now in
 pub returns : goal.returns
 unfolding reference width octets_for
 returns c = rw (
-      c.part.ensures,
-      c.read-n.ensures,
-      c.length-count.ensures.value.0,
-    ) at c.read_by.ensures
+  c.part.ensures,
+  c.read-n.ensures,
+  c.length-count.ensures.value.0,
+) at c.read_by.ensures

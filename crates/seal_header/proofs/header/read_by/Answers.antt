@@ -6,19 +6,19 @@ use Rattle.seal_header.proofs.header.read_by.Goals as goal
 pub returns : goal.returns
 unfolding check_by said_by
 returns c = record {
-      decided = rw (
-        c.or_else-verdict.ensures,
-        c.back_check.ensures,
-        c.front_check-front.ensures,
-        c.day_at-signed.ensures,
-        c.day_at-issued.ensures,
-        c.country_in-country.ensures,
-      );
-      said = rw (
-        c.header_by-header.ensures,
-        c.day_at-signed.ensures,
-        c.day_at-issued.ensures,
-        c.country_in-country.ensures,
-      );
-      ends = search rules;
-    }
+  decided = rw (
+    c.or_else-verdict.ensures,
+    c.back_check.ensures,
+    c.front_check-front.ensures,
+    c.day_at-signed.ensures,
+    c.day_at-issued.ensures,
+    c.country_in-country.ensures,
+  );
+  said = rw (
+    c.header_by-header.ensures,
+    c.day_at-signed.ensures,
+    c.day_at-issued.ensures,
+    c.country_in-country.ensures,
+  );
+  ends = search rules;
+}

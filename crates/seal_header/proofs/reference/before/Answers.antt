@@ -1,5 +1,4 @@
 -- The test is that of `before`.
-use borrow.Author.Rules.{rules}
 use borrow.Author.Tests.{eq-eqb, ne_eqb}
 use Rattle.seal_header.specs.Reference.{version, before}
 use Rattle.seal_header.proofs.reference.before.Goals as goal

@@ -1,5 +1,4 @@
 -- A copy over fillers.
-use borrow.Author.Rules.{rules}
 use Rattle.zone.proofs.Padded.{copied_padded}
 use Rattle.seal_header.proofs.reference.certificate_in.Goals as goal
 

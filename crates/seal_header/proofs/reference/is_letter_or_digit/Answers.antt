@@ -1,5 +1,4 @@
 -- The tests are those of `is_letter_or_digit`.
-use borrow.Author.Rules.{rules}
 use Rattle.seal_header.specs.Reference.{is_letter_or_digit}
 use Rattle.seal_header.proofs.reference.is_letter_or_digit.Goals as goal
 

@@ -1,5 +1,4 @@
 -- The tests are those of `is_reference`; the part up to the end is all that is left.
-use borrow.Author.Rules.{rules}
 use native.Mathlib.Omega.{arith}
 use mathlib.Core.Path.{sym, ◌∙◌}
 use lib.ListN.{length}

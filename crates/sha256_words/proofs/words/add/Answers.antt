@@ -1,5 +1,4 @@
 -- The library's wrapping sum is the paper's.
-use Rattle.std.proofs.Common.{rules}
 use Rattle.sha256_words.specs.Words.{◌⊞◌}
 use Rattle.sha256_words.proofs.words.add.Goals as goal
 

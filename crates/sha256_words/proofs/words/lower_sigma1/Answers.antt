@@ -1,5 +1,5 @@
 -- Nested rotations add, and pass through XOR (`nest-two`).
-use Rattle.std.proofs.Common.{ℕ, ap, lit≤, rules}
+use Rattle.std.proofs.Common.{ℕ, ap, lit≤}
 use Rattle.sha256_words.specs.Words.{◌⊕◌, shr}
 use Rattle.sha256_words.specs.Functions.{σ1}
 use Rattle.sha256_words.proofs.RotationLaws.{nest_two}

@@ -1,5 +1,5 @@
 -- Nested rotations add, and pass through XOR (`nest-three`).
-use Rattle.std.proofs.Common.{lit≤, rules}
+use Rattle.std.proofs.Common.{lit≤}
 use Rattle.sha256_words.specs.Functions.{Σ0}
 use Rattle.sha256_words.proofs.RotationLaws.{nest_three}
 use Rattle.sha256_words.proofs.words.upper_sigma0.Goals as goal

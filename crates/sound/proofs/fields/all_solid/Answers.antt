@@ -1,9 +1,6 @@
-use Prim.Native.Nat.{◌≤◌, ◌-◌}
-use mathlib.Core.Path.{◌≡◌, refl}
-use mathlib.Core.Bool.{◌&&◌}
+use mathlib.Core.Path.{refl}
 use borrow.Author.Rules.{rules}
-use lib.ListN.{length, drop}
-use Rattle.zone.specs.Alphabet.{every, is_filler}
+use Rattle.zone.specs.Alphabet.{is_filler}
 use Rattle.zone.proofs.Every.{every_step, every_done}
 use Rattle.sound.specs.Sound.{is_solid}
 use Rattle.sound.proofs.fields.all_solid.Goals as goal

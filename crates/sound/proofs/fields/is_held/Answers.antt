@@ -1,5 +1,4 @@
 -- The tests are those of `is_held`.
-use borrow.Author.Rules.{rules}
 use Rattle.sound.specs.Sound.{is_held}
 use Rattle.sound.proofs.fields.is_held.Goals as goal
 

@@ -1,5 +1,4 @@
 -- The tests are those of `is_number`, the last on what stands behind the ninth.
-use borrow.Author.Rules.{rules}
 use Rattle.zone.specs.Alphabet.{is_filler}
 use Rattle.sound.specs.Sound.{is_number, is_solid}
 use Rattle.sound.proofs.Rooms.{from_tenth}

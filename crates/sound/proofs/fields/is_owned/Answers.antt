@@ -1,6 +1,5 @@
 -- The tests are those of `is_owned`; where there is no data one is enough (`no-data`).
 use mathlib.Core.Path.{sym}
-use borrow.Author.Rules.{rules}
 use Rattle.zone.specs.Form.{own_place}
 use Rattle.sound.specs.Sound.{is_owned}
 use Rattle.sound.proofs.NoData.{no_data}
@@ -16,7 +15,7 @@ returns-then-r-eq0 c =
 pub returns-else-r-eq0 : goal.returns-else-r-eq0
 unfolding is_owned
 returns-else-r-eq0 c = rw (
-      c.all_characters.ensures,
-      c.is_held.ensures,
-      c.own_place.ensures,
-    )
+  c.all_characters.ensures,
+  c.is_held.ensures,
+  c.own_place.ensures,
+)

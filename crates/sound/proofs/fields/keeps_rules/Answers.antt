@@ -1,6 +1,5 @@
 -- One test for each field.
 use mathlib.Core.Bool.{and-true}
-use borrow.Author.Rules.{rules}
 use Rattle.zone.specs.Record.{plain, held_rows}
 use Rattle.field.specs.Rules.{rule_rows}
 use Rattle.sound.specs.Sound.{keeps_rules}

@@ -1,5 +1,4 @@
 -- The checks joined in the order of the form's layout.
-use borrow.Author.Rules.{rules}
 use Rattle.zone.specs.Inner.Places.{places_of}
 use Rattle.text.proofs.Walks.{fields_in_order}
 use Rattle.text.proofs.fields.fields.Goals as goal

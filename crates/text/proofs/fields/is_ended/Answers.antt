@@ -1,5 +1,4 @@
 -- The cases of `span_rule`.
-use borrow.Author.Rules.{rules}
 use Rattle.text_digits.specs.Number.{span_rule}
 use Rattle.text.proofs.fields.is_ended.Goals as goal
 

@@ -1,5 +1,4 @@
 -- The two tests.
-use borrow.Author.Rules.{rules}
 use Rattle.zone.specs.Alphabet.{is_filler}
 use Rattle.text.proofs.fields.is_number.Goals as goal
 

@@ -1,5 +1,4 @@
 -- The rule on the field, at the field's start.
-use borrow.Author.Rules.{rules}
 use Rattle.zone.proofs.Widths.{fixed}
 use Rattle.text.specs.Order.{field_rows}
 use Rattle.zone.specs.Form.{field}

@@ -1,5 +1,4 @@
 -- The rule on each field, at the field's start.
-use borrow.Author.Rules.{rules}
 use Rattle.zone.specs.Form.{field}
 use Rattle.zone.specs.Inner.Places.{places_of}
 use Rattle.zone.proofs.Widths.{fixed}

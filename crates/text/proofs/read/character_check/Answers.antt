@@ -1,5 +1,4 @@
 -- The first foreign octet against the length.
-use borrow.Author.Rules.{rules}
 use Rattle.text.specs.Order.{characters}
 use Rattle.text.proofs.read.character_check.Goals as goal
 

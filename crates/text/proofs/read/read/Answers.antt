@@ -1,5 +1,4 @@
 -- The form by the text, and the text by the form.
-use borrow.Author.Rules.{rules}
 use Rattle.text.specs.Read.{read_text, read_by}
 use Rattle.text.proofs.read.read.Goals as goal
 

@@ -1,5 +1,4 @@
 -- The verdict decides between the record and the blank one.
-use borrow.Author.Rules.{rules}
 use Rattle.text.specs.Read.{read_by, answered, answer_of}
 use Rattle.text.proofs.read.read_by.Goals as goal
 

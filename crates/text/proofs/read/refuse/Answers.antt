@@ -1,5 +1,4 @@
 -- The blank record beside the refusal.
-use borrow.Author.Rules.{rules}
 use Rattle.text.specs.Read.{answer_of, answered}
 use Rattle.text.proofs.read.refuse.Goals as goal
 

@@ -1,5 +1,4 @@
 -- Calls in the paper's order.
-use borrow.Author.Rules.{rules}
 use Rattle.text.specs.Order.{verdict_by}
 use Rattle.text.proofs.read.verdict_by.Goals as goal
 

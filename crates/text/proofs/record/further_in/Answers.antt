@@ -1,5 +1,4 @@
 -- The cases of `further_in`.
-use borrow.Author.Rules.{rules}
 use Rattle.text_digits.specs.Inner.Spans.{further_in}
 use Rattle.text.proofs.record.further_in.Goals as goal
 

@@ -1,5 +1,4 @@
 -- A copy over fillers, and another behind it.
-use borrow.Author.Rules.{rules}
 use Rattle.zone.proofs.Padded.{copied_padded, copied_behind}
 use Rattle.text.proofs.record.joined.Goals as goal
 

@@ -1,5 +1,4 @@
 -- The nine with the further characters behind them, if any.
-use borrow.Author.Rules.{rules}
 use Rattle.zone.proofs.Widths.{fixed}
 use Rattle.zone.specs.Form.{field}
 use Rattle.zone.specs.Inner.Places.{places_of}

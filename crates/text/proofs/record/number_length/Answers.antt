@@ -1,5 +1,4 @@
 -- The trimmed length of the nine, or the lengths of both parts.
-use borrow.Author.Rules.{rules}
 use Rattle.zone.proofs.Widths.{fixed}
 use mathlib.Core.Path.{sym}
 use lib.ListN.{take, drop, length-append}

@@ -1,5 +1,4 @@
 -- A copy over fillers, among which trailing fillers make no difference.
-use borrow.Author.Rules.{rules}
 use mathlib.Core.Path.{sym, ◌∙◌}
 use lib.Seq.{take_all}
 use Rattle.zone.proofs.Padded.{copied_padded, padded_trimmed}

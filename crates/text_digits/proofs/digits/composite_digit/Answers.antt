@@ -1,5 +1,4 @@
 -- Where the form has the digit: one call on what it covers.
-use borrow.Author.Rules.{rules}
 use borrow.Author.Tests.{lt-ltb, le-ltb}
 use Rattle.zone.specs.Inner.Places.{places_of}
 use Rattle.digit.specs.Inner.Covered.{composite_sum}

@@ -1,6 +1,5 @@
 -- The two digits in their order.
 use mathlib.Core.Path.{ap}
-use borrow.Author.Rules.{rules}
 use Rattle.zone.specs.Part.{birth, expiry}
 use Rattle.zone.specs.Form.{field}
 use Rattle.zone.specs.Inner.Places.{places_of}

@@ -1,5 +1,4 @@
 -- The checks joined in the order of the form's layout.
-use borrow.Author.Rules.{rules}
 use Rattle.zone.specs.Inner.Places.{places_of}
 use Rattle.text_digits.proofs.Walks.{digits_in_order}
 use Rattle.text_digits.proofs.digits.digits.Goals as goal

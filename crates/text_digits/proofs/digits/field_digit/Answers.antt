@@ -1,5 +1,4 @@
 -- The digit worked out, judged.
-use borrow.Author.Rules.{rules}
 use Rattle.digit.proofs.Written.{as_digit_digit}
 use Rattle.digit.proofs.ByThirds.{thirds_digit}
 use Rattle.text_digits.proofs.Written.{written_digit}
@@ -10,10 +9,10 @@ judged_digit-requires c = rw c.as_digit.ensures (as_digit_digit _)
 
 pub returns : goal.returns
 returns c = λ s e. rw (
-      c.judged_digit.ensures,
-      c.as_digit.ensures,
-      c.weighed.ensures.0,
-      e,
-      thirds_digit s,
-      written_digit,
-    )
+  c.judged_digit.ensures,
+  c.as_digit.ensures,
+  c.weighed.ensures.0,
+  e,
+  thirds_digit s,
+  written_digit,
+)

@@ -1,5 +1,4 @@
 -- The cases of `further_digit`, where the form has room.
-use borrow.Author.Rules.{rules}
 use borrow.Author.Tests.{lt-ltb, le-ltb}
 use Rattle.text_digits.specs.Digits.{further_digit, digit_rows}
 use Rattle.text_digits.specs.Inner.Checks.{if_has}

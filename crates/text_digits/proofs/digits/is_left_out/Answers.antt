@@ -1,5 +1,4 @@
 -- The two cases of the first test.
-use borrow.Author.Rules.{rules}
 use borrow.Author.Tests.{eq-eqb, ne_eqb}
 use Rattle.zone.specs.Alphabet.{is_filler}
 use Rattle.text_digits.proofs.digits.is_left_out.Goals as goal

@@ -1,13 +1,11 @@
 -- The character at the place against the digit, whose number the refusal carries.
 -- a digit is not below 0
 use Prim.Native.Char.{code}
-use borrow.Author.Rules.{rules}
 use borrow.Author.Tests.{leb-true}
 use lib.Dec.{leb}
 use Rattle.lent.proofs.Bools.{and_both}
 use Rattle.zone.specs.Alphabet.{is_digit}
 use Rattle.text_digits.specs.Inner.Checks.{written_at}
-
 use Rattle.text_digits.proofs.digits.judged_digit.Goals as goal
 
 pub overflow_sub-expected : goal.overflow_sub-expected

@@ -1,5 +1,4 @@
 -- The character at the place against the digit worked out.
-use borrow.Author.Rules.{rules}
 use mathlib.Core.Path.{ap}
 use native.Mathlib.Omega.{arith}
 use Rattle.zone.specs.Part.{optional}
@@ -24,8 +23,8 @@ judged_digit-requires c = rw c.long_sum.ensures (digit_digit _)
 pub returns : goal.returns
 unfolding digit_rows further_digit places_of
 returns c = rw (
-      c.judged_digit.ensures,
-      c.long_sum.ensures,
-      c.places-at.ensures,
-      written_digit,
-    )
+  c.judged_digit.ensures,
+  c.long_sum.ensures,
+  c.places-at.ensures,
+  written_digit,
+)

@@ -1,5 +1,4 @@
 -- The sum over the nine, and over the further characters behind them.
-use borrow.Author.Rules.{rules}
 use lib.ListN.{take}
 use Rattle.zone.specs.Part.{number, optional}
 use Rattle.zone.specs.Rooms.{nine}

@@ -1,6 +1,5 @@
 -- The cases of `number_digit`.
 use mathlib.Core.Path.{ap}
-use borrow.Author.Rules.{rules}
 use Rattle.zone.specs.Part.{number}
 use Rattle.zone.specs.Form.{field}
 use Rattle.zone.specs.Inner.Places.{places_of}

@@ -1,6 +1,5 @@
 -- Where the form has the field: nothing more where it is left out, else its digit.
 use mathlib.Core.Path.{ap}
-use borrow.Author.Rules.{rules}
 use borrow.Author.Tests.{lt-ltb, le-ltb}
 use Rattle.zone.specs.Part.{personal}
 use Rattle.zone.specs.Form.{field}

@@ -1,5 +1,4 @@
 -- The tests of `cut_at`. The optional field is narrow, so that what stands before a filler in it fits an octet.
-use borrow.Author.Rules.{rules}
 use borrow.Author.Tests.{ltb-true, leb-true}
 use native.Mathlib.Omega.{arith}
 use lib.Dec.{leb, ltb}

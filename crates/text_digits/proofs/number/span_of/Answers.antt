@@ -1,5 +1,4 @@
 -- The tests of `is_long`, and the filler that is found.
-use borrow.Author.Rules.{rules}
 use Rattle.zone.specs.Alphabet.{is_filler}
 use Rattle.zone.specs.Form.{field}
 use Rattle.zone.specs.Inner.Places.{places_of}

@@ -1,5 +1,4 @@
 -- The two orders.
-use borrow.Author.Rules.{rules}
 use Rattle.text_digits.specs.Inner.Checks.{in_turn}
 use Rattle.text_digits.proofs.order.in_turn.Goals as goal
 

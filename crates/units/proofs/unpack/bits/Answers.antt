@@ -1,5 +1,4 @@
 -- Where two octets hold them.
-use borrow.Author.Rules.{rules}
 use borrow.Author.Tests.{le-leb, lt-leb}
 use Rattle.units.specs.Unpacked.{bits_within}
 use Rattle.units.proofs.unpack.bits.Goals as goal

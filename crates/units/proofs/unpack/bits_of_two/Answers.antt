@@ -1,5 +1,4 @@
 -- The field of the two octets is the number (`bits-read`).
-use borrow.Author.Rules.{rules}
 use mathlib.Core.Path.{◌∙◌}
 use native.Mathlib.Omega.{arith}
 use Rattle.units.proofs.Reading.{power_kept_above, bits_read}

@@ -1,5 +1,4 @@
 -- Four octets are thirty-two bits (`four-octets`).
-use borrow.Author.Rules.{rules}
 use Rattle.units.proofs.Reading.{four_octets}
 use Rattle.units.proofs.unpack.four_octets.Goals as goal
 

@@ -1,5 +1,4 @@
 -- Where there is room, and enough to read, the loop.
-use borrow.Author.Rules.{rules}
 use borrow.Author.Tests.{le-leb, lt-leb, lt-ltb, le-ltb}
 use Rattle.units.specs.Unpacked.{unpacked_over}
 use Rattle.units.proofs.unpack.unpack.Goals as goal

@@ -1,10 +1,8 @@
 use borrow.Author.Rules.{rules}
-use Prim.Native.Nat.{◌≤◌, ◌<◌, ◌+◌, ◌*◌, ◌/◌, ◌%◌, ◌-◌}
+use Prim.Native.Nat.{◌<◌, ◌+◌, ◌*◌, ◌/◌, ◌%◌}
 use mathlib.Core.Path.{◌≡◌, ◌∙◌}
-use mathlib.Core.List.{◌++◌}
 use native.Mathlib.Omega.{arith}
-use lib.ListN.{length, take, drop, length-set}
-use Rattle.units.specs.Unpacked.{characters_at}
+use lib.ListN.{length-set}
 use Rattle.units.proofs.Reading.{four_read, unpack_more, unpack_ends}
 use Rattle.units.proofs.unpack.unpack_fours.Goals as goal
 

@@ -1,12 +1,9 @@
 -- The characters before the i-th four stand in front; a turn puts four more behind them (`unpack-more`).
-use borrow.Author.Rules.{rules}
-use Prim.Native.Nat.{◌≤◌, ◌<◌, ◌+◌, ◌*◌, ◌/◌, ◌%◌, ◌-◌}
-use mathlib.Core.Path.{◌≡◌, ◌∙◌}
+use Prim.Native.Nat.{◌≤◌, ◌*◌, ◌-◌}
+use mathlib.Core.Path.{◌≡◌}
 use mathlib.Core.List.{◌++◌}
-use native.Mathlib.Omega.{arith}
-use lib.ListN.{length, take, drop, length-set}
+use lib.ListN.{length, take, drop}
 use Rattle.units.specs.Unpacked.{characters_at}
-use Rattle.units.proofs.Reading.{four_read, unpack_more, unpack_ends}
 use Rattle.units.proofs.unpack.unpack_fours.Given as goal
 
 abbrev pub invariant-loop-i : goal.invariant-loop-i

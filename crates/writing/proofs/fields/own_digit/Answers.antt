@@ -1,5 +1,4 @@
 -- One call on a part.
-use borrow.Author.Rules.{rules}
 use Rattle.writing.proofs.fields.own_digit.Goals as goal
 
 pub returns : goal.returns

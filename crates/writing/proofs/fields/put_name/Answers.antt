@@ -1,5 +1,4 @@
 -- One copy of a part.
-use borrow.Author.Rules.{rules}
 use Rattle.writing.proofs.fields.put_name.Goals as goal
 
 pub returns : goal.returns

@@ -1,5 +1,4 @@
 -- One call on a part.
-use borrow.Author.Rules.{rules}
 use Rattle.writing.proofs.number.nine_digit.Goals as goal
 
 pub returns : goal.returns

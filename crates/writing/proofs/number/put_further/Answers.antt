@@ -1,5 +1,4 @@
 -- A copy of a part, the digit of the whole behind it, and a filler.
-use borrow.Author.Rules.{rules}
 use Rattle.writing.proofs.number.put_further.Goals as goal
 
 pub returns : goal.returns

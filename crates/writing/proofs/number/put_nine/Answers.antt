@@ -1,5 +1,4 @@
 -- One copy of a part.
-use borrow.Author.Rules.{rules}
 use Rattle.writing.proofs.number.put_nine.Goals as goal
 
 pub returns : goal.returns

@@ -1,5 +1,4 @@
 -- A number over nine characters is the long one.
-use borrow.Author.Rules.{rules}
 use borrow.Author.Tests.{le-ltb, lt-ltb}
 use Rattle.writing.specs.Text.{is_wide}
 use Rattle.writing.specs.Inner.Puts.{put_number}

@@ -1,5 +1,4 @@
 -- Each call puts its part.
-use borrow.Author.Rules.{rules}
 use Rattle.writing.specs.Inner.Puts.{put, mark, put_short}
 use Rattle.zone.specs.Inner.Places.{places_of}
 use Rattle.zone.proofs.Widths.{fixed}

@@ -1,5 +1,4 @@
 -- Each call puts its part, the last where the form has it.
-use borrow.Author.Rules.{rules}
 use borrow.Author.Tests.{lt-ltb, le-ltb}
 use Rattle.zone.specs.Record.{held_rows}
 use Rattle.zone.specs.Inner.Places.{places_of}

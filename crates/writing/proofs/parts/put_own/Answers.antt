@@ -1,5 +1,4 @@
 -- One call puts the data where they stand.
-use borrow.Author.Rules.{rules}
 use native.Mathlib.Omega.{arith}
 use Rattle.zone.specs.Record.{held_rows}
 use Rattle.zone.specs.Form.{own_part}

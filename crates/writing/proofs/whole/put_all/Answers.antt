@@ -1,5 +1,4 @@
 -- Each call puts its parts.
-use borrow.Author.Rules.{rules}
 use Rattle.writing.specs.Inner.Puts.{put_all}
 use Rattle.writing.proofs.whole.put_all.Goals as goal
 

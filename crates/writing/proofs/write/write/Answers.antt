@@ -1,6 +1,5 @@
 -- The range is as long as the text, or longer; what lies behind the text stays.
 use mathlib.Core.Path.{sym, ◌∙◌}
-use borrow.Author.Rules.{rules}
 use borrow.Author.Tests.{le-leb, lt-leb}
 use Rattle.writing.specs.Answer.{text_answer, text_out}
 use Rattle.sound.proofs.SoundRecord.{taken_apart}

@@ -1,13 +1,9 @@
 -- The last sixteen and those that were passed are fine; in the end they reach into each other.
-use Prim.Native.Nat.{◌≤◌, ◌+◌, ◌-◌}
-use mathlib.Core.Path.{◌≡◌, sym, ◌∙◌}
-use mathlib.Core.Bool.{◌&&◌, and-true}
-use native.Mathlib.Omega.{arith}
-use borrow.Author.Rules.{rules}
+use Prim.Native.Nat.{◌≤◌, ◌-◌}
+use mathlib.Core.Path.{◌≡◌}
+use mathlib.Core.Bool.{◌&&◌}
 use lib.ListN.{length, take, drop}
-use Rattle.lent.proofs.Lists.{rest_all}
 use Rattle.zone.specs.Alphabet.{is_character, every}
-use Rattle.zone.proofs.Every.{every_piece, every_overlap}
 use Rattle.zone.proofs.alphabet.all_characters.Given as goal
 
 abbrev pub invariant-loop-i : goal.invariant-loop-i

@@ -1,9 +1,6 @@
-use Prim.Native.Nat.{◌≤◌, ◌-◌}
-use mathlib.Core.Path.{◌≡◌, refl}
-use mathlib.Core.Bool.{◌&&◌}
+use mathlib.Core.Path.{refl}
 use borrow.Author.Rules.{rules}
-use lib.ListN.{length, drop}
-use Rattle.zone.specs.Alphabet.{is_filler, every}
+use Rattle.zone.specs.Alphabet.{is_filler}
 use Rattle.zone.proofs.Every.{every_step, every_done}
 use Rattle.zone.proofs.alphabet.all_fillers.Goals as goal
 

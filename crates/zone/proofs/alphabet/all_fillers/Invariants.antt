@@ -1,11 +1,9 @@
 -- What was passed and what is left decide for the whole.
 use Prim.Native.Nat.{◌≤◌, ◌-◌}
-use mathlib.Core.Path.{◌≡◌, refl}
+use mathlib.Core.Path.{◌≡◌}
 use mathlib.Core.Bool.{◌&&◌}
-use borrow.Author.Rules.{rules}
 use lib.ListN.{length, drop}
 use Rattle.zone.specs.Alphabet.{is_filler, every}
-use Rattle.zone.proofs.Every.{every_step, every_done}
 use Rattle.zone.proofs.alphabet.all_fillers.Given as goal
 
 abbrev pub invariant-loop-i : goal.invariant-loop-i

@@ -1,12 +1,8 @@
 -- What is left from i on gives the same first filler as the whole.
 use Prim.Native.Nat.{◌+◌, ◌≤◌, ◌-◌}
 use mathlib.Core.Path.{◌≡◌}
-use native.Mathlib.Nat.{zero-add}
-use borrow.Author.Rules.{rules}
-use borrow.Author.Tests.{eq-eqb, ne_eqb}
 use lib.ListN.{length, drop}
-use Rattle.zone.proofs.First.{first_miss, first_hit, first_end}
-use Rattle.zone.specs.Alphabet.{is_filler, first, first_filler}
+use Rattle.zone.specs.Alphabet.{is_filler, first}
 use Rattle.zone.proofs.alphabet.first_filler.Given as goal
 
 abbrev pub invariant-loop-i : goal.invariant-loop-i

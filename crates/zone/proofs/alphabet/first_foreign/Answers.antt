@@ -1,10 +1,8 @@
-use Prim.Native.Nat.{◌+◌, ◌≤◌, ◌-◌}
-use mathlib.Core.Path.{◌≡◌, ap, sym, ◌∙◌}
+use mathlib.Core.Path.{ap, sym, ◌∙◌}
 use mathlib.Core.Bool.{not}
 use native.Mathlib.Nat.{zero-add}
 use borrow.Author.Rules.{rules}
-use lib.ListN.{length, drop}
-use Rattle.zone.specs.Alphabet.{is_character, is_foreign, first, first_foreign}
+use Rattle.zone.specs.Alphabet.{is_character, is_foreign, first_foreign}
 use Rattle.zone.proofs.Every.{every_first}
 use Rattle.zone.proofs.First.{first_miss, first_hit, first_end}
 use Rattle.zone.proofs.alphabet.first_foreign.Goals as goal

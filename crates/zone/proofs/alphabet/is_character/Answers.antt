@@ -1,5 +1,4 @@
 -- The tests are those of `is_character`.
-use borrow.Author.Rules.{rules}
 use Rattle.zone.specs.Alphabet.{is_character, is_filler}
 use Rattle.zone.proofs.alphabet.is_character.Goals as goal
 

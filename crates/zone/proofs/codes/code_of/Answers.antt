@@ -1,5 +1,4 @@
 -- The tests are those of `code_of`, and give each class its range.
-use borrow.Author.Rules.{rules}
 use native.Mathlib.Omega.{arith}
 use Rattle.zone.specs.Codes.{code_of}
 use Rattle.zone.proofs.Classes.{digit_range, letter_range}

@@ -1,5 +1,4 @@
 -- The cases of `is_alone`.
-use borrow.Author.Rules.{rules}
 use Rattle.zone.specs.Form.{is_alone}
 use Rattle.zone.proofs.form.is_alone.Goals as goal
 

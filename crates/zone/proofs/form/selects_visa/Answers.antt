@@ -1,5 +1,4 @@
 -- The tests are those of `is_visa_code`.
-use borrow.Author.Rules.{rules}
 use Rattle.zone.specs.Alphabet.{is_filler}
 use Rattle.zone.specs.Form.{is_visa_code}
 use Rattle.zone.proofs.form.selects_visa.Goals as goal

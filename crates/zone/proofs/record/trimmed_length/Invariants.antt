@@ -1,16 +1,8 @@
 -- The first n characters have the same length without trailing fillers as the whole.
-use Prim.Native.Nat.{◌≤◌, ◌<◌, ◌-◌, ◌+◌}
-use mathlib.Core.Path.{◌≡◌, ap, sym, ◌∙◌}
-use native.Mathlib.Omega.{arith}
-use borrow.Author.Rules.{rules}
-use borrow.Author.Tests.{eq-eqb, ne_eqb, leb-true}
-use lib.Dec.{leb}
-use lib.ListN.{length, take, drop}
-use lib.Seq.{take_all}
-use Rattle.lent.proofs.Bools.{and_both}
-use Rattle.zone.specs.Alphabet.{is_filler, every}
+use Prim.Native.Nat.{◌≤◌}
+use mathlib.Core.Path.{◌≡◌}
+use lib.ListN.{length, take}
 use Rattle.zone.specs.Record.{trimmed_length}
-use Rattle.zone.proofs.Trimmed.{trimmed_filler, trimmed_other, trimmed_fewer}
 use Rattle.zone.proofs.record.trimmed_length.Given as goal
 
 abbrev pub invariant-loop-n : goal.invariant-loop-n

@@ -1,7 +1,6 @@
 -- Past the end `get_or` gives the filler too.
 use mathlib.Core.Path.{sym}
 use lib.ListN.{get_or-eq_default}
-use borrow.Author.Rules.{rules}
 use Rattle.zone.specs.Alphabet.{filler}
 use Rattle.zone.proofs.Filled.{there}
 use Rattle.zone.proofs.taken.or_filler.Goals as goal

@@ -1,5 +1,4 @@
 -- The first character of a part of one.
-use borrow.Author.Rules.{rules}
 use Rattle.zone.proofs.taken.sex_at.Goals as goal
 
 pub returns : goal.returns

@@ -1,5 +1,4 @@
 -- Character by character.
-use borrow.Author.Rules.{rules}
 use mathlib.Core.Path.{sym}
 use lib.ListN.{take, drop}
 use Rattle.zone.proofs.Filled.{three_filled}

@@ -1,6 +1,5 @@
 -- Each field is gone over, by what was worked out before.
 use native.Mathlib.Omega.{arith}
-use borrow.Author.Rules.{rules}
 use Rattle.zone.specs.Part.{number, birth, expiry, personal}
 use Rattle.zone.specs.Rooms.{date_room, nine}
 use Rattle.zone.specs.Form.{start, width, field}

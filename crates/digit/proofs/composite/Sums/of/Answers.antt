@@ -1,5 +1,4 @@
 -- What each character counts, and then the sums.
-use borrow.Author.Rules.{rules}
 use Rattle.digit.proofs.composite.Sums.of.Goals as goal
 
 pub returns : goal.returns

@@ -1,10 +1,9 @@
-use Prim.Native.Nat.{ℕ, ◌≤◌, ◌+◌, ◌*◌, ◌-◌}
-use mathlib.Core.Path.{◌≡◌, refl, ◌∙◌}
+use Prim.Native.Nat.{◌+◌}
+use mathlib.Core.Path.{refl, ◌∙◌}
 use native.Mathlib.Omega.{arith}
 use borrow.Author.Rules.{rules}
-use lib.ListN.{length, drop, length-take}
-use Rattle.digit.specs.Inner.Thirds.{thirds_in}
-use Rattle.digit.proofs.ByThirds.{and_left, left_none, left_three, left_end}
+use lib.ListN.{length-take}
+use Rattle.digit.proofs.ByThirds.{left_none, left_three, left_end}
 use Rattle.digit.proofs.thirds.Thirds.counted.Invariants.{itself}
 use Rattle.digit.proofs.thirds.Thirds.counted.Goals as goal
 

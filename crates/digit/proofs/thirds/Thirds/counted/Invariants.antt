@@ -1,11 +1,9 @@
 -- What was passed and what is left count the same as the whole, third by third.
-use Prim.Native.Nat.{ℕ, ◌≤◌, ◌+◌, ◌*◌, ◌-◌}
-use mathlib.Core.Path.{◌≡◌, refl, ◌∙◌}
-use native.Mathlib.Omega.{arith}
-use borrow.Author.Rules.{rules}
-use lib.ListN.{length, drop, length-take}
+use Prim.Native.Nat.{ℕ, ◌≤◌, ◌*◌, ◌-◌}
+use mathlib.Core.Path.{◌≡◌}
+use lib.ListN.{length, drop}
 use Rattle.digit.specs.Inner.Thirds.{thirds_in}
-use Rattle.digit.proofs.ByThirds.{and_left, left_none, left_three, left_end}
+use Rattle.digit.proofs.ByThirds.{and_left}
 use Rattle.digit.proofs.thirds.Thirds.counted.Given as goal
 
 abbrev pub itself : ℕ → ℕ

@@ -1,13 +1,11 @@
-use Prim.Native.Nat.{◌≤◌, ◌*◌, ◌-◌}
-use mathlib.Core.Path.{◌≡◌, refl, ◌∙◌}
+use mathlib.Core.Path.{refl, ◌∙◌}
 use native.Mathlib.Omega.{arith}
 use borrow.Author.Rules.{rules}
-use lib.ListN.{length, drop, length-take}
+use lib.ListN.{length-take}
 use Rattle.zone.specs.Alphabet.{is_digit, is_letter}
 use Rattle.digit.specs.Check.{value}
-use Rattle.digit.specs.Inner.Thirds.{thirds_of}
 use Rattle.digit.proofs.Sums.{counted_le}
-use Rattle.digit.proofs.ByThirds.{and_left, left_none, left_three, left_end}
+use Rattle.digit.proofs.ByThirds.{left_none, left_three, left_end}
 use Rattle.digit.proofs.thirds.Thirds.of.Goals as goal
 
 pub loop-i-init : goal.loop-i-init

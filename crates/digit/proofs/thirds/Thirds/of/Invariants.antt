@@ -1,14 +1,10 @@
 -- What was passed and what is left count the same as the whole, third by third.
 use Prim.Native.Nat.{◌≤◌, ◌*◌, ◌-◌}
-use mathlib.Core.Path.{◌≡◌, refl, ◌∙◌}
-use native.Mathlib.Omega.{arith}
-use borrow.Author.Rules.{rules}
-use lib.ListN.{length, drop, length-take}
-use Rattle.zone.specs.Alphabet.{is_digit, is_letter}
+use mathlib.Core.Path.{◌≡◌}
+use lib.ListN.{length, drop}
 use Rattle.digit.specs.Check.{value}
 use Rattle.digit.specs.Inner.Thirds.{thirds_of}
-use Rattle.digit.proofs.Sums.{counted_le}
-use Rattle.digit.proofs.ByThirds.{and_left, left_none, left_three, left_end}
+use Rattle.digit.proofs.ByThirds.{and_left}
 use Rattle.digit.proofs.thirds.Thirds.of.Given as goal
 
 abbrev pub invariant-loop-i : goal.invariant-loop-i

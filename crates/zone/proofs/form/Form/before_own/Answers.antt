@@ -1,5 +1,4 @@
 -- Where the data begin tells whether they stand in the optional field (`own-in-optional`).
-use borrow.Author.Rules.{rules}
 use borrow.Author.Tests.{ltb-true}
 use native.Mathlib.Omega.{arith}
 use lib.Dec.{ltb}

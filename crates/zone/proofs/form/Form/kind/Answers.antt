@@ -1,5 +1,4 @@
 -- From the row.
-use borrow.Author.Rules.{rules}
 use Rattle.zone.specs.Inner.Places.{places_of}
 use Rattle.zone.proofs.form.Form.kind.Goals as goal
 

@@ -1,5 +1,4 @@
 -- The length tells, and whether a visa is selected where one may stand (`told-so`).
-use borrow.Author.Rules.{rules}
 use mathlib.Core.Path.{sym}
 use Rattle.zone.proofs.FormTold.{told_so}
 use Rattle.zone.proofs.form.Form.of_text.Goals as goal

@@ -1,5 +1,4 @@
 -- What is left of the width, 0 where nothing is.
-use borrow.Author.Rules.{rules}
 use native.Mathlib.Omega.{arith}
 use Rattle.zone.specs.Form.{own_place}
 use Rattle.zone.specs.Inner.Places.{places_of}

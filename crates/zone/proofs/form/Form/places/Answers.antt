@@ -1,5 +1,4 @@
 -- Each arm is the row of its form.
-use borrow.Author.Rules.{rules}
 use Rattle.zone.proofs.form.Form.places.Goals as goal
 
 pub returns-in-Td1 : goal.returns-in-Td1
