@@ -43,9 +43,10 @@ cc-found = $(call found,$(firstword $(CC)),a C compiler builds shared libraries$
 cargo-found:
 	$(call found,cargo,it builds the independent Rust implementation (on Debian: apt install cargo))
 
-# A crate's archive is built again where a source of a crate that it is built on has changed, or has come or gone, which
-# changes the folder. The C compiler comes after minutes of proof, so it is looked for before them.
-folders = $(foreach crate,$(shell tools/built-on $(1)),$(addprefix crates/$(crate)/,src specs proofs))
+# A library's archive is that of the crate that exports its calls, NAME_c. It is built again where a source of a crate that this
+# one is built on has changed, or has come or gone, which changes the folder. The C compiler comes after minutes of proof, so it
+# is looked for before them.
+folders = $(foreach crate,$(shell tools/built-on $(1)_c),$(addprefix crates/$(crate)/,src specs proofs))
 sources = crates.txt $(shell find $(wildcard $(folders)))
 define build-archive
 	$(rt-found)
@@ -65,7 +66,7 @@ $(ARCHIVE): $(call sources,lamphudet)
 	$(call build-archive,lamphudet)
 endif
 
-# The first archive goes before it: the two are proved in one folder.
+# The first archive goes before it: much of what the two are built on is the same.
 ifdef LAMPHUDET_SEALS_ARCHIVE
 SEALS_ARCHIVE := $(LAMPHUDET_SEALS_ARCHIVE)
 $(SEALS_ARCHIVE):
@@ -174,7 +175,7 @@ bench: cargo-found $(ARCHIVES)
 ##   make format     lays out all sources as the gate wants them
 format: cargo-found
 	$(rt-found)
-	rt fmt
+	@for crate in crates/*/; do (cd $$crate && rt fmt) || exit 1; done
 	@for manifest in tests/*/Cargo.toml bench/Cargo.toml; do cargo fmt --manifest-path $$manifest || exit 1; done
 
 ##   make clean      takes target/ away
