@@ -143,7 +143,7 @@ install: libraries $(DESK) $(SCANNER)
 uninstall:
 	@$(handed) tools/install remove
 
-##   make test       the gate: all proved from nothing, wrong programs refused, every call compared
+##   make test       the gate: all proved, wrong programs refused, every call compared
 test:
 	$(rt-found)
 	@.ci/run
