@@ -2,7 +2,7 @@
 -- with the stretch of the one that is asked for (`detail-stretch`), within the file (`detail-in-range`); a refusal is not 0
 -- (`detail-not-zero`), is the first failing check (`detail-refused`), has one of the call's numbers and a place in the file, and
 -- no stretch (`detail-answers`), and tells no digit (`detail-no-digit`).
-use Prim.Native.Nat.{ℕ, ◌+◌, ◌-◌, ◌≤◌}
+use Prim.Native.Nat.{ℕ, ◌+◌, ◌≤◌}
 use mathlib.Core.Path.{◌≡◌, refl, ap, sym, ◌∙◌}
 use mathlib.Core.Bool.{true, false≢true}
 use mathlib.Core.Logic.{◌↔◌}
@@ -14,7 +14,7 @@ use Rattle.refusal.specs.Numbers.{Why, by, expecting}
 use Rattle.refusal.specs.Calls.{of_details, is_of, tells}
 use Rattle.refusal.proofs.Calls.{never_told, told_of}
 use Rattle.tlv.specs.declared.Stretch.{Stretch}
-use Rattle.tlv.specs.Read.{Read, value, refusal, and_then}
+use Rattle.tlv.specs.Read.{Read, value, refusal}
 use Rattle.tlv.proofs.Joined.{first_value}
 use Rattle.details.specs.Details.{Detail, read_details, value_for, read_detail}
 use Rattle.border.specs.declared.received.DetailInC as received

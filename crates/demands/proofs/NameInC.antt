@@ -2,9 +2,9 @@
 -- (`name-octets`) and stand in it (`name-in-range`); 1 and 2 and 0 are told as the sentence says (`name-from-file`,
 -- `name-from-text`, `name-from-none`).
 use Prim.Native.Nat.{ℕ, ◌+◌, ◌≤◌}
-use mathlib.Core.Path.{◌≡◌, refl, ap, sym, ◌∙◌}
+use mathlib.Core.Path.{◌≡◌, refl, ap}
 use mathlib.Core.Logic.{◌↔◌}
-use mathlib.Core.List.{List, []}
+use mathlib.Core.List.{List}
 use native.Mathlib.Omega.{arith}
 use lib.ListN.{length, take, drop}
 use lib.Seq.{drop-nil, take-nil}

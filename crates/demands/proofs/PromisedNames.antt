@@ -1,6 +1,6 @@
 -- What a C host may rely on, of what the two calls promise that group 11 and the text are lent to (specs/Promised).
 use Prim.Native.Nat.{ℕ, ◌+◌, ◌≤◌}
-use mathlib.Core.Path.{◌≡◌, refl, ap, sym, ◌∙◌}
+use mathlib.Core.Path.{◌≡◌, ap, sym, ◌∙◌}
 use mathlib.Core.Logic.{◌↔◌}
 use mathlib.Core.List.{List}
 use lib.ListN.{length, take, drop}
@@ -12,13 +12,12 @@ use Rattle.zone.specs.Form.{field}
 use Rattle.zone.specs.Record.{trimmed}
 use Rattle.text.specs.Read.{read_text}
 use Rattle.details.specs.Details.{read_detail}
-use Rattle.full_name.specs.FullName.{full_name, full_name_part}
-use Rattle.full_name.specs.declared.From.TheVariants.{Text}
+use Rattle.full_name.specs.FullName.{full_name_part}
 use Rattle.border.specs.declared.received.DetailInC.{DetailInC}
 use Rattle.border.specs.declared.received.NameInC.{NameInC}
 use Rattle.border.specs.Answer.{not_refused, refused_in_c}
 use Rattle.border.specs.Calls.{stretch_in_c}
-use Rattle.border.specs.Details.{detail_in_c, name_in_c}
+use Rattle.border.specs.Details.{detail_in_c}
 use Rattle.text_theorems.specs.Ordered.{FirstFailing}
 use Rattle.detail_theorems.specs.Named.{Named, Right, group_octets, stretch_of}
 use Rattle.detail_theorems.specs.DetailChecks.{group_checks}

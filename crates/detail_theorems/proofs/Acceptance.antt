@@ -1,9 +1,9 @@
 -- DEMAND 2 of a file of group 11: it is read exactly when its octets are those of a list and of the elements that it names
 -- (`details-exactly`), and what is told of an element is where it stands (`detail-told`).
-use Prim.Native.Nat.{ℕ, ◌+◌, ◌-◌, ◌≤◌, ◌<◌}
-use mathlib.Core.Path.{◌≡◌, refl, ap, sym, ◌∙◌}
+use Prim.Native.Nat.{ℕ, ◌-◌, ◌≤◌, ◌<◌}
+use mathlib.Core.Path.{◌≡◌, ap, sym, ◌∙◌}
 use mathlib.Core.Bool.{true}
-use mathlib.Core.List.{List, [], ◌∷◌, ◌++◌, append-nil}
+use mathlib.Core.List.{List, [], ◌++◌, append-nil}
 use mathlib.Core.Logic.{◌↔◌}
 use native.Mathlib.Nat.{zero-add}
 use native.Mathlib.Omega.{arith}
@@ -17,19 +17,19 @@ use Rattle.zone.specs.Octets.{is_octet, AreOctets}
 use Rattle.zone.proofs.Every.{every_take, every_drop}
 use Rattle.zone.proofs.Octets.{octet_below}
 use Rattle.tlv.specs.declared.Stretch.{Stretch}
-use Rattle.tlv.specs.Read.{Read, value, and_then, checked}
+use Rattle.tlv.specs.Read.{value, and_then, checked}
 use Rattle.tlv.specs.Element.{tlv, element}
 use Rattle.tlv.specs.Cut.{cut, end_check}
 use Rattle.tlv.specs.Tags.{tag_list}
-use Rattle.tlv.proofs.Joined.{first_value, checked_value, same_value}
+use Rattle.tlv.proofs.Joined.{first_value, checked_value}
 use Rattle.tlv.proofs.Encoded.{reads, back, length-tlv}
 use Rattle.tlv.proofs.Standing.{cut_there, to_behind, from_there}
-use Rattle.details.specs.Tags.{group_tag, other_names_tag, tags_in}
-use Rattle.details.specs.Details.{Detail, details, are_named, is_list, agrees, read_details, value_for, read_detail}
-use Rattle.detail_theorems.specs.Named.{Named, tags_of, list_octets, element_octets, elements_octets, group_content, group_octets}
-use Rattle.detail_theorems.specs.Named.{Right, head, own_stretch, stretch_from, elements_at, stretch_of, given_octets}
+use Rattle.details.specs.Tags.{group_tag, tags_in}
+use Rattle.details.specs.Details.{Detail, details, is_list, agrees, read_details, read_detail}
+use Rattle.detail_theorems.specs.Named.{Named, list_octets, elements_octets, group_content, group_octets}
+use Rattle.detail_theorems.specs.Named.{Right, elements_at, stretch_of}
 use Rattle.detail_theorems.proofs.ListOctets.{list_back, list_there}
-use Rattle.detail_theorems.proofs.ElementsRead.{Elements, elements_there}
+use Rattle.detail_theorems.proofs.ElementsRead.{elements_there}
 use Rattle.detail_theorems.proofs.ElementsBack.{head_same, placed, elements_back, placed_agree, placed_value}
 
 -- ---- what is read is a list and its elements

@@ -1,10 +1,10 @@
 -- Where encodings of elements stand that a list names, they are read, and agree with it.
 use Prim.Native.Nat.{ℕ, ◌+◌, ◌*◌, ◌≤◌, ◌<◌}
-use mathlib.Core.Path.{◌≡◌, refl, ap, sym, ◌∙◌}
-use mathlib.Core.Bool.{Bool, true, false, cond, ◌||◌}
+use mathlib.Core.Path.{◌≡◌, refl, ap, ◌∙◌}
+use mathlib.Core.Bool.{Bool, true, false, cond}
 use mathlib.Core.List.{List, [], ◌∷◌, ◌++◌}
 use native.Mathlib.Omega.{arith}
-use borrow.Author.Tests.{le-ltb, eqb-true, eqb-false, eq-eqb, ne_eqb}
+use borrow.Author.Tests.{le-ltb, eqb-true, eq-eqb, ne_eqb}
 use lib.Dec.{eqb}
 use lib.ListN.{length, drop, get_or, length-append, length-drop}
 use Rattle.refusal.specs.Outcome.{passed}
@@ -13,9 +13,9 @@ use Rattle.tlv.specs.Read.{value, and_then}
 use Rattle.tlv.specs.Element.{tag_octets, length_octets, tlv, tag_at, tag_width, element, sized, size_at}
 use Rattle.tlv.specs.Cut.{cut}
 use Rattle.tlv.proofs.Joined.{kept_value}
-use Rattle.tlv.proofs.Encoded.{Stands, back, head_octets, length-tlv, some_head}
+use Rattle.tlv.proofs.Encoded.{back, head_octets, length-tlv, some_head}
 use Rattle.tlv.proofs.Standing.{cut_there, to_behind}
-use Rattle.details.specs.Tags.{template_tag, other_names_tag, is_named, stands_for, asked_as, tag_here, is_detail}
+use Rattle.details.specs.Tags.{template_tag, other_names_tag, is_named, stands_for, tag_here, is_detail}
 use Rattle.details.specs.Details.{Detail, detail_at, details, are_named, agrees, given, value_for}
 use Rattle.details.proofs.Listed.{named_between}
 use Rattle.details.proofs.Walked.{before, details_next, details_done}

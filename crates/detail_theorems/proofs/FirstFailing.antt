@@ -3,16 +3,15 @@
 use Prim.Native.Nat.{ℕ, ◌≤◌, ◌<◌}
 use mathlib.Core.Path.{◌≡◌, refl, ap, sym, ◌∙◌}
 use mathlib.Core.Bool.{Bool, true, false, cond}
-use mathlib.Core.List.{List, [], ◌∷◌, ◌++◌, map}
+use mathlib.Core.List.{List, [], ◌∷◌, map}
 use mathlib.Core.Logic.{◌↔◌}
 use native.Mathlib.Omega.{arith}
 use lib.Dec.{eqb}
 use lib.ListN.{length}
 use Rattle.refusal.specs.Numbers.{Why, by}
-use Rattle.refusal.specs.Outcome.{Outcome, passed, refused, or_else, unless}
+use Rattle.refusal.specs.Outcome.{Outcome, passed, unless}
 use Rattle.tlv.specs.declared.Stretch.{Stretch}
-use Rattle.tlv.specs.Read.{Read, value, refusal, and_then, checked, outcome_in}
-use Rattle.tlv.specs.Element.{element}
+use Rattle.tlv.specs.Read.{Read, value, refusal, checked, outcome_in}
 use Rattle.tlv.specs.Cut.{cut, end_check}
 use Rattle.tlv.specs.Places.{places}
 use Rattle.tlv.specs.Tags.{tag_list}

@@ -2,16 +2,15 @@
 -- that is accepted, without trailing fillers (`name-in-text`, `text-name`), and else nowhere (`name-nowhere`, `no_name`).
 use Prim.Native.Nat.{ℕ, ◌+◌, ◌-◌, ◌≤◌, ◌<◌}
 use mathlib.Core.Path.{◌≡◌, refl, ap, sym, ◌∙◌}
-use mathlib.Core.Bool.{Bool, true, false, cond, ◌||◌, false≢true}
+use mathlib.Core.Bool.{Bool, true, false, ◌||◌, false≢true}
 use mathlib.Core.List.{List, [], ◌∷◌, ◌++◌}
 use mathlib.Core.Logic.{◌↔◌}
 use native.Mathlib.Omega.{arith}
-use borrow.Author.Tests.{leb-true, leb-false, le-leb, lt-leb, eqb-true}
-use lib.Dec.{eqb, leb}
-use lib.ListN.{length, take, drop, length-take, length-drop}
+use borrow.Author.Tests.{leb-false, lt-leb, eqb-true}
+use lib.Dec.{eqb}
+use lib.ListN.{length, drop, length-take, length-drop}
 use lib.Seq.{take-take}
 use Rattle.lent.specs.Octets.{stands}
-use Rattle.refusal.specs.Numbers.{Why}
 use Rattle.refusal.specs.Outcome.{Outcome, passed, refused}
 use Rattle.refusal.proofs.Outcomes.{refused_not_passed}
 use Rattle.zone.specs.Octets.{AreOctets}

@@ -1,7 +1,6 @@
 -- THE DEMANDS ARE NOT EMPTY: files that are accepted, with where their details stand, and beside them some that are not.
 use Prim.Native.Nat.{ℕ}
 use mathlib.Core.Path.{◌≡◌, refl}
-use mathlib.Core.List.{List}
 use Rattle.refusal.specs.Numbers.{by}
 use Rattle.lent.specs.Octets.{stands}
 use Rattle.tlv.specs.declared.Stretch.{Stretch}

@@ -1,5 +1,5 @@
 -- DEMAND 1: every refusal is by 10 or 20, at a place no further than the file's end (`detail-refusal`).
-use Prim.Native.Nat.{ℕ, zero, suc, ◌≤◌, ◌<◌}
+use Prim.Native.Nat.{ℕ, zero, suc, ◌≤◌}
 use mathlib.Core.Path.{◌≡◌, refl, ap}
 use mathlib.Core.Bool.{true}
 use mathlib.Core.List.{List, [], ◌∷◌}
@@ -10,7 +10,7 @@ use lib.Seq.{length-take-le}
 use Rattle.lent.proofs.Bools.{either_way}
 use Rattle.refusal.specs.Numbers.{Why, by}
 use Rattle.refusal.specs.Calls.{of_details, tells}
-use Rattle.refusal.specs.Outcome.{Outcome, passed, unless}
+use Rattle.refusal.specs.Outcome.{unless}
 use Rattle.refusal.proofs.Each.{Each, each_passed, each_refused, each_unless}
 use Rattle.tlv.specs.declared.Stretch.{Stretch}
 use Rattle.tlv.specs.Read.{value, refusal, checked, outcome_in}

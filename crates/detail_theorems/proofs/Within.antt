@@ -1,18 +1,14 @@
 -- WHAT IS TOLD STANDS IN WHAT WAS LENT: a detail in the file (`detail-within`), a name in the range that it is from
 -- (`name-within-range`), whatever octets these hold.
-use Prim.Native.Nat.{ℕ, ◌≤◌, ◌<◌}
-use mathlib.Core.Path.{◌≡◌, refl, ap, sym, ◌∙◌}
+use Prim.Native.Nat.{ℕ, ◌≤◌}
+use mathlib.Core.Path.{◌≡◌, refl, ap, ◌∙◌}
 use mathlib.Core.Bool.{Bool, true, false, cond}
 use mathlib.Core.List.{List, [], ◌∷◌}
 use native.Mathlib.Omega.{arith}
 use lib.Dec.{eqb}
-use lib.ListN.{length, take, drop, length-take}
+use lib.ListN.{length, take, length-take}
 use Rattle.refusal.specs.Outcome.{Outcome, passed, refused, unless}
 use Rattle.zone.specs.declared.form.Source.TheVariants.{Alone}
-use Rattle.zone.specs.declared.form.Form.{Form}
-use Rattle.zone.specs.Part as part
-use Rattle.zone.specs.Form.{start, field}
-use Rattle.zone.specs.Record.{trimmed_length}
 use Rattle.text.specs.Read.{read_text}
 use Rattle.text.proofs.Ends.{name_within}
 use Rattle.tlv.specs.declared.Stretch.{Stretch}
@@ -25,9 +21,8 @@ use Rattle.tlv.proofs.Past.{value_within}
 use Rattle.details.specs.Tags.{group_tag, template_tag, full_name_tag, asked_as, tag_here, is_detail, tags_in}
 use Rattle.details.specs.Details.{Detail, detail_at, details, is_list, agrees, read_details, given, value_for, read_detail}
 use Rattle.details.proofs.SideBySide.{walk_cases}
-use Rattle.full_name.specs.declared.From.TheVariants.{Nowhere, File, Text}
-use Rattle.full_name.specs.declared.Name.{Name}
-use Rattle.full_name.specs.FullName.{nothing, is_empty, value_in, in_file, name_at, name_by, in_text, full_name}
+use Rattle.full_name.specs.declared.From.TheVariants.{File}
+use Rattle.full_name.specs.FullName.{is_empty, value_in, in_file, name_at, name_by, in_text, full_name}
 use Rattle.detail_theorems.specs.Range.{Within, range_of}
 
 within_either : (b : Bool) (v u : Stretch) (end : ℕ) → Within v end → Within u end → Within (cond b v u) end

@@ -1,6 +1,6 @@
 -- When the file holds the full name, without its reader: document 02, request 2026-01, whose words are those
 -- in quotes. When a text is accepted is said without its reader in text_theorems.
-use Rattle.std.specs.Prelude.{ℕ, ◌<◌, ◌≡◌, List, [], ◌∷◌, ◌++◌, length}
+use Rattle.std.specs.Prelude.{ℕ, ◌<◌, ◌≡◌, List, ◌∷◌, ◌++◌, length}
 use Rattle.details.specs.Tags.{full_name_tag}
 use Rattle.detail_theorems.specs.Named.{Named, Right, group_octets}
 

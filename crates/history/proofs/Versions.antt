@@ -37,8 +37,7 @@ use Rattle.chip.specs.Files.{files_check}
 use Rattle.group_text.specs.Text.{answer_by}
 use Rattle.chip.specs.Presentation.{group_one, decided, read_stages, read_presentation}
 use Rattle.tlv.specs.Places.{stretch_at}
-use Rattle.row_theorems.specs.Standing.{coded}
-use Rattle.row_theorems.proofs.Rows.{under_value, element_row}
+use Rattle.row_theorems.proofs.Rows.{under_value}
 use Rattle.presentation_theorems.proofs.FirstFailing.{parts, outside_checks, outer_rows}
 use Rattle.presentation_theorems.proofs.Acceptance.{passed_value}
 use Rattle.history.specs.Versions.{decided_formerly, read_formerly, lds_version, object_version}

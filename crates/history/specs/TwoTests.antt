@@ -2,7 +2,6 @@
 -- document 01 has it. What is named `now` is today's; the steps that lead to a test are written out, since it stands within them.
 use Rattle.std.specs.Prelude.{ℕ, not, List, [], eqb, leb, length, take, get_or}
 use Rattle.refusal.specs.Outcome.{Outcome, unless, or_else}
-use Rattle.zone.specs.declared.record.Record.{Record}
 use Rattle.text.specs.Read.{Answer}
 use Rattle.tlv.specs.declared.Stretch.{Stretch}
 use Rattle.tlv.specs.Read.{Read, value, and_then, checked}

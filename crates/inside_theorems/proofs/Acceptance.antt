@@ -1,23 +1,22 @@
 -- ACCEPTED EXACTLY WHEN the octets are the encoding of a whole file's tree (`inside-exactly`); the number is then that tree's
 -- (`number-exactly`), and no other tree has these octets (`no-other-tree`).
-use Prim.Native.Nat.{ℕ, suc, ◌≤◌, ◌<◌}
+use Prim.Native.Nat.{ℕ, ◌≤◌, ◌<◌}
 use mathlib.Core.Path.{◌≡◌, refl, ap, sym, ◌∙◌}
 use mathlib.Core.Logic.{◌↔◌}
-use mathlib.Core.Bool.{Bool, true, false, cond, not, ◌&&◌, false≢true}
+use mathlib.Core.Bool.{Bool, true, false, cond, ◌&&◌, false≢true}
 use mathlib.Core.List.{List, [], ◌++◌, append-nil}
 use native.Mathlib.Omega.{arith}
 use borrow.Author.Tests.{eqb-true, eqb-false, eq-eqb, ne_eqb, leb-true, le-leb, lt-ltb}
-use lib.Dec.{eqb, leb, ltb}
-use lib.ListN.{length, take, drop, get_or, length-drop, drop_of_length-le}
+use lib.Dec.{eqb, leb}
+use lib.ListN.{length, drop, get_or, length-drop, drop_of_length-le}
 use lib.Seq.{take-length}
-use Rattle.lent.proofs.Bools.{and_both, both_and, not_true}
-use Rattle.refusal.specs.Numbers.{by}
-use Rattle.refusal.specs.Outcome.{Outcome, passed, or_else}
+use Rattle.lent.proofs.Bools.{both_and}
+use Rattle.refusal.specs.Outcome.{passed}
 use Rattle.refusal.proofs.Outcomes.{both_passed, unless_kept, kept_unless}
 use Rattle.zone.specs.Octets.{AreOctets}
 use Rattle.zone.proofs.Octets.{octet_below}
 use Rattle.tlv.specs.declared.Stretch.{Stretch}
-use Rattle.tlv.specs.Read.{Read, value, and_then, checked}
+use Rattle.tlv.specs.Read.{value, and_then, checked}
 use Rattle.tlv.specs.Element.{tlv, element}
 use Rattle.tlv.specs.Cut.{cut, end_check}
 use Rattle.tlv.specs.Tags.{group_of, is_group}
@@ -26,19 +25,18 @@ use Rattle.tlv.proofs.Encoded.{Stands, reads, back, tag_first}
 use Rattle.tlv.proofs.Standing.{cut_there}
 use Rattle.tlv.proofs.Past.{some_tag}
 use Rattle.tlv.proofs.Onward.{some_place}
-use Rattle.tree.specs.Tag.{is_constructed, tag_here, first_octet, is_tag}
-use Rattle.tree.specs.Tree.{Tree, one, holds, Forest, tree_octets, forest_octets, elements, depth, Formed}
-use Rattle.tree.specs.Reading.{Found, forest, tree_at}
+use Rattle.tree.specs.Tag.{tag_here, first_octet}
+use Rattle.tree.specs.Tree.{Tree, one, holds, Forest, tree_octets, forest_octets, elements, Formed}
+use Rattle.tree.specs.Reading.{Found, tree_at}
 use Rattle.tree.proofs.Bounds.{tree_bound}
 use Rattle.inside.specs.Templates.{value_here, templates_check, count_check}
 use Rattle.inside.specs.Inside.{group_here, as_one, file_tree, behind_file, inside, look_inside}
 use Rattle.inside.proofs.Heads.{group_tag_lem, group_one_lem, group_constructed}
 use Rattle.inside.proofs.Tags.{tag_one}
 use Rattle.inside_theorems.specs.Whole.{tag_of, OwnInside, HoldsWhole, CountRight, Whole}
-use Rattle.inside_theorems.proofs.TagOctets.{tlv_there}
-use Rattle.inside_theorems.proofs.TreeBack.{Back, tree_back}
+use Rattle.inside_theorems.proofs.TreeBack.{tree_back}
 use Rattle.inside_theorems.proofs.TreeRead.{Small, Reads, tree_reads}
-use Rattle.inside_theorems.proofs.Views.{HeadOf, Held, tree_head, tree_held}
+use Rattle.inside_theorems.proofs.Views.{tree_head, tree_held}
 use Rattle.inside_theorems.proofs.Templates.{count_right, right_count}
 
 -- ---- groups

@@ -1,5 +1,5 @@
 -- The templates by their places are those of the tree: as many, and the first where it stands (`count-places`, `first-places`).
-use Prim.Native.Nat.{ℕ, zero, suc, ◌+◌, ◌≤◌, ◌<◌}
+use Prim.Native.Nat.{ℕ, suc, ◌≤◌}
 use mathlib.Core.Path.{◌≡◌, refl, ap, sym, ◌∙◌}
 use mathlib.Core.Logic.{◌⊎◌, inl, inr}
 use mathlib.Core.Bool.{Bool, true, false, cond}
@@ -10,14 +10,13 @@ use borrow.Author.Tests.{eqb-true, eqb-false}
 use lib.Dec.{eqb}
 use lib.ListN.{length, get_or}
 use Rattle.tlv.specs.Read.{value}
-use Rattle.tree.specs.Tag.{tag_here}
 use Rattle.tree.specs.Tree.{Tree, Forest, empty, more}
-use Rattle.tree.specs.Reading.{Found, forest, tree_at}
+use Rattle.tree.specs.Reading.{forest, tree_at}
 use Rattle.tree.proofs.Bounds.{tree_bound}
-use Rattle.inside.specs.Templates.{value_here, directly, with_tag}
+use Rattle.inside.specs.Templates.{directly, with_tag}
 use Rattle.inside.proofs.Tallies.{tagged, untagged, none_tagged}
 use Rattle.inside_theorems.specs.Whole.{tag_of, times_in, from_first}
-use Rattle.inside_theorems.proofs.Views.{HeadOf, MoreOf, tree_head, read_empty, more_there}
+use Rattle.inside_theorems.proofs.Views.{MoreOf, tree_head, read_empty, more_there}
 
 module _ (d : ℕ) (s : List ℕ) (tag : ℕ) where
   abbrev left : ℕ → List ℕ

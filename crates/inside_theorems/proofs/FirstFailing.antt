@@ -16,8 +16,8 @@ use Rattle.tlv.specs.declared.Stretch.{Stretch}
 use Rattle.tlv.specs.Read.{Read, value, refusal, and_then, checked, outcome_in}
 use Rattle.tlv.specs.Element.{element}
 use Rattle.tlv.specs.Cut.{cut, end_check}
-use Rattle.tlv.specs.Tags.{group_of, is_group}
-use Rattle.tlv.proofs.Joined.{told_then, refusal_told, never_value, first_value, same_value, checked_outcome}
+use Rattle.tlv.specs.Tags.{is_group}
+use Rattle.tlv.proofs.Joined.{told_then, refusal_told, first_value, same_value, checked_outcome}
 use Rattle.tlv.proofs.Onward.{stretch_read}
 use Rattle.tree.specs.Tag.{is_constructed, tag_here, is_tag_here}
 use Rattle.tree.specs.Tree.{Tree, one, holds, Forest, elements}

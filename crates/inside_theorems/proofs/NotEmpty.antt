@@ -1,5 +1,4 @@
 -- THE DEMANDS ARE NOT EMPTY: files that are accepted, with the number of their elements, and beside them some that are not.
-use Prim.Native.Nat.{ℕ}
 use mathlib.Core.Path.{◌≡◌, refl}
 use Rattle.refusal.specs.Numbers.{by}
 use Rattle.tlv.specs.Read.{value, refusal, and_then, checked}

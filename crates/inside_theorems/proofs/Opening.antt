@@ -1,23 +1,22 @@
 -- A list of elements opens with a count exactly where its octets are 02 01 n.
-use Prim.Native.Nat.{ℕ, ◌+◌, ◌/◌, ◌%◌, ◌≤◌, ◌<◌}
-use mathlib.Core.Path.{◌≡◌, refl, ap, sym, ◌∙◌}
+use Prim.Native.Nat.{ℕ, ◌+◌, ◌/◌, ◌%◌, ◌≤◌}
+use mathlib.Core.Path.{◌≡◌, ap, ◌∙◌}
 use mathlib.Core.Bool.{Bool, true, false, cond, false≢true}
 use mathlib.Core.List.{List, [], ◌∷◌, ◌++◌, append_assoc}
 use native.Mathlib.Omega.{arith}
-use borrow.Author.Tests.{leb-true}
 use lib.Dec.{leb}
 use lib.ListN.{length, drop, get_or, get_or-eq_default}
 use Rattle.tlv.specs.Read.{value}
 use Rattle.tlv.specs.Element.{tag_octets, length_octets, tlv, tag_width}
 use Rattle.tlv.proofs.Encoded.{first_there, back, head_octets}
 use Rattle.tlv.proofs.Standing.{one_octet}
-use Rattle.tree.specs.Tag.{is_constructed, has_second, tag_here, first_octet}
+use Rattle.tree.specs.Tag.{is_constructed, tag_here, first_octet}
 use Rattle.tree.specs.Tree.{Tree, one, holds, Forest, empty, more, tree_octets, Formed}
-use Rattle.tree.specs.Reading.{Found, forest, tree_at}
+use Rattle.tree.specs.Reading.{forest, tree_at}
 use Rattle.inside.proofs.Tags.{tag_one}
 use Rattle.inside_theorems.specs.Whole.{tag_of}
 use Rattle.inside_theorems.proofs.TreeRead.{Small, Reads, tree_reads}
-use Rattle.inside_theorems.proofs.Views.{MoreOf, tree_head, read_empty, more_there}
+use Rattle.inside_theorems.proofs.Views.{tree_head, read_empty, more_there}
 
 -- a length that is told by 01
 one_told : (s : List ℕ) (at n : ℕ) (r : List ℕ) → get_or s at 0 ≡ 1 → drop at s ≡ length_octets n ++ r → n ≡ 1

@@ -1,20 +1,18 @@
 -- DEMAND 1: every refusal is by 10, 21 or 22, at a place no further than the file's end (`look-told`).
-use Prim.Native.Nat.{ℕ, zero, suc, ◌≤◌, ◌<◌}
-use mathlib.Core.Path.{◌≡◌, refl, ap, sym, ◌∙◌}
+use Prim.Native.Nat.{ℕ, zero, suc, ◌≤◌}
+use mathlib.Core.Path.{◌≡◌, refl, ap}
 use mathlib.Core.Bool.{Bool, true, false, cond, not, ◌&&◌}
 use mathlib.Core.List.{List}
 use native.Mathlib.Omega.{arith}
-use borrow.Author.Tests.{leb-false}
 use lib.Dec.{eqb, leb}
 use lib.ListN.{length, take, get_or}
 use lib.Seq.{length-take-le}
 use Rattle.lent.proofs.Bools.{either_way}
 use Rattle.refusal.specs.Numbers.{Why, by}
 use Rattle.refusal.specs.Calls.{of_inside, tells}
-use Rattle.refusal.specs.Outcome.{Outcome, passed, unless}
-use Rattle.refusal.proofs.Each.{Each, each_passed, each_unless, each_after, each_else}
+use Rattle.refusal.proofs.Each.{Each, each_passed, each_unless, each_else}
 use Rattle.tlv.specs.declared.Stretch.{Stretch}
-use Rattle.tlv.specs.Read.{Read, value, refusal, and_then, checked, outcome_in}
+use Rattle.tlv.specs.Read.{Read, value, refusal, and_then, outcome_in}
 use Rattle.tlv.specs.Element.{element}
 use Rattle.tlv.specs.Cut.{cut, end_check}
 use Rattle.tlv.specs.Tags.{is_group}
@@ -22,7 +20,7 @@ use Rattle.tlv.proofs.Past.{value_within}
 use Rattle.tlv.proofs.Joined.{first_value, same_value, kept_value}
 use Rattle.tlv.proofs.Each.{EachRead, each_value, each_refusal, each_then, each_checked, each_element, each_end}
 use Rattle.tree.specs.Tag.{is_constructed, tag_here, is_tag_here}
-use Rattle.tree.specs.Tree.{Tree, one, holds, Forest, empty, more, elements}
+use Rattle.tree.specs.Tree.{one, holds, Forest, empty, more, elements}
 use Rattle.tree.specs.Reading.{Found, here, forest_from, forest, inside, tree_at}
 use Rattle.tree.proofs.Heads.{here_within}
 use Rattle.tree.proofs.Bounds.{Bound, tree_bound}

@@ -1,17 +1,17 @@
 -- A tag and its octets tell each other.
 use Prim.Native.Nat.{ℕ, ◌+◌, ◌*◌, ◌/◌, ◌%◌, ◌≤◌, ◌<◌}
-use mathlib.Core.Path.{◌≡◌, refl, ap, sym, ◌∙◌}
+use mathlib.Core.Path.{◌≡◌, refl, ◌∙◌}
 use mathlib.Core.Bool.{Bool, true, false, cond, not, ◌&&◌, ◌||◌}
 use mathlib.Core.List.{List, [], ◌∷◌, ◌++◌, append_assoc}
-use native.Mathlib.Nat.{div-add-mod', mod-lt}
+use native.Mathlib.Nat.{div-add-mod'}
 use native.Mathlib.Omega.{arith}
-use borrow.Author.Tests.{eqb-true, eqb-false, eq-eqb, lt-ltb, le-ltb, ltb-true, ltb-false, leb-true}
-use lib.Dec.{eqb, leb, ltb}
+use borrow.Author.Tests.{eqb-true, lt-ltb, le-ltb}
+use lib.Dec.{ltb}
 use lib.ListN.{length, get_or, drop}
-use Rattle.lent.proofs.Bools.{and_both, both_and, not_true, not_so}
+use Rattle.lent.proofs.Bools.{and_both, not_true}
 use Rattle.tlv.specs.Element.{tag_octets, length_octets, tlv}
 use Rattle.tlv.proofs.Encoded.{first_there, two_high, two_low}
-use Rattle.tree.specs.Tag.{is_constructed, has_second, is_second, tag_here, is_tag_here, first_octet, is_tag}
+use Rattle.tree.specs.Tag.{has_second, is_second, tag_here, is_tag_here, first_octet, is_tag}
 
 -- ---- from the octets
 

@@ -2,19 +2,19 @@
 use Prim.Native.Nat.{ℕ, ◌+◌, ◌≤◌}
 use mathlib.Core.Path.{◌≡◌, refl, ap, sym, ◌∙◌}
 use mathlib.Core.Logic.{◌⊎◌, inl, inr}
-use mathlib.Core.Bool.{Bool, true, false, cond, not, ◌&&◌, ◌||◌, false≢true}
+use mathlib.Core.Bool.{Bool, true, false, not, ◌&&◌, ◌||◌, false≢true}
 use mathlib.Core.List.{List, [], ◌∷◌}
 use native.Mathlib.Omega.{arith}
-use borrow.Author.Tests.{eqb-true, eq-eqb, ne_eqb, leb-true, leb-false}
+use borrow.Author.Tests.{eqb-true, eq-eqb, ne_eqb, leb-false}
 use lib.Dec.{eqb, leb}
 use lib.ListN.{length, take, get_or}
-use Rattle.lent.proofs.Bools.{and_both, both_and}
-use Rattle.refusal.specs.Outcome.{passed, unless}
+use Rattle.lent.proofs.Bools.{and_both}
+use Rattle.refusal.specs.Outcome.{passed}
 use Rattle.refusal.proofs.Outcomes.{unless_kept, kept_unless}
 use Rattle.tlv.specs.Read.{value}
 use Rattle.tree.specs.Tag.{is_constructed, first_octet}
 use Rattle.tree.specs.Tree.{Tree, one, holds, Forest, empty, more, Formed}
-use Rattle.tree.specs.Reading.{Found, forest, tree_at}
+use Rattle.tree.specs.Reading.{forest, tree_at}
 use Rattle.inside.specs.Templates.{template_group, template, value_here, directly, with_tag, count_holds, first_group, templates_check}
 use Rattle.inside_theorems.specs.Whole.{tag_of, times_in, from_first, CountRight}
 use Rattle.inside_theorems.proofs.TreeRead.{Small, small_take, tree_reads}

@@ -1,21 +1,20 @@
 -- Where the encoding of a tree stands, the tree is read.
-use Prim.Native.Nat.{ℕ, suc, ◌+◌, ◌-◌, ◌≤◌, ◌<◌, max}
+use Prim.Native.Nat.{ℕ, suc, ◌-◌, ◌≤◌}
 use mathlib.Core.Path.{◌≡◌, refl, ap, sym, ◌∙◌}
-use mathlib.Core.Bool.{Bool, true, false, cond}
-use mathlib.Core.List.{List, [], ◌++◌}
+use mathlib.Core.Bool.{true, false}
+use mathlib.Core.List.{List, ◌++◌}
 use native.Mathlib.Nat.{le_trans, le-max_left, le-max_right}
 use native.Mathlib.Omega.{arith}
-use lib.ListN.{length, take, drop, get_or, length-drop}
+use lib.ListN.{length, take, drop, length-drop}
 use Rattle.tlv.specs.declared.Stretch.{Stretch}
-use Rattle.tlv.specs.Read.{Read, value, and_then}
-use Rattle.tlv.specs.Element.{tlv, element}
-use Rattle.tlv.specs.Cut.{cut}
+use Rattle.tlv.specs.Read.{value, and_then}
+use Rattle.tlv.specs.Element.{tlv}
 use Rattle.tlv.proofs.Encoded as encoded
 use Rattle.tlv.proofs.Encoded.{Stands, back}
 use Rattle.tlv.proofs.Standing.{cut_there}
-use Rattle.tree.specs.Tag.{is_constructed, tag_here, is_tag_here, first_octet, is_tag}
+use Rattle.tree.specs.Tag.{is_constructed, first_octet, is_tag}
 use Rattle.tree.specs.Tree.{Tree, one, holds, Forest, empty, more, tree_octets, forest_octets, depth, deepest, Formed, AllFormed}
-use Rattle.tree.specs.Reading.{Found, here, forest, inside, tree_at}
+use Rattle.tree.specs.Reading.{here, forest, inside, tree_at}
 use Rattle.tree.proofs.Bounds.{tree_bound}
 use Rattle.tree.proofs.Walking.{before, forest_next, forest_done}
 use Rattle.inside_theorems.proofs.TagOctets.{TagThere, tlv_there}

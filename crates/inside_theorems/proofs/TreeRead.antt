@@ -1,25 +1,24 @@
 -- Where a tree is read, its encoding stands, it is rightly formed and no deeper than it may be.
-use Prim.Native.Nat.{ℕ, zero, suc, ◌+◌, ◌-◌, ◌≤◌, ◌<◌, max}
+use Prim.Native.Nat.{ℕ, zero, suc, ◌≤◌, ◌<◌}
 use mathlib.Core.Path.{◌≡◌, refl, ap, sym, ◌∙◌}
 use mathlib.Core.Bool.{Bool, true, false, cond}
-use mathlib.Core.List.{List, [], ◌∷◌, ◌++◌}
+use mathlib.Core.List.{List, ◌++◌}
 use native.Mathlib.Nat.{max-le}
 use native.Mathlib.Omega.{arith}
 use borrow.Author.Tests.{ltb-true, ltb-false, leb-true}
 use lib.Dec.{leb, ltb}
 use lib.ListN.{length, take, drop, get_or, length-take, drop_of_length-le, get_or-eq_default}
-use lib.Seq.{get_or-take, length-take-le}
+use lib.Seq.{get_or-take}
 use Rattle.refusal.specs.Numbers.{by}
 use Rattle.tlv.specs.declared.Stretch.{Stretch}
 use Rattle.tlv.specs.Read.{Read, value, refusal, and_then}
-use Rattle.tlv.specs.Element.{tlv, element}
+use Rattle.tlv.specs.Element.{tlv}
 use Rattle.tlv.specs.Cut.{cut}
 use Rattle.tlv.proofs.Encoded as encoded
 use Rattle.tlv.proofs.Encoded.{Stands, reads}
-use Rattle.tlv.proofs.Standing.{cut_there}
 use Rattle.tlv.proofs.Joined.{never_value, same_value, first_value}
-use Rattle.tree.specs.Tag.{is_constructed, tag_here, is_tag_here, first_octet, is_tag}
-use Rattle.tree.specs.Tree.{Tree, one, holds, Forest, empty, more, tree_octets, forest_octets, depth, deepest, Formed, AllFormed}
+use Rattle.tree.specs.Tag.{is_constructed, tag_here, first_octet, is_tag}
+use Rattle.tree.specs.Tree.{one, holds, Forest, empty, more, tree_octets, forest_octets, depth, deepest, Formed, AllFormed}
 use Rattle.tree.specs.Reading.{Found, here, forest_from, forest, inside, tree_at}
 use Rattle.tree.proofs.Heads.{here_element}
 use Rattle.inside_theorems.proofs.TagOctets.{tag_here_lem}

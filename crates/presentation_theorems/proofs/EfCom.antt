@@ -28,7 +28,7 @@ use Rattle.refusal.proofs.Outcomes.{refused_not_passed, both_passed, unless_kept
 use Rattle.presentation_theorems.proofs.NoneTwice.{once_after, once_none, none_once}
 use Rattle.tlv.proofs.Standing.{element_read, last_read, cut_there, has_octets_lem, octets_had, place_behind, followed_by}
 use Rattle.presentation_theorems.proofs.Elements.{octets_before, take_most, read_element, nothing_left, left_nothing}
-use Rattle.presentation_theorems.proofs.Elements.{alike_same, same_alike, StringIn, string_before}
+use Rattle.presentation_theorems.proofs.Elements.{alike_same, StringIn, string_before}
 
 -- ---- the tag list
 

@@ -3,7 +3,7 @@
 use Prim.Native.Nat.{ℕ, zero, suc, ◌+◌, ◌-◌, ◌≤◌, ◌<◌}
 use mathlib.Core.Path.{◌≡◌, refl, ap, sym, ◌∙◌, subst}
 use mathlib.Core.Bool.{Bool, true, false, cond, not, ◌&&◌}
-use mathlib.Core.List.{List, [], ◌∷◌, ◌++◌, append-nil}
+use mathlib.Core.List.{List, [], ◌∷◌, ◌++◌}
 use mathlib.Core.Logic.{inl, inr}
 use native.Mathlib.Omega.{arith}
 use borrow.Author.Tests.{leb-true, le-leb, lt-leb, lt-ltb, not-true}
@@ -18,7 +18,7 @@ use Rattle.tlv.specs.Read.{Read, value, and_then, checked}
 use Rattle.tlv.specs.Element.{tlv, element}
 use Rattle.tlv.proofs.Joined.{never_value, same_value, first_value, value_then, checked_value, value_checked}
 use Rattle.tlv.proofs.Encoded.{inside, length-tlv, some_head}
-use Rattle.tlv.specs.Cut.{cut, end_check}
+use Rattle.tlv.specs.Cut.{cut}
 use Rattle.lent.specs.Octets.{stands}
 use Rattle.object.specs.declared.strings.Version.{Version}
 use Rattle.object.specs.Object.{GroupHash, Said, entry_at, entries_from, entries, numbers_once, entries_check, version_at}

@@ -3,10 +3,9 @@
 use Prim.Native.Nat.{ℕ, ◌≤◌}
 use mathlib.Core.Path.{◌≡◌, refl, ap, sym, ◌∙◌, subst}
 use mathlib.Core.Bool.{Bool, true, false}
-use mathlib.Core.List.{List, [], ◌∷◌, ◌++◌, append-nil}
+use mathlib.Core.List.{List, [], ◌++◌, append-nil}
 use lib.ListN.{length, take, drop}
-use Rattle.tlv.specs.declared.Stretch.{Stretch}
-use Rattle.tlv.specs.Read.{value, checked}
+use Rattle.tlv.specs.Read.{value}
 use Rattle.tlv.specs.Element.{tlv, element}
 use Rattle.tlv.specs.Cut.{cut, end_check}
 use Rattle.tlv.proofs.Joined.{same_value, first_value, value_then, checked_value, value_checked}

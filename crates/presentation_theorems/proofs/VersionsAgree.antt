@@ -2,12 +2,12 @@
 -- with strings equal to EF.COM's.
 use Prim.Native.Nat.{ℕ}
 use mathlib.Core.Path.{◌≡◌, refl, ap, sym, ◌∙◌}
-use mathlib.Core.Bool.{Bool, true, false, cond, not, ◌&&◌, false≢true}
+use mathlib.Core.Bool.{Bool, true, false}
 use mathlib.Core.List.{List}
 use Rattle.lent.specs.Octets.{alike}
 use Rattle.lent.proofs.Bools.{and_both, both_and, not_true, not_so}
 use Rattle.tlv.specs.Cut.{cut}
-use Rattle.tlv.specs.Versions.{lds17, lds18}
+use Rattle.tlv.specs.Versions.{lds18}
 use Rattle.efcom.specs.declared.Common.{Common}
 use Rattle.object.specs.declared.strings.Version.{Version}
 use Rattle.object.specs.declared.strings.Version.TheVariants.{Zero, One}

@@ -6,7 +6,6 @@ use Rattle.std.specs.Prelude.{ℕ, suc, not, ◌||◌, List, [], ◌∷◌, ◌+
 use Rattle.refusal.specs.Outcome.{Outcome, unless}
 use Rattle.zone.specs.Alphabet.{is_digit, every}
 use Rattle.lent.specs.Octets.{alike, stands}
-use Rattle.tlv.specs.declared.Stretch.{Stretch}
 use Rattle.tlv.specs.Cut.{cut, has_octets, end_check}
 use Rattle.tlv.specs.Tags.{is_group}
 use Rattle.tlv.specs.Tags as Tag

@@ -1,7 +1,7 @@
 -- The checks of a presentation one after the other, a row for each sentence that can refuse: document 01, "Stages of a
 -- presentation", and document 02, 2026-04, whose words are those in quotes. Which of them a refusal names is `FirstFailing`
 -- (text_theorems). Every row is said of the octets; where one fails, those behind it decide nothing.
-use Rattle.std.specs.Prelude.{ℕ, ◌+◌, cond, not, List, [], ◌∷◌, ◌++◌, map, eqb, leb, length, take, get_or}
+use Rattle.std.specs.Prelude.{ℕ, cond, not, List, [], ◌∷◌, ◌++◌, map, eqb, leb, length, take, get_or}
 use Rattle.zone.specs.declared.form.Source.TheVariants.{GroupOne}
 use Rattle.refusal.specs.Outcome.{Outcome, unless}
 use Rattle.lent.specs.Octets.{alike, stands}

@@ -1,6 +1,6 @@
 -- DEMAND 1 of the calls that write: an entry, what was read as an entry (`entered-answers`), a text (`text-answers`); of a run
 -- that is read (`run-steps`); and of the numbers that C receives (`answers-in-c`).
-use Prim.Native.Nat.{ℕ, ◌+◌, ◌≤◌}
+use Prim.Native.Nat.{ℕ, ◌+◌}
 use mathlib.Core.Path.{◌≡◌, refl, sym}
 use mathlib.Core.Bool.{true, false, ◌&&◌}
 use mathlib.Core.List.{List, []}
@@ -9,7 +9,7 @@ use lib.Dec.{eqb, ltb}
 use lib.ListN.{length, drop}
 use Rattle.lent.proofs.Bools.{and_both, either_way}
 use Rattle.refusal.specs.Numbers.{by, number_of}
-use Rattle.refusal.specs.Calls.{of_run, of_entry, of_text_writer, entered, is_of, tells}
+use Rattle.refusal.specs.Calls.{of_entry, of_text_writer, entered, is_of}
 use Rattle.refusal.specs.Outcome.{Outcome, passed, or_else, unless}
 use Rattle.refusal.specs.Length as told
 use Rattle.refusal.specs.Output.{Told, Answers}

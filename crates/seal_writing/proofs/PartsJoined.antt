@@ -1,14 +1,13 @@
 -- The parts of a seal, where a header is carried and the text is that of a fit record, are its octets.
-use Prim.Native.Nat.{ℕ, ◌+◌, ◌*◌, ◌≤◌}
+use Prim.Native.Nat.{ℕ}
 use mathlib.Core.Path.{◌≡◌, refl, ap, sym, ◌∙◌}
 use mathlib.Core.Bool.{Bool, true, false, ◌&&◌}
 use mathlib.Core.List.{List, [], ◌∷◌, ◌++◌, append_assoc}
-use native.Mathlib.Omega.{arith}
 use borrow.Author.Tests.{eqb-true, leb-true, le-leb}
 use lib.Dec.{eqb, leb}
-use lib.ListN.{length, take, drop, get_or, length-append}
-use Rattle.lent.proofs.Bools.{and_both, or_either}
-use Rattle.zone.specs.Alphabet.{is_digit, is_letter, is_filler, every}
+use lib.ListN.{length, take, drop}
+use Rattle.lent.proofs.Bools.{and_both}
+use Rattle.zone.specs.Alphabet.{is_letter, is_filler, every}
 use Rattle.zone.specs.Rooms.{state_room}
 use Rattle.zone.specs.declared.record.Record.{Record}
 use Rattle.zone.proofs.Every.{every_append, every_wider}
@@ -20,18 +19,17 @@ use Rattle.c40.specs.Image.{image_of}
 use Rattle.c40.specs.Field.{octets_for}
 use Rattle.c40.specs.Inner.Imaged.{reduced, imaged}
 use Rattle.c40.proofs.Coding.{digit_c40, letter_c40}
-use Rattle.c40.proofs.Images.{images_joined, image_length}
-use Rattle.c40.proofs.Imaging.{imaged_text, imaged_length, imaged_threes}
+use Rattle.c40.proofs.Images.{images_joined}
+use Rattle.c40.proofs.Imaging.{imaged_text, imaged_length}
 use Rattle.seal_fields.specs.Day.{is_day, day_octets}
 use Rattle.seal_fields.specs.Hex.{is_hex, hexadecimal}
-use Rattle.seal_fields.specs.Spaces.{spaced}
 use Rattle.seal_fields.proofs.Short.{of_four}
 use Rattle.seal_fields.proofs.Days.{day_octets_lem}
 use Rattle.seal_fields.proofs.Hexadecimal.{said_two, hex_c40}
 use Rattle.seal_fields.proofs.Spaced.{imaged_spaced}
 use Rattle.seal_header.specs.declared.header.Header.{Header}
 use Rattle.seal_header.specs.Reference.{is_letter_or_digit}
-use Rattle.seal_header.specs.Head.{Head, count_of, reference_of, head_octets}
+use Rattle.seal_header.specs.Head.{count_of, reference_of, head_octets}
 use Rattle.seal_features.specs.Features.{text_tag, signature_tag}
 use Rattle.seal_writing.specs.Carried.{is_shaped, is_emergency, is_signer, is_referred, is_carried, Carried}
 use Rattle.seal_writing.specs.Seal.{head_of, signed_octets, seal_octets}

@@ -1,7 +1,7 @@
 -- DEMAND 1 of writing a seal: a refusal has one of the call's own numbers and place 0, and changes no octet; a success changes
 -- the
 -- octets that it reports and no others. And no second answer meets the promise.
-use Prim.Native.Nat.{ℕ, ◌≤◌}
+use Prim.Native.Nat.{ℕ}
 use mathlib.Core.Path.{◌≡◌, refl, sym, ◌∙◌}
 use mathlib.Core.Bool.{Bool, true, false, cond, ◌&&◌}
 use mathlib.Core.List.{List}
@@ -9,7 +9,7 @@ use native.Mathlib.Omega.{arith}
 use lib.Dec.{leb}
 use lib.ListN.{length}
 use Rattle.refusal.specs.declared.Written.{Written}
-use Rattle.refusal.specs.Numbers.{Why, by}
+use Rattle.refusal.specs.Numbers.{by}
 use Rattle.refusal.specs.Calls.{of_seal_writer, of_seal_writer_in_c, is_of}
 use Rattle.refusal.specs.Outcome.{unless}
 use Rattle.refusal.specs.Length as told

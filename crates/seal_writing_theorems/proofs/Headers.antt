@@ -1,25 +1,25 @@
 -- A header that version 03 carries keeps the rules of one that is read, and is read as itself.
-use Prim.Native.Nat.{ℕ, ◌+◌, ◌-◌, ◌≤◌}
+use Prim.Native.Nat.{ℕ, ◌-◌}
 use mathlib.Core.Path.{◌≡◌, refl, ap, sym, ◌∙◌}
-use mathlib.Core.Logic.{◌⊎◌, inl, inr}
-use mathlib.Core.Bool.{Bool, true, false, ◌&&◌, and-true}
+use mathlib.Core.Logic.{inr}
+use mathlib.Core.Bool.{true, ◌&&◌, and-true}
 use mathlib.Core.List.{List, [], ◌∷◌, ◌++◌}
 use native.Mathlib.Omega.{arith}
 use borrow.Author.Tests.{eqb-true}
 use lib.Dec.{eqb}
-use lib.ListN.{length, take, drop, get_or, replicate, length-map, length-drop, take-append-drop}
+use lib.ListN.{length, take, drop, replicate, length-map, length-drop, take-append-drop}
 use Rattle.lent.proofs.Bools.{and_both}
 use Rattle.zone.specs.Alphabet.{is_letter, is_filler, is_character, every, filler}
 use Rattle.zone.specs.Record.{padded}
 use Rattle.zone.proofs.Padded.{padded_spare}
 use Rattle.field.specs.Letters.{state_rule}
 use Rattle.field.proofs.Characters.{state_pure}
-use Rattle.seal_fields.specs.Spaces.{filled, spaced}
+use Rattle.seal_fields.specs.Spaces.{spaced}
 use Rattle.seal_fields.proofs.Short.{of_four}
 use Rattle.seal_fields.proofs.Spaced.{spaced_c40, filled_spaced}
 use Rattle.seal_header.specs.declared.header.Header.{Header}
 use Rattle.seal_header.specs.Reference.{is_letter_or_digit}
-use Rattle.seal_theorems.specs.Sealed.{ReferenceKept, HeadKept, header_in}
+use Rattle.seal_theorems.specs.Sealed.{HeadKept, header_in}
 use Rattle.seal_writing.specs.Carried.{is_signer, Carried}
 use Rattle.seal_writing.specs.Seal.{head_of}
 use Rattle.seal_writing.proofs.WholePut.{certificate_length}

@@ -5,11 +5,9 @@ use mathlib.Core.Bool.{Bool, true, false, cond, false≢true}
 use mathlib.Core.List.{List, ◌++◌}
 use mathlib.Core.Logic.{◌↔◌}
 use lib.ListN.{length, drop}
-use Rattle.refusal.specs.Numbers.{Why, by, expecting, no_digit}
+use Rattle.refusal.specs.Numbers.{by, expecting, no_digit}
 use Rattle.refusal.specs.Calls.{of_seal_writer_in_c}
-use Rattle.refusal.specs.Outcome.{Outcome, passed, refused}
 use Rattle.refusal.specs.Length as told
-use Rattle.refusal.specs.Output.{write_answer}
 use Rattle.refusal.proofs.Output.{writes, writes_only}
 use Rattle.refusal.proofs.Outcomes.{refused_not_written}
 use Rattle.run_theorems.specs.EveryCall.{AnswersInC}
@@ -19,8 +17,6 @@ use Rattle.runs.specs.Run.{read_entry}
 use Rattle.as_entry.specs.Written.{is_only}
 use Rattle.border.specs.declared.received.AnswerInC.{AnswerInC}
 use Rattle.border.specs.Answer.{in_c}
-use Rattle.zone.specs.declared.record.Record.{Record}
-use Rattle.seal_header.specs.declared.header.Header.{Header}
 use Rattle.lamphudet_seals.specs.declared.received.HeaderInC.{HeaderInC}
 use Rattle.lamphudet_seals.specs.Given.{header_given, written_answer, written_out, write_seal_in_c}
 use Rattle.seal_writing.specs.Seal.{seal_octets, seal_check, seal_answer, seal_out}

@@ -1,19 +1,18 @@
 -- DEMANDED: a seal written is read back as what was given, and two different sets of inputs never give the same octets.
-use Prim.Native.Nat.{ℕ, ◌+◌, ◌-◌, ◌≤◌}
+use Prim.Native.Nat.{ℕ, ◌-◌}
 use mathlib.Core.Path.{◌≡◌, refl, ap, sym, ◌∙◌, subst}
 use mathlib.Core.Logic.{◌↔◌}
-use mathlib.Core.Bool.{Bool, true, false, ◌&&◌, false≢true}
+use mathlib.Core.Bool.{true, ◌&&◌, false≢true}
 use mathlib.Core.List.{List, [], ◌∷◌, ◌++◌, append_assoc}
-use native.Mathlib.Omega.{arith}
 use borrow.Author.Tests.{leb-true, le-leb}
 use lib.Dec.{leb}
-use lib.ListN.{length, take, drop, length-append}
+use lib.ListN.{length, take}
 use lib.Seq.{take_at}
 use Rattle.lent.proofs.Bools.{and_both, both_and}
-use Rattle.refusal.specs.Outcome.{passed, or_else, unless}
+use Rattle.refusal.specs.Outcome.{passed, unless}
 use Rattle.refusal.proofs.Outcomes.{both_passed, unless_kept}
 use Rattle.zone.specs.Alphabet.{is_character, every}
-use Rattle.zone.specs.Form.{row, total, is_visa, is_alone, may_stand}
+use Rattle.zone.specs.Form.{row, is_visa, is_alone, may_stand}
 use Rattle.zone.specs.declared.form.Form.{Form}
 use Rattle.zone.specs.declared.form.Form.TheVariants.{Td1, Td2, Td3, MrvA, MrvB}
 use Rattle.zone.specs.declared.form.Source.TheVariants.{Seal}
@@ -36,7 +35,7 @@ use Rattle.seal_header.specs.Head.{Head}
 use Rattle.seal_features.specs.Features.{text_tag, signature_tag}
 use Rattle.seal.specs.Seal.{SealAnswer, read_seal}
 use Rattle.seal_theorems.specs.Sealed.{count_of, reference_of, head_octets}
-use Rattle.seal_theorems.specs.Sealed.{Contents, joined, octets_of, are_others, Shaped, Sealed, header_in, signature_in, answer_in}
+use Rattle.seal_theorems.specs.Sealed.{joined, octets_of, are_others, Sealed, signature_in, answer_in}
 use Rattle.seal_theorems.proofs.Acceptance.{sealed_answer, sealed_signature}
 use Rattle.seal_writing.specs.Carried.{is_carried}
 use Rattle.seal_writing.specs.Seal.{head_of, signed_octets, seal_octets, is_td2, is_fit, seal_check}

@@ -1,13 +1,12 @@
 -- Something is accepted: the header that source 002 prints in its section 8, in version 03, and the record that stands there,
 -- with
 -- an empty signature.
-use Prim.Native.Nat.{ℕ, ◌≤◌}
+use Prim.Native.Nat.{◌≤◌}
 use mathlib.Core.Path.{◌≡◌, refl, ap, sym, ◌∙◌}
 use mathlib.Core.Bool.{true}
-use mathlib.Core.List.{List, []}
+use mathlib.Core.List.{[]}
 use native.Mathlib.Omega.{arith}
 use lib.ListN.{length, replicate}
-use Rattle.refusal.specs.Outcome.{passed}
 use Rattle.lent.specs.Octets.{octets}
 use Rattle.zone.specs.Alphabet.{is_digit, is_letter, is_filler, every}
 use Rattle.zone.specs.Record.{padded}
@@ -22,8 +21,8 @@ use Rattle.c40.specs.Field.{octets_for}
 use Rattle.seal_fields.specs.Day.{is_leap, days_in, is_day}
 use Rattle.seal_fields.specs.Hex.{is_hex_letter, is_hex}
 use Rattle.seal_header.specs.declared.header.Header.{Header}
-use Rattle.seal.specs.Seal.{SealAnswer, read_seal}
-use Rattle.seal_theorems.specs.PrintedSeal.{printed_seal, printed_header, printed_record, printed_answer}
+use Rattle.seal.specs.Seal.{SealAnswer}
+use Rattle.seal_theorems.specs.PrintedSeal.{printed_seal, printed_record, printed_answer}
 use Rattle.seal_theorems.proofs.PrintedSeal.{printed_read}
 use Rattle.seal_theorems.proofs.SealRecord.{seal_sound}
 use Rattle.seal_header.specs.Reference.{is_letter_or_digit}

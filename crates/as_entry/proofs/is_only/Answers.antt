@@ -1,5 +1,4 @@
 -- The three cases of `is_only`.
-use borrow.Author.Rules.{rules}
 use Rattle.as_entry.specs.Written.{is_only}
 use Rattle.as_entry.proofs.is_only.Goals as goal
 

@@ -1,5 +1,4 @@
 -- The run reader says whether the range is one entry.
-use borrow.Author.Rules.{rules}
 use mathlib.Core.Path.{sym, ◌∙◌}
 use Rattle.runs.specs.Run.{standing_of}
 use Rattle.as_entry.specs.Written.{written_answer, written_out}

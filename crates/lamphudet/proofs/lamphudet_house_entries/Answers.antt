@@ -1,6 +1,5 @@
 -- The stretch, told in numbers.
 use native.Mathlib.Omega.{arith}
-use borrow.Author.Rules.{rules}
 use Rattle.zone.proofs.Octets.{lent_octets}
 use Rattle.lamphudet.proofs.lamphudet_house_entries.Goals as goal
 

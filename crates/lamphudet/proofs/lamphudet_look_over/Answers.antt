@@ -1,6 +1,5 @@
 -- The number of entries, or the refusal, told in numbers.
 use native.Mathlib.Omega.{arith}
-use borrow.Author.Rules.{rules}
 use Rattle.zone.proofs.Octets.{lent_octets}
 use Rattle.lamphudet.proofs.lamphudet_look_over.Goals as goal
 

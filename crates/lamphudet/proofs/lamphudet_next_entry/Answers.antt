@@ -1,6 +1,5 @@
 -- The run reader's own promise, told in numbers.
 use native.Mathlib.Omega.{arith}
-use borrow.Author.Rules.{rules}
 use mathlib.Core.Path.{ap, ◌∙◌}
 use Rattle.runs.specs.Run.{Standing, standing_of}
 use Rattle.zone.proofs.Octets.{lent_octets}

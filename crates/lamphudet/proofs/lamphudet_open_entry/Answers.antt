@@ -1,6 +1,5 @@
 -- The promise below.
 use native.Mathlib.Omega.{arith}
-use borrow.Author.Rules.{rules}
 use Rattle.zone.proofs.Octets.{lent_octets}
 use Rattle.lamphudet.proofs.lamphudet_open_entry.Goals as goal
 

@@ -1,6 +1,5 @@
 -- The detail, or the refusal, told in numbers.
 use native.Mathlib.Omega.{arith}
-use borrow.Author.Rules.{rules}
 use Rattle.zone.proofs.Octets.{lent_octets}
 use Rattle.lamphudet.proofs.lamphudet_read_detail.Goals as goal
 

@@ -1,6 +1,5 @@
 -- What was read is entered, told in numbers.
 use native.Mathlib.Omega.{arith}
-use borrow.Author.Rules.{rules}
 use Rattle.text.specs.Read.{answer_of}
 use Rattle.zone.proofs.Octets.{lent_octets}
 use Rattle.lamphudet.specs.Calls.{read_answer, read_out}

@@ -1,6 +1,5 @@
 -- The two promises below, told in numbers.
 use native.Mathlib.Omega.{arith}
-use borrow.Author.Rules.{rules}
 use Rattle.zone.proofs.Octets.{lent_octets}
 use Rattle.lamphudet.proofs.lamphudet_write_text.Goals as goal
 

@@ -1,6 +1,5 @@
 -- What was read is entered, told in numbers.
 use native.Mathlib.Omega.{arith}
-use borrow.Author.Rules.{rules}
 use Rattle.seal.specs.Seal.{answer_of}
 use Rattle.zone.proofs.Octets.{lent_octets}
 use Rattle.lamphudet_seals.specs.Answer.{read_seal_in_c, read_seal_out}

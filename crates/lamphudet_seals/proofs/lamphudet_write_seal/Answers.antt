@@ -1,5 +1,4 @@
 -- What was written, told in numbers.
-use borrow.Author.Rules.{rules}
 use native.Mathlib.Omega.{arith}
 use Rattle.zone.proofs.Octets.{lent_octets}
 use Rattle.lamphudet_seals.specs.Given.{write_seal_in_c}

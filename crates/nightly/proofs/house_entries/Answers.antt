@@ -1,5 +1,4 @@
 -- The stretch, cut out.
-use borrow.Author.Rules.{rules}
 use Rattle.nightly.proofs.house_entries.Goals as goal
 
 pub returns : goal.returns

@@ -1,6 +1,5 @@
 -- What the walk saw of the house.
 use mathlib.Core.Path.{ap, sym, ◌∙◌}
-use borrow.Author.Rules.{rules}
 use Rattle.nightly.specs.Inner.Seen.{walked_of}
 use Rattle.nightly.proofs.Seeing.{seen_own, refused_own}
 use Rattle.nightly.proofs.house_stretch.Goals as goal

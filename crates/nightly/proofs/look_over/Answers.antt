@@ -1,6 +1,5 @@
 -- What the walk counted.
 use mathlib.Core.Path.{ap, sym, ◌∙◌}
-use borrow.Author.Rules.{rules}
 use Rattle.nightly.specs.Inner.Seen.{walked_of}
 use Rattle.nightly.proofs.Seeing.{seen_counted, refused_counted}
 use Rattle.nightly.proofs.look_over.Goals as goal

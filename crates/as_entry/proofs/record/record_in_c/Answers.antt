@@ -1,5 +1,4 @@
 -- Field by field.
-use borrow.Author.Rules.{rules}
 use Rattle.as_entry.specs.Opened.{record_in_c}
 use Rattle.as_entry.proofs.record.record_in_c.Goals as goal
 

@@ -1,5 +1,4 @@
 -- The cause has its own number, and its digit.
-use borrow.Author.Rules.{rules}
 use Rattle.border.specs.Answer.{in_c}
 use Rattle.border.proofs.answer.denied.Goals as goal
 

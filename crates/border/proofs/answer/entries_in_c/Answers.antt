@@ -1,5 +1,4 @@
 -- The two cases of `count_in_c`, of a list.
-use borrow.Author.Rules.{rules}
 use Rattle.border.specs.Answer.{in_c}
 use Rattle.border.specs.Calls.{count_in_c}
 use Rattle.border.proofs.answer.entries_in_c.Goals as goal

@@ -1,5 +1,4 @@
 -- The two cases of `in_c`.
-use borrow.Author.Rules.{rules}
 use Rattle.border.specs.Answer.{in_c}
 use Rattle.border.proofs.answer.in_c.Goals as goal
 

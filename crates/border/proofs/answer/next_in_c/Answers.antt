@@ -1,5 +1,4 @@
 -- The three cases of `next_in_c`.
-use borrow.Author.Rules.{rules}
 use Rattle.border.specs.Answer.{in_c}
 use Rattle.border.specs.Calls.{next_in_c}
 use Rattle.border.proofs.answer.next_in_c.Goals as goal

@@ -1,5 +1,4 @@
 -- The two cases of `detail_in_c`.
-use borrow.Author.Rules.{rules}
 use Rattle.border.specs.Answer.{in_c}
 use Rattle.border.specs.Details.{detail_in_c}
 use Rattle.border.proofs.detail.detail_in_c.Goals as goal

@@ -1,5 +1,4 @@
 -- The source and the stretch.
-use borrow.Author.Rules.{rules}
 use Rattle.border.specs.Details.{name_in_c}
 use Rattle.border.proofs.detail.name_in_c.Goals as goal
 

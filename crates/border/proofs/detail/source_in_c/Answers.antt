@@ -1,5 +1,4 @@
 -- The three cases of `source_in_c`.
-use borrow.Author.Rules.{rules}
 use Rattle.border.specs.Details.{source_in_c}
 use Rattle.border.proofs.detail.source_in_c.Goals as goal
 

@@ -1,5 +1,4 @@
 -- The tests of the definition, in its order.
-use borrow.Author.Rules.{rules}
 use mathlib.Core.Path.{ap, ◌∙◌}
 use Rattle.refusal.specs.Outcome.{unless}
 use Rattle.chip.specs.Files.{file_octets}

@@ -1,14 +1,10 @@
-use Prim.Native.Nat.{◌-◌}
-use mathlib.Core.Path.{◌≡◌, refl, ap, sym, ◌∙◌}
+use mathlib.Core.Path.{refl, ap, sym, ◌∙◌}
 use native.Mathlib.Omega.{arith}
 use borrow.Author.Rules.{rules}
-use lib.ListN.{length, length-set}
-use Rattle.refusal.specs.Outcome.{outcome_of, passed}
-use Rattle.tlv.specs.Read.{outcome_in}
+use lib.ListN.{length-set}
+use Rattle.refusal.specs.Outcome.{outcome_of}
 use Rattle.tlv.specs.Element.{taken_of}
 use Rattle.tlv.specs.Tags.{group_of}
-use Rattle.outer.specs.Outer.{files}
-use Rattle.chip.specs.Inner.ByTable.{files_in, files_by}
 use Rattle.outer.proofs.FilesWalked.{file_behind}
 use Rattle.chip.proofs.FilesByTable.{in_next_lem, lent_on, lent_refused, lent_never, lent_done}
 use Rattle.chip.proofs.files.files_check.Goals as goal

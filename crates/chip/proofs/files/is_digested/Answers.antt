@@ -1,5 +1,4 @@
 -- Two calls.
-use borrow.Author.Rules.{rules}
 use Rattle.chip.proofs.files.is_digested.Goals as goal
 
 pub returns : goal.returns

@@ -1,15 +1,7 @@
-use Prim.Native.Nat.{◌-◌}
-use mathlib.Core.Path.{◌≡◌, refl, ap, sym, ◌∙◌}
+use mathlib.Core.Path.{refl, ap, sym, ◌∙◌}
 use native.Mathlib.Omega.{arith}
-use borrow.Author.Rules.{rules}
-use lib.ListN.{length}
-use Rattle.refusal.specs.Outcome.{passed}
-use Rattle.tlv.specs.Read.{outcome_in}
 use Rattle.tlv.specs.Element.{taken_of}
 use Rattle.tlv.specs.Tags.{group_of}
-use Rattle.outer.specs.Outer.{files}
-use Rattle.chip.specs.Inner.ByTable.{files_in}
-use Rattle.chip.specs.Presentation.{first_file}
 use Rattle.outer.proofs.FilesWalked.{file_behind}
 use Rattle.chip.proofs.FilesByTable.{in_next_lem, lent_never}
 use Rattle.chip.proofs.FirstFile.{first_here, first_on, first_missing}

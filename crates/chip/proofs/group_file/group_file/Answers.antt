@@ -1,5 +1,4 @@
 -- The stretch, cut out.
-use borrow.Author.Rules.{rules}
 use Rattle.chip.proofs.group_file.group_file.Goals as goal
 
 pub returns : goal.returns

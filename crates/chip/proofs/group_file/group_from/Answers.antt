@@ -1,12 +1,7 @@
-use borrow.Author.Rules.{rules}
-use Prim.Native.Nat.{◌-◌}
-use mathlib.Core.Path.{◌≡◌, refl, ap, sym, ◌∙◌}
+use mathlib.Core.Path.{refl, ap, sym, ◌∙◌}
 use native.Mathlib.Omega.{arith}
-use lib.ListN.{length}
 use Rattle.tlv.specs.Element.{taken_of}
 use Rattle.tlv.specs.Tags.{group_of}
-use Rattle.outer.specs.Outer.{files}
-use Rattle.chip.specs.Inner.Found.{or_found}
 use Rattle.outer.proofs.FilesWalked.{file_behind}
 use Rattle.chip.proofs.FirstFile.{found_here, found_on, found_done, found_refused}
 use Rattle.chip.proofs.group_file.group_from.Goals as goal

@@ -1,15 +1,9 @@
 -- What was found and what is left from here have the same first file as the whole; what was not found is empty.
-use borrow.Author.Rules.{rules}
 use Prim.Native.Nat.{◌-◌}
-use mathlib.Core.Path.{◌≡◌, refl, ap, sym, ◌∙◌}
-use native.Mathlib.Omega.{arith}
+use mathlib.Core.Path.{◌≡◌}
 use lib.ListN.{length}
-use Rattle.tlv.specs.Element.{taken_of}
-use Rattle.tlv.specs.Tags.{group_of}
 use Rattle.outer.specs.Outer.{files}
 use Rattle.chip.specs.Inner.Found.{or_found}
-use Rattle.outer.proofs.FilesWalked.{file_behind}
-use Rattle.chip.proofs.FirstFile.{found_here, found_on, found_done, found_refused}
 use Rattle.chip.proofs.group_file.group_from.Given as goal
 
 abbrev pub invariant-loop-at : goal.invariant-loop-at

@@ -1,5 +1,4 @@
 -- What stands before the files, and then the first of the group among these.
-use borrow.Author.Rules.{rules}
 use mathlib.Core.Path.{ap, sym, ◌∙◌}
 use Rattle.outer.specs.Outer.{walked_of}
 use Rattle.chip.proofs.Front.{group_behind, group_without}

@@ -1,5 +1,4 @@
 -- The first file of group 1, and the text inside it.
-use borrow.Author.Rules.{rules}
 use mathlib.Core.Path.{ap, sym, ◌∙◌}
 use lib.ListN.{length}
 use Rattle.tlv.specs.Read.{and_then}

@@ -1,5 +1,4 @@
 -- Stage 3, and the rest where it passes.
-use borrow.Author.Rules.{rules}
 use mathlib.Core.Path.{ap, sym, ◌∙◌}
 use Rattle.tlv.specs.Read.{and_then}
 use Rattle.efcom.specs.EfCom.{common_of}

@@ -1,5 +1,4 @@
 -- Stages 1 and 2, and the rest where they pass.
-use borrow.Author.Rules.{rules}
 use mathlib.Core.Path.{ap, sym, ◌∙◌}
 use Rattle.tlv.specs.Read.{and_then}
 use Rattle.outer.specs.Outer.{walked_of}

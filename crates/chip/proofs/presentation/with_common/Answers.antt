@@ -1,5 +1,4 @@
 -- The table that the code hands on decides as the entries do, behind the check of the versions.
-use borrow.Author.Rules.{rules}
 use mathlib.Core.Path.{ap, sym, ◌∙◌}
 use Rattle.refusal.specs.Outcome.{outcome_of}
 use Rattle.tlv.specs.Cut.{cut}

@@ -1,5 +1,4 @@
 -- By the object's version.
-use borrow.Author.Rules.{rules}
 use Rattle.chip.specs.Versions.{agrees}
 use Rattle.chip.proofs.versions.agrees.Goals as goal
 

@@ -1,5 +1,4 @@
 -- The test, refused at the object's start.
-use borrow.Author.Rules.{rules}
 use Rattle.chip.specs.Versions.{versions_check}
 use Rattle.chip.proofs.versions.versions_check.Goals as goal
 

@@ -1,5 +1,4 @@
 -- Field by field.
-use borrow.Author.Rules.{rules}
 use Rattle.lamphudet_seals.specs.Answer.{fields_in_c}
 use Rattle.lamphudet_seals.proofs.answer.fields_in_c.Goals as goal
 

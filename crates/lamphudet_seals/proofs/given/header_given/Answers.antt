@@ -1,5 +1,4 @@
 -- Field by field.
-use borrow.Author.Rules.{rules}
 use Rattle.lamphudet_seals.specs.Given.{header_given}
 use Rattle.lamphudet_seals.proofs.given.header_given.Goals as goal
 

@@ -1,7 +1,5 @@
-use Prim.Native.Nat.{◌≤◌, ◌-◌}
-use mathlib.Core.Path.{◌≡◌, refl}
+use mathlib.Core.Path.{refl}
 use borrow.Author.Rules.{rules}
-use lib.ListN.{length, drop}
 use Rattle.nightly.specs.Key.{is_below}
 use Rattle.nightly.proofs.Below.{below_more, below_differs, below_shorter, below_end}
 use Rattle.nightly.proofs.key.is_below.Goals as goal

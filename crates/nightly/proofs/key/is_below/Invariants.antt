@@ -1,10 +1,8 @@
 -- What is left from i on decides.
 use Prim.Native.Nat.{◌≤◌, ◌-◌}
-use mathlib.Core.Path.{◌≡◌, refl}
-use borrow.Author.Rules.{rules}
+use mathlib.Core.Path.{◌≡◌}
 use lib.ListN.{length, drop}
 use Rattle.nightly.specs.Key.{is_below}
-use Rattle.nightly.proofs.Below.{below_more, below_differs, below_shorter, below_end}
 use Rattle.nightly.proofs.key.is_below.Given as goal
 
 abbrev pub invariant-loop-i : goal.invariant-loop-i

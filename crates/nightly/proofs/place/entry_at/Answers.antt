@@ -1,6 +1,5 @@
 -- What the run's reader says there, and then the key.
 use mathlib.Core.Path.{ap, sym, ◌∙◌}
-use borrow.Author.Rules.{rules}
 use Rattle.runs.specs.Run.{Standing, standing_of, onward_of}
 use Rattle.nightly.specs.Key.{key_at}
 use Rattle.nightly.proofs.EntryHere.{entry_stands, entry_not_above, entry_none, entry_refused}

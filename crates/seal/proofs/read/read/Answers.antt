@@ -1,5 +1,4 @@
 -- Size, then the header, then what stands behind it.
-use borrow.Author.Rules.{rules}
 use borrow.Author.Tests.{le-leb, lt-leb}
 use Rattle.tlv.specs.Read.{checked}
 use Rattle.seal_header.specs.Header.{header_check, header_of, header_end}

@@ -1,5 +1,4 @@
 -- The blank header and the blank record.
-use borrow.Author.Rules.{rules}
 use Rattle.seal.specs.Seal.{answer_of, answer_by}
 use Rattle.seal.proofs.read.refuse.Goals as goal
 

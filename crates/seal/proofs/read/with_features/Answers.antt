@@ -1,5 +1,4 @@
 -- Feature 02 is there, and is the image of 72 characters.
-use borrow.Author.Rules.{rules}
 use mathlib.Core.Path.{sym, ◌∙◌}
 use borrow.Author.Tests.{eq-eqb, ne_eqb}
 use Rattle.tlv.specs.Read.{checked}

@@ -1,5 +1,4 @@
 -- The features are walked, or the first that is bad is told.
-use borrow.Author.Rules.{rules}
 use Rattle.tlv.specs.Read.{and_then}
 use Rattle.seal.specs.Seal.{with_header}
 use Rattle.seal.proofs.read.with_header.Goals as goal

@@ -1,5 +1,4 @@
 -- The signature, then the text with its fillers.
-use borrow.Author.Rules.{rules}
 use Rattle.tlv.specs.Read.{and_then}
 use Rattle.seal.specs.Seal.{with_image}
 use Rattle.seal.proofs.read.with_image.Goals as goal
@@ -7,11 +6,11 @@ use Rattle.seal.proofs.read.with_image.Goals as goal
 pub returns-in-Value : goal.returns-in-Value
 unfolding with_image and_then
 returns-in-Value c = rw (
-      ← c.signature_at.ensures,
-      c.in-Value.is,
-      ← c.to_fillers.ensures,
-      ← c.read.ensures,
-    )
+  ← c.signature_at.ensures,
+  c.in-Value.is,
+  ← c.to_fillers.ensures,
+  ← c.read.ensures,
+)
     c.with_text.ensures
 
 pub returns-in-Refused : goal.returns-in-Refused

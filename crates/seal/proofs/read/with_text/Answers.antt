@@ -1,5 +1,4 @@
 -- What passed is handed out; a refusal stands at the feature.
-use borrow.Author.Rules.{rules}
 use Rattle.text.specs.Read as text
 use Rattle.tlv.specs.Read.{checked}
 use Rattle.seal.specs.Seal.{answer_of, answer_by, placed, with_text}

@@ -1,12 +1,8 @@
 -- What was copied stands before what the range had.
-use borrow.Author.Rules.{rules}
-use Prim.Native.Nat.{◌≤◌, ◌<◌, ◌-◌}
-use mathlib.Core.Path.{◌≡◌, refl, ◌∙◌}
-use mathlib.Core.Logic.{inl}
+use Prim.Native.Nat.{◌≤◌, ◌-◌}
+use mathlib.Core.Path.{◌≡◌}
 use mathlib.Core.List.{◌++◌}
-use native.Mathlib.Omega.{arith}
 use lib.ListN.{length, take, drop}
-use Rattle.lent.proofs.Lists.{copy_more, copy_ends}
 use Rattle.seal_writing.proofs.parts.copy_all.Given as goal
 
 abbrev pub invariant-loop-i : goal.invariant-loop-i

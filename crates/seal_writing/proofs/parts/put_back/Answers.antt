@@ -1,5 +1,4 @@
 -- Three parts, one behind the other.
-use borrow.Author.Rules.{rules}
 use Rattle.seal_writing.proofs.PartsPut.{back_put}
 use Rattle.seal_writing.proofs.parts.put_back.Goals as goal
 

@@ -1,6 +1,4 @@
 -- The three kinds of length.
-use borrow.Author.Rules.{rules}
-use native.Mathlib.Omega.{arith}
 use Rattle.seal_writing.proofs.PartsPut.{start_short, start_longer, start_longest}
 use Rattle.seal_writing.proofs.parts.put_start.Goals as goal
 

@@ -1,8 +1,7 @@
 -- Its start, and then the signature.
 use borrow.Author.Rules.{rules}
-use Prim.Native.Nat.{◌+◌, ◌≤◌}
-use mathlib.Core.Path.{◌≡◌, sym, ap, ◌∙◌}
-use native.Mathlib.Omega.{arith}
+use Prim.Native.Nat.{◌+◌}
+use mathlib.Core.Path.{◌∙◌}
 use lib.ListN.{length}
 use Rattle.lent.proofs.Lists.{copy_into}
 use Rattle.seal_writing.proofs.PartsPut.{zone_room, zone_put, part_room}

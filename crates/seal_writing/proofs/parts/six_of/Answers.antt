@@ -1,6 +1,6 @@
 -- Four characters and two.
 use borrow.Author.Rules.{rules}
-use Rattle.seal_fields.specs.Hex.{hex_digit, hexadecimal}
+use Rattle.seal_fields.specs.Hex.{hexadecimal}
 use Rattle.seal_writing.proofs.PartsPut.{six_joined}
 use Rattle.seal_writing.proofs.parts.six_of.Goals as goal
 

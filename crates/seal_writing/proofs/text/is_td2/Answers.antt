@@ -1,5 +1,4 @@
 -- The five forms.
-use borrow.Author.Rules.{rules}
 use Rattle.seal_writing.specs.Seal.{is_td2}
 use Rattle.seal_writing.proofs.text.is_td2.Goals as goal
 

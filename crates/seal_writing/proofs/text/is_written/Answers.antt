@@ -1,5 +1,4 @@
 -- The two cases.
-use borrow.Author.Rules.{rules}
 use Rattle.seal_writing.specs.Inner.Fit.{is_written}
 use Rattle.seal_writing.proofs.text.is_written.Goals as goal
 

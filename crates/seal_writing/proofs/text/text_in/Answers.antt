@@ -1,5 +1,4 @@
 -- The writer of texts asks whether the record is sound.
-use borrow.Author.Rules.{rules}
 use mathlib.Core.Path.{sym, ap, ◌∙◌}
 use Rattle.seal_writing.specs.Seal.{is_fit}
 use Rattle.seal_writing.specs.Inner.Fit.{is_written}

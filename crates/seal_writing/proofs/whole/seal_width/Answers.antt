@@ -1,5 +1,4 @@
 -- The parts before the zone, and the zone.
-use borrow.Author.Rules.{rules}
 use native.Mathlib.Omega.{arith}
 use lib.ListN.{length, length-append}
 use Rattle.c40.specs.Field.{octets_for}
