@@ -108,7 +108,8 @@ one_read x y e =
     let same : y - 1 + 1 ≡ y = omega arith in
     rw (eqb-true x 0xFE both.0, same)
 
-two_read : (x y : ℕ) → y < 256 → is_two (values_of (number_of x y)) ≡ true → image_of (two (values_of (number_of x y))) ≡ x ∷ y ∷ []
+two_read : (x y : ℕ) → y < 256 → is_two (values_of (number_of x y)) ≡ true
+    → image_of (two (values_of (number_of x y))) ≡ x ∷ y ∷ []
 unfolding image_of two is_two is_held
 two_read x y h e =
     let v = values_of (number_of x y) in

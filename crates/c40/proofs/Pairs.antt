@@ -10,7 +10,8 @@ use Rattle.c40.specs.Reader.{before, last_pair, read_c40}
 -- pairs of three, and then none, one of two or one of one
 pub data Pairs : List ℕ → List ℕ → Type 0 where
   none : Pairs [] []
-  of_one : (x y : ℕ) → is_three (values_of (number_of x y)) ≡ false → is_two (values_of (number_of x y)) ≡ false → is_one x y ≡ true
+  of_one : (x y : ℕ) → is_three (values_of (number_of x y)) ≡ false → is_two (values_of (number_of x y)) ≡ false
+      → is_one x y ≡ true
       → Pairs (x ∷ y ∷ []) (one y)
   of_two : (x y : ℕ) → is_three (values_of (number_of x y)) ≡ false → is_two (values_of (number_of x y)) ≡ true
       → Pairs (x ∷ y ∷ []) (two (values_of (number_of x y)))

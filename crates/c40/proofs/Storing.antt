@@ -58,7 +58,8 @@ module _ (s : List ℕ) (i : ℕ) where
   unfolding values_at
   values_left = rw (get_or-drop i s 0 0, get_or-drop i s 1 0, add-zero i)
 
-  pub three_from : 3 ≤ length (text_from s i) → (i + 2 ≤ length s) × (text_from s i ≡ three (values_at s i) ++ text_from s (i + 2))
+  pub three_from : 3 ≤ length (text_from s i)
+      → (i + 2 ≤ length s) × (text_from s i ≡ three (values_at s i) ++ text_from s (i + 2))
   unfolding text_from
   three_from h =
       let both = three_left (text_pairs (drop i s) (omega arith)) h in

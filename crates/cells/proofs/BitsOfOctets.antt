@@ -52,7 +52,14 @@ pub number_place_lem : (s : List ℕ) (w k : ℕ) → bits_at s k w ≡ worth w 
 unfolding bits_at worth
 number_place_lem s zero k = refl
 number_place_lem s (suc w) k =
-    rw (bit_place s k, get_or-drop k (bits_of s) 0 0, drop-drop 1 k (bits_of s), number_place_lem s w (suc k), add-one k, add-zero k)
+    rw (
+      bit_place s k,
+      get_or-drop k (bits_of s) 0 0,
+      drop-drop 1 k (bits_of s),
+      number_place_lem s w (suc k),
+      add-one k,
+      add-zero k,
+    )
 
 suc_is : (w : ℕ) → 1 + w ≡ suc w
 suc_is w = omega arith

@@ -60,7 +60,8 @@ row_followed [] vs t u = refl
 row_followed (c ∷ cs) [] t u = refl
 row_followed (c ∷ cs) (v ∷ vs) t u = cell_followed c v (put_row cs vs t) u ∙ ap (put_cell c v) (row_followed cs vs t u)
 
-pub row_bits_lem : (cs : List Cell) (vs : List (List ℕ)) (t : List ℕ) → every is_bit t ≡ true → every is_bit (put_row cs vs t) ≡ true
+pub row_bits_lem : (cs : List Cell) (vs : List (List ℕ)) (t : List ℕ) → every is_bit t ≡ true
+    → every is_bit (put_row cs vs t) ≡ true
 unfolding put_row
 row_bits_lem [] vs t e = e
 row_bits_lem (c ∷ cs) [] t e = e

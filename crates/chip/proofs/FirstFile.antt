@@ -22,7 +22,8 @@ use Rattle.refusal.proofs.Outcomes.{refused_not_passed}
 use Rattle.chip.proofs.FilesByTable.{in_next_lem}
 
 -- what goes on from files that were walked to the end
-pub in_then : {B : Type 0} (m : Read (List File)) (go : List File → Read B) → outcome_in m ≡ passed → and_then m go ≡ go (files_in m)
+pub in_then : {B : Type 0} (m : Read (List File)) (go : List File → Read B) → outcome_in m ≡ passed
+    → and_then m go ≡ go (files_in m)
 unfolding outcome_in and_then files_in
 in_then (value fs) go e = refl
 in_then (refusal n p) go e = absurd (refused_not_passed e)

@@ -38,7 +38,8 @@ by_entries w tags at x table d t =
     let es = x.entries in
     let fs = files_in (files w at) in
     let all = walked_all (files w at) t in
-    let has : (g : ℕ) → g ≤ 16 → get_or table g 0 ≡ digest_for g es = λ g h. ap (λ l. get_or l g 0) d ∙ table_has x g (omega arith) in
+    let has : (g : ℕ) → g ≤ 16
+    → get_or table g 0 ≡ digest_for g es = λ g h. ap (λ l. get_or l g 0) d ∙ table_has x g (omega arith) in
     let same = table_decides w tags table es at fs (ap length d ∙ table_length (value x)) all has in
     ap (λ o. checked o (group_one w fs)) same
     ∙ sym (in_then (files w at) (λ l. checked (files_check w tags [] es l) (group_one w l)) t)

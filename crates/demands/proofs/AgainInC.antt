@@ -38,7 +38,8 @@ module _ (out back : List ℕ) where
       × Leaves e back (in_c (read_answer house (read_again e) back)).value (read_out house (read_again e) back)
 
   module _ (h : ℕ) (r : Record) (house : is_house h ≡ true) (sound : is_sound r ≡ true) where
-    read_as : (in_c (written_answer (entry_of h r) out)).number ≡ 0 → read_again (entry_of h r) ≡ record { outcome = passed; kept = r }
+    read_as : (in_c (written_answer (entry_of h r) out)).number ≡ 0
+        → read_again (entry_of h r) ≡ record { outcome = passed; kept = r }
     read_as e =
         let l = write_text_leaves h r house sound out e in
         rw (l.told, l.in_front, take-append_seam (text_of r) (drop (length (text_of r)) out)) (text_read_back r sound)

@@ -34,7 +34,8 @@ module _ (s : List ℕ) (asked : ℕ) where
   in_detail = detail_in_c (read_detail s asked)
 
   -- the two ways in which an answer is told
-  told_value : (v : Stretch) → read_detail s asked ≡ value v → in_detail ≡ record { answer = not_refused 0; stretch = stretch_in_c v }
+  told_value : (v : Stretch) → read_detail s asked ≡ value v
+      → in_detail ≡ record { answer = not_refused 0; stretch = stretch_in_c v }
   unfolding detail_in_c
   told_value v e = rw e
 
@@ -77,7 +78,8 @@ module _ (s : List ℕ) (asked : ℕ) where
   unfolding detail_in_c stretch_in_c
   detail_in_range = go (read_detail s asked) refl
     where
-      go : (m : Read Stretch) → read_detail s asked ≡ m → (detail_in_c m).stretch.start + (detail_in_c m).stretch.length ≤ length s
+      go : (m : Read Stretch) → read_detail s asked ≡ m
+          → (detail_in_c m).stretch.start + (detail_in_c m).stretch.length ≤ length s
       go (value v) e = let w = detail_within s asked v e in omega (arith, w.forward, w.ends)
       go (refusal k p) e = omega arith
 

@@ -103,6 +103,7 @@ module _ (w : List ℕ) where
       go (refusal k p) e = plain k p (list_told w k p e).0
 
 -- something is accepted: document 01's T3 under the houses 1 and 2
-pub T3-listed : look_over (entry_of 1 (read_text Alone (octets T3)).kept ++ entry_of 2 (read_text Alone (octets T3)).kept) ≡ value 2
+pub T3-listed : look_over (entry_of 1 (read_text Alone (octets T3)).kept ++ entry_of 2 (read_text Alone (octets T3)).kept)
+    ≡ value 2
 unfolding is_house
 T3-listed = two_accepted (read_text Alone (octets T3)).kept T3-sound 1 2 refl refl (omega arith)

@@ -42,7 +42,8 @@ module _ (w : List ℕ) (at : ℕ) where
   unfolding next_in_c
   next_told n some = (λ h. go (read_entry w at).onward refl h.0 h.1, λ e. rw e (refl, refl))
     where
-      go : (o : Onward) → (read_entry w at).onward ≡ o → in_next.number ≡ 0 → in_next.value ≡ n → (read_entry w at).onward ≡ next n
+      go : (o : Onward) → (read_entry w at).onward ≡ o → in_next.number ≡ 0 → in_next.value ≡ n
+          → (read_entry w at).onward ≡ next n
       go none e a b = absurd (some (rw b at (ap (λ (o : Onward). (next_in_c o).value) e)))
       go (refused why p) e a b = absurd (next_not_zero why p e a)
       go (next m) e a b =

@@ -33,7 +33,8 @@ only_digest input out a b r s p q = (length-tells r s (p.answer ∙ sym q.answer
 pub only_reading : (t : List ℕ) (r s : Reading) → answer_of r ≡ read_text Alone t → answer_of s ≡ read_text Alone t → r ≡ s
 only_reading t r s p q = answer_tells r s (p ∙ sym q)
 
-pub only_presentation : (w : List ℕ) (r s : Reading) → answer_of r ≡ read_presentation w → answer_of s ≡ read_presentation w → r ≡ s
+pub only_presentation : (w : List ℕ) (r s : Reading) → answer_of r ≡ read_presentation w → answer_of s ≡ read_presentation w
+    → r ≡ s
 only_presentation w r s p q = answer_tells r s (p ∙ sym q)
 
 -- ---- what writes a text or an entry

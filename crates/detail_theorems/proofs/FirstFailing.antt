@@ -21,7 +21,8 @@ use Rattle.details.specs.Details.{Detail, detail_at, details_from, details, is_l
 use Rattle.text_theorems.specs.Ordered.{FirstFailing}
 use Rattle.text_theorems.proofs.FirstOf.{first_of, first_failing, failing_first}
 use Rattle.row_theorems.specs.Standing.{coded, each}
-use Rattle.row_theorems.proofs.Rows.{under, under_outcome, under_first, last_of, last_passed, goes_on, keep, rows_then, step_known}
+use Rattle.row_theorems.proofs.Rows.{under, under_outcome, under_first, last_of}
+use Rattle.row_theorems.proofs.Rows.{last_passed, goes_on, keep, rows_then, step_known}
 use Rattle.row_theorems.proofs.Rows.{element_row, element_then, coded_within}
 use Rattle.row_theorems.proofs.Places.{places_rows}
 use Rattle.detail_theorems.specs.DetailChecks.{file_here, up_to, list_here, value_here, element_places}

@@ -30,7 +30,8 @@ use Rattle.details.specs.Details.{read_details, value_for, read_detail}
 use Rattle.full_name.specs.declared.From.{From}
 use Rattle.full_name.specs.declared.From.TheVariants.{Nowhere, File, Text}
 use Rattle.full_name.specs.declared.Name.{Name}
-use Rattle.full_name.specs.FullName.{nothing, is_empty, value_in, in_file, name_at, name_by, in_text, full_name, part_of, full_name_part}
+use Rattle.full_name.specs.FullName.{nothing, is_empty, value_in, in_file, name_at}
+use Rattle.full_name.specs.FullName.{name_by, in_text, full_name, part_of, full_name_part}
 use Rattle.detail_theorems.specs.Named.{Named, tags_of, Right, group_octets, stretch_of, given_octets}
 use Rattle.detail_theorems.specs.NameHeld.{HeldInFile}
 use Rattle.detail_theorems.proofs.Acceptance.{read_grouped, detail_told}
@@ -49,7 +50,8 @@ octets_some s v e low =
     let k = leb-false v.to v.from e in
     rw (length-take, length-drop) (omega (arith, k, low))
 
-pub held_in_file : (file name : List ℕ) → HeldInFile file name → (is_empty (in_file file) ≡ false) × (cut file (in_file file) ≡ name)
+pub held_in_file : (file name : List ℕ) → HeldInFile file name
+    → (is_empty (in_file file) ≡ false) × (cut file (in_file file) ≡ name)
 unfolding in_file value_in given_octets
 held_in_file file name h =
     let n : Named = record { tag = full_name_tag; content = name } in

@@ -29,8 +29,10 @@ pub record Examples : Type 0 where
   pub foreign_first : read_detail foreign_behind 0x5F0E ≡ refusal (by 10) 7
 
 pub examples_hold : Examples
-unfolding two_names empty_name none_named named_twice one_more one_missing foreign_behind read_detail value_for given read_details agrees
-    is_list are_named details details_from detail_at tags_in is_detail tag_here asked_as stands_for is_named stands size_of size_at tag_at
+unfolding two_names empty_name none_named named_twice one_more one_missing foreign_behind read_detail value_for given read_details
+    agrees
+    is_list are_named details details_from detail_at tags_in is_detail tag_here asked_as stands_for is_named stands size_of
+    size_at tag_at
     tag_width ends_within sized element cut end_check and_then checked
 examples_hold = record {
   full_name_lem = refl;

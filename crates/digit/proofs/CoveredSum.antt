@@ -165,10 +165,12 @@ covered_parts f =
 
 same_weights : (f : Form)
     → cond (has f composite) (weights_over (covered_parts f) ≡ weights_over (in_turn 0 (pieces f))) Unit
-unfolding weights_over both behind weights_from covered_parts in_turn before pieces piece_of weight width width_in start start_in row
+unfolding weights_over both behind weights_from covered_parts in_turn before pieces piece_of weight width width_in start start_in
+    row
     forms
 same_weights = all_forms
-    (λ f. cond (has f composite) (weights_over (covered_parts f) ≡ weights_over (in_turn 0 (pieces f))) Unit) (search rules depth 9)
+    (λ f. cond (has f composite) (weights_over (covered_parts f) ≡ weights_over (in_turn 0 (pieces f))) Unit)
+    (search rules depth 9)
 
 -- one character
 sum_first : (place : ℕ) (t : List ℕ) → sum_from place (take 1 t) ≡ value (get_or t 0 0) * weight place

@@ -9,12 +9,14 @@ use Rattle.digit_theorems.specs.Pairs.{pair_of, pair_at, is_undetected, undetect
 use Rattle.digit_theorems.specs.Printed.{pairs_in, pairs_of, one_place_pairs, neighbour_pairs}
 
 pub one_place_printed : undetected 10 ≡ pairs_of one_place_pairs
-unfolding undetected undetected_from is_undetected pair_at value character_of is_digit is_letter pairs_of pairs_in pair_of octets code_of
+unfolding undetected undetected_from is_undetected pair_at value character_of is_digit is_letter pairs_of pairs_in pair_of octets
+    code_of
     one_place_pairs
 one_place_printed = refl
 
 pub neighbours_printed : undetected 5 ≡ pairs_of neighbour_pairs
-unfolding undetected undetected_from is_undetected pair_at value character_of is_digit is_letter pairs_of pairs_in pair_of octets code_of
+unfolding undetected undetected_from is_undetected pair_at value character_of is_digit is_letter pairs_of pairs_in pair_of octets
+    code_of
     neighbour_pairs
 neighbours_printed = refl
 

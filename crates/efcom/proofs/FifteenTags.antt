@@ -44,7 +44,8 @@ unfolding known_from once_from
 tags_left p q [] before k o = omega arith
 tags_left p q (c ∷ t) before k o = go (is_group c) refl (stands c before) refl k o (tags_left (suc p) (suc q) t (c ∷ before))
   where
-    go : (a : Bool) → is_group c ≡ a → (b : Bool) → stands c before ≡ b → cond a (known_from (suc p) t) (refused (by 11) p) ≡ passed
+    go : (a : Bool) → is_group c ≡ a → (b : Bool) → stands c before ≡ b
+        → cond a (known_from (suc p) t) (refused (by 11) p) ≡ passed
         → cond b (refused (by 11) q) (once_from (suc q) (c ∷ before) t) ≡ passed
         → (known_from (suc p) t ≡ passed → once_from (suc q) (c ∷ before) t ≡ passed → length t ≤ left group_tags (c ∷ before))
         → suc (length t) ≤ left group_tags before

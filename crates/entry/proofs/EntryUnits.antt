@@ -32,7 +32,8 @@ use Rattle.entry.specs.Codes.{form_code, sex_code}
 use Rattle.entry.specs.Row.{row, cells}
 use Rattle.entry.specs.Entry.{said, values, entry_of, size, is_house}
 use Rattle.packing.specs.Packed.{on, packed, packed_over, packed_on_over}
-use Rattle.entry.specs.Inner.Units.{front_octets, front_fours, front_units, rest_units, all_units, all_octets, rest_fours, size_by}
+use Rattle.entry.specs.Inner.Units.{front_octets, front_fours, front_units, rest_units}
+use Rattle.entry.specs.Inner.Units.{all_units, all_octets, rest_fours, size_by}
 use Rattle.entry.specs.Inner.Units.{before, front, spare, rest, units_of}
 use Rattle.entry.proofs.Coded.{codes_held}
 use Rattle.zone.proofs.FormTold.{entered_tells}

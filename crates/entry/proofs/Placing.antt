@@ -20,7 +20,8 @@ use Rattle.entry.specs.Inner.Units.{unit_of, gap, front_units, all_units, before
 use Rattle.entry.specs.Inner.Units.{placed, placed_key, placed_after_key, placed_rest}
 
 -- one field more, behind what ends at its place
-onto : (at : ℕ) {x : List ℕ} (a b : List ℕ) → x ≡ padded all_units a → length a ≡ at → copied_at x at b ≡ padded all_units (a ++ b)
+onto : (at : ℕ) {x : List ℕ} (a b : List ℕ) → x ≡ padded all_units a → length a ≡ at
+    → copied_at x at b ≡ padded all_units (a ++ b)
 onto at a b p e = rw (p, ← e) (copied_behind all_units a b)
 
 begin : replicate all_units filler ≡ padded all_units (replicate (unit_of text.state) filler)

@@ -28,7 +28,8 @@ use Rattle.zone.proofs.Every.{every_each}
 use Rattle.zone.proofs.Holding.{each_plain}
 use Rattle.zone.proofs.Classes.{digit_in, either_in, filler_in, letter_in}
 
-two : (s : List ℕ) → length s ≡ 2 → is_character (get_or s 0 0) ≡ true → is_character (get_or s 1 0) ≡ true → every is_character s ≡ true
+two : (s : List ℕ) → length s ≡ 2 → is_character (get_or s 0 0) ≡ true → is_character (get_or s 1 0) ≡ true
+    → every is_character s ≡ true
 two s e a b = every_each is_character s go
   where
     go : (i : ℕ) → i < length s → is_character (get_or s i 0) ≡ true
@@ -101,7 +102,8 @@ visa_pure s l e =
     let both = and_both (eqb a (code "V")) (is_letter b || is_filler b) e in
     two s l (one_of a (code "V") refl both.0) (either_in b both.1)
 
-kind_pure : (k : Kind) (s : List ℕ) → length s ≡ 2 → kind_rule k (get_or s 0 0) (get_or s 1 0) ≡ true → every is_character s ≡ true
+kind_pure : (k : Kind) (s : List ℕ) → length s ≡ 2 → kind_rule k (get_or s 0 0) (get_or s 1 0) ≡ true
+    → every is_character s ≡ true
 unfolding kind_rule
 kind_pure Card s l e = card_pure s l e
 kind_pure Passport s l e = passport_pure s l e
@@ -152,7 +154,8 @@ pair_pure rule none a b e = go (is_digit a) refl (is_digit b) refl (is_filler a 
 pub birth_pure : (s : List ℕ) → length s ≡ 6 → birth_rule s ≡ true → every is_character s ≡ true
 unfolding birth_rule year_rule month_rule day_rule year_of month_of day_of
 birth_pure s l e =
-    let both = and_both (year_rule (year_of s)) (month_rule (month_of s) && day_rule (days_in (year_of s) (month_of s)) (day_of s)) e in
+    let both = and_both (year_rule (year_of s))
+    (month_rule (month_of s) && day_rule (days_in (year_of s) (month_of s)) (day_of s)) e in
     let more = and_both (month_rule (month_of s)) (day_rule (days_in (year_of s) (month_of s)) (day_of s)) both.1 in
     each
     (pair_pure year_rule refl (get_or s 0 0) (get_or s 1 0) both.0)

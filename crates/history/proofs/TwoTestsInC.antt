@@ -10,7 +10,8 @@ use Rattle.history.proofs.TwoTests.{presentation_same}
 
 module _ (house : ℕ) (w entry : List ℕ) where
   -- the answer of `lamphudet_read_presentation`
-  pub call_same : in_c (read_answer house (read_presentation w) entry) ≡ in_c (read_answer house (tested.read_presentation w) entry)
+  pub call_same : in_c (read_answer house (read_presentation w) entry)
+      ≡ in_c (read_answer house (tested.read_presentation w) entry)
   call_same = rw (presentation_same w)
 
   -- and what it leaves in the lent range

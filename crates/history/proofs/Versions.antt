@@ -232,7 +232,8 @@ module _ (w : List ℕ) (o : Stretch) where
       go true place e = absurd (one_said w in_object place c x.version e old agree)
 
   -- where its version is not 1
-  object_same : eqb (number_at (stretch_at in_object o.from Tag.integer)) 1 ≡ false → read_object both w o ≡ read_object former w o
+  object_same : eqb (number_at (stretch_at in_object o.from Tag.integer)) 1 ≡ false
+      → read_object both w o ≡ read_object former w o
   unfolding read_object object.from_version
   object_same other = then_same (element in_object o.from Tag.integer) (then_algorithm both) (then_algorithm former) (λ v h.
       ap (λ (b : Bool). checked (unless b 12 o.from) (from_algorithm (eqb (number_at v) 1) in_object v.to))

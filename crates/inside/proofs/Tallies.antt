@@ -94,13 +94,15 @@ module _ (s : List ℕ) where
         let found = go (eqb times 0) refl o.so_first (ap (λ (l : List ℕ). get_or l 0 0) none) in
         rw (← many, ← found)
       where
-        go : (b : Bool) → eqb times 0 ≡ b → cond b (get_or (left at) 0 0) first ≡ get_or (left start) 0 0 → get_or (left at) 0 0 ≡ 0
+        go : (b : Bool) → eqb times 0 ≡ b → cond b (get_or (left at) 0 0) first ≡ get_or (left start) 0 0
+            → get_or (left at) 0 0 ≡ 0
             → first ≡ get_or (left start) 0 0
         go true e q z = o.none_yet (eqb-true times 0 e) ∙ (sym z ∙ q)
         go false e q z = q
 
     -- the first of them stands within, or there is none
-    first_from : (k at : ℕ) → get_or (with_tag s tag (places_from (λ (p : ℕ). (value_here s p).to) (length s) k at)) 0 0 ≤ length s
+    first_from : (k at : ℕ)
+        → get_or (with_tag s tag (places_from (λ (p : ℕ). (value_here s p).to) (length s) k at)) 0 0 ≤ length s
     unfolding places_from with_tag
     first_from zero at = omega arith
     first_from (suc k) at =

@@ -1,4 +1,5 @@
--- THE FIRST FAILING CHECK: a file is refused by a number at a place exactly where the first row of `inside_checks` that fails says
+-- THE FIRST FAILING CHECK: a file is refused by a number at a place exactly where the first row of `inside_checks` that fails
+-- says
 -- so (`inside-refused-exactly`).
 use Prim.Native.Nat.{ℕ, zero, suc, ◌+◌, ◌≤◌, ◌<◌}
 use mathlib.Core.Path.{◌≡◌, refl, ap, sym, ◌∙◌}
@@ -25,7 +26,8 @@ use Rattle.tree.specs.Tree as forests
 use Rattle.tree.specs.Reading.{Found, here, forest, inside, tree_at}
 use Rattle.tree.proofs.Bounds.{tree_bound}
 use Rattle.tree.proofs.Walking.{before, forest_done, forest_next, forest_refused}
-use Rattle.inside.specs.Templates.{template, value_here, directly, with_tag, count_holds, first_group, templates_check, count_check}
+use Rattle.inside.specs.Templates.{template, value_here, directly, with_tag}
+use Rattle.inside.specs.Templates.{count_holds, first_group, templates_check, count_check}
 use Rattle.inside.specs.Inside.{group_here, as_one, file_tree, behind_file, look_inside}
 use Rattle.inside.specs.Inside as file
 use Rattle.inside.proofs.Tags.{tag_one}
@@ -55,7 +57,8 @@ value_passed m a e = rw e
 -- a rule of five parts is five rows
 five_rows : (a b c d e : Bool) (n p : ℕ)
     → unless (a && (b && (c && (d && e)))) n p
-    ≡ or_else (unless a n p) (or_else (unless b n p) (or_else (unless c n p) (or_else (unless d n p) (or_else (unless e n p) passed))))
+    ≡ or_else (unless a n p)
+    (or_else (unless b n p) (or_else (unless c n p) (or_else (unless d n p) (or_else (unless e n p) passed))))
 five_rows false b c d e n p = refl
 five_rows true false c d e n p = refl
 five_rows true true false d e n p = refl

@@ -26,7 +26,8 @@ pub record Examples : Type 0 where
 pub examples_hold : Examples
 unfolding face count_of_none eight_deep nine_deep own_inside look_inside inside file_tree as_one behind_file group_here value_here
     directly with_tag count_holds first_group templates_check count_check here forest_from forest tree_at tree.inside elements
-    is_constructed has_second is_second tag_here is_tag_here size_of size_at tag_at tag_width ends_within sized element cut end_check
+    is_constructed has_second is_second tag_here is_tag_here size_of size_at tag_at tag_width ends_within sized element cut
+    end_check
     stretch_by stretch_at places_from places group_of is_group and_then checked
 examples_hold = record {
   face_accepted = refl;

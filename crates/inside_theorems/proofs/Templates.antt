@@ -15,7 +15,8 @@ use Rattle.tlv.specs.Read.{value}
 use Rattle.tree.specs.Tag.{is_constructed, first_octet}
 use Rattle.tree.specs.Tree.{Tree, one, holds, Forest, empty, more, Formed}
 use Rattle.tree.specs.Reading.{forest, tree_at}
-use Rattle.inside.specs.Templates.{template_group, template, value_here, directly, with_tag, count_holds, first_group, templates_check}
+use Rattle.inside.specs.Templates.{template_group, template, value_here, directly}
+use Rattle.inside.specs.Templates.{with_tag, count_holds, first_group, templates_check}
 use Rattle.inside_theorems.specs.Whole.{tag_of, times_in, from_first, CountRight}
 use Rattle.inside_theorems.proofs.TreeRead.{Small, small_take, tree_reads}
 use Rattle.inside_theorems.proofs.Views.{Held, tree_held, never_empty, same_first}

@@ -1,7 +1,8 @@
 -- The checks of a group's file one after the other, a row for each sentence that can refuse: document 02, request 2026-10, whose
 -- words are those in quotes. Which of them a refusal names is `FirstFailing` (text_theorems). Every row is said of the octets;
 -- where one fails, those behind it decide nothing.
-use Rattle.std.specs.Prelude.{ℕ, zero, suc, ◌+◌, false, cond, not, ◌&&◌, ◌||◌, List, [], ◌∷◌, ◌++◌, eqb, leb, length, take, get_or}
+use Rattle.std.specs.Prelude.{ℕ, zero, suc, ◌+◌, false, cond, not, ◌&&◌, ◌||◌}
+use Rattle.std.specs.Prelude.{List, [], ◌∷◌, ◌++◌, eqb, leb, length, take, get_or}
 use Rattle.refusal.specs.Outcome.{Outcome, unless}
 use Rattle.tlv.specs.Tags.{is_group}
 use Rattle.tree.specs.Tag.{is_constructed, tag_here, is_tag_here}
@@ -25,7 +26,8 @@ unfoldable pub element_checks : (depth : ℕ) → List ℕ → ℕ → List Outc
 element_checks zero s at = head_checks s at ++ (unless false 21 at ∷ [])
 element_checks (suc d) s at =
     head_checks s at
-    ++ cond (is_constructed (get_or s at 0)) (each (element_checks d (up_to s at)) (directly (up_to s at) (value_here s at).from)) []
+    ++ cond (is_constructed (get_or s at 0))
+    (each (element_checks d (up_to s at)) (directly (up_to s at) (value_here s at).from)) []
 
 -- "(group 13, whose inside is the State's own, counts as one element)"
 unfoldable pub tree_checks : List ℕ → List Outcome

@@ -34,7 +34,8 @@ header_given h = record {
 -- 18, then what the writer answers of the entry's record; its house is no part of a seal
 unfoldable pub written_answer : (entry : List ℕ) → HeaderInC → (signature out : List ℕ) → Length
 written_answer e h g out =
-    cond (is_only (read_entry e 0).onward (length e)) (seal_answer (header_given h) (read_entry e 0).kept g out) (refused (by 18) 0)
+    cond (is_only (read_entry e 0).onward (length e)) (seal_answer (header_given h) (read_entry e 0).kept g out)
+    (refused (by 18) 0)
 
 unfoldable pub written_out : (entry : List ℕ) → HeaderInC → (signature out : List ℕ) → List ℕ
 written_out e h g out =

@@ -10,7 +10,8 @@ use lib.Seq.{take_all, take-suc-set, drop-set-lt, drop-cons, append_snoc}
 module _ (f : ℕ → ℕ) (s : List ℕ) (i : ℕ) where
   -- what is stored at i is what the rest would hold there
   pub map_step : i < length s
-      → take (i + 1) (set s i (f (get_or s i 0))) ++ map f (drop (i + 1) (set s i (f (get_or s i 0)))) ≡ take i s ++ map f (drop i s)
+      → take (i + 1) (set s i (f (get_or s i 0))) ++ map f (drop (i + 1) (set s i (f (get_or s i 0)))) ≡ take i s
+      ++ map f (drop i s)
   map_step h =
       let c = f (get_or s i 0) in
       rw (add-one i, take-suc-set s i c h, drop-set-lt (suc i) s i c (omega arith), drop-cons s i 0 h)

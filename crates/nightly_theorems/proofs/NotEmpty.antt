@@ -43,7 +43,8 @@ second_refused l m k j below =
     (sym (append-nil (octets_of m))) (rw below) in
     rw (append-nil (octets_of l)) at e
 
-module _ (r : Record) (sound : is_sound r ≡ true) (h k : ℕ) (house : is_house h ≡ true) (house' : is_house k ≡ true) (less : h < k)
+module _ (r : Record) (sound : is_sound r ≡ true) (h k : ℕ) (house : is_house h ≡ true) (house' : is_house k ≡ true)
+    (less : h < k)
   where
     lower : Line
     lower = record { house = h; kept = r }

@@ -64,7 +64,8 @@ module _ (w : List ℕ) (at : ℕ) (l : Line) (kept : is_kept l ≡ true) (rest 
 
     pub behind_it : drop (at + length (octets_of l)) w ≡ rest
     behind_it =
-        sym (drop-drop (length (octets_of l)) at w) ∙ (ap (drop (length (octets_of l))) there ∙ drop-append_seam (octets_of l) rest)
+        sym (drop-drop (length (octets_of l)) at w)
+        ∙ (ap (drop (length (octets_of l))) there ∙ drop-append_seam (octets_of l) rest)
 
     pub line_read : (key : List ℕ) → is_below key (key_in l) ≡ true → entry_at w key at ≡ value (place_of at l)
     line_read key above =
@@ -170,7 +171,8 @@ module _ (w : List ℕ) (small : AreOctets w) (k : ℕ)
           let read = line_read w at l kept (drop (at + length (octets_of l)) w) there key above in
           let next = from_next w key at here k (place_of at l) read in
           let on = rest (key_in l) (at + length (octets_of l)) within (omega (arith, enough, some)) in
-          rw (next, key_there l kept w at (drop (at + length (octets_of l)) w) there) (one_more_lem w key at l kept above there on)
+          rw (next, key_there l kept w at (drop (at + length (octets_of l)) w) there)
+          (one_more_lem w key at l kept above there on)
       go false below =
           let read = line_below w at l kept (drop (at + length (octets_of l)) w) there key below in
           rw (from_refused w key at here k (by 23) at read)

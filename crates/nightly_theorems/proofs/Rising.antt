@@ -64,7 +64,9 @@ rises_more key [] l = go (is_below key (key_in l))
     go false = refl
 rises_more key (m ∷ ls) l = go (is_below key (key_in m)) (rises_more (key_in m) ls l)
   where
-    go : (b : Bool) → rises_from (key_in m) (ls ++ (l ∷ [])) ≡ rises_from (key_in m) ls && is_below (last_key (key_in m) ls) (key_in l)
-        → b && rises_from (key_in m) (ls ++ (l ∷ [])) ≡ (b && rises_from (key_in m) ls) && is_below (last_key (key_in m) ls) (key_in l)
+    go : (b : Bool) → rises_from (key_in m) (ls ++ (l ∷ [])) ≡ rises_from (key_in m) ls
+        && is_below (last_key (key_in m) ls) (key_in l)
+        → b && rises_from (key_in m) (ls ++ (l ∷ [])) ≡ (b && rises_from (key_in m) ls)
+        && is_below (last_key (key_in m) ls) (key_in l)
     go true e = e
     go false e = refl

@@ -283,7 +283,8 @@ said_with : List GroupHash → Version → Read Said
 said_with es x = value (record { entries = es; version = x })
 
 told_checked : (a : Outcome) (b : Read Version) (es : List GroupHash)
-    → object_answer (checked a (and_then b (said_with es))) ≡ settled (or_else a (outcome_in b)) (digests_from 17 0 es) (version_in b)
+    → object_answer (checked a (and_then b (said_with es)))
+    ≡ settled (or_else a (outcome_in b)) (digests_from 17 0 es) (version_in b)
 unfolding object_answer checked and_then settled table_of said_version outcome_in version_in said_with
 told_checked passed (value x) es = refl
 told_checked passed (refusal n p) es = refl
@@ -296,7 +297,8 @@ else_else (refused n p) b c = refl
 list_told : (x : Read (List GroupHash)) (at : ℕ) (rest : Read Version) (y : Read Seen)
     → ((es : List GroupHash) → x ≡ value es → AllSound es)
     → and_then x (λ es. value (tallied none es)) ≡ y
-    → settled (or_else (outcome_in y) (or_else (seen_check (seen_in y) at) (outcome_in rest))) (seen_in y).digests (version_in rest)
+    → settled (or_else (outcome_in y) (or_else (seen_check (seen_in y) at) (outcome_in rest))) (seen_in y).digests
+    (version_in rest)
     ≡ object_answer (and_then x (λ es. checked (entries_check es at) (and_then rest (said_with es))))
 unfolding and_then outcome_in seen_in settled object_answer table_of said_version
 list_told (value es) at rest y sound e =

@@ -1,7 +1,8 @@
 -- Stage 4, the security object (source document 000, 5.2; DER): version integer 0 or (document 02, 2026-04) 1;
 -- AlgorithmIdentifier of SHA-256, else 13; a sequence of entries, else 12 at the bad element; of version 1 a sequence of two
 -- strings.
-use Rattle.std.specs.Prelude.{ℕ, zero, suc, Bool, true, false, cond, ◌&&◌, ◌||◌, List, [], ◌∷◌, ◌++◌, eqb, leb, length, take, get_or}
+use Rattle.std.specs.Prelude.{ℕ, zero, suc, Bool, true, false, cond, ◌&&◌, ◌||◌}
+use Rattle.std.specs.Prelude.{List, [], ◌∷◌, ◌++◌, eqb, leb, length, take, get_or}
 use Rattle.refusal.specs.Numbers.{by}
 use Rattle.refusal.specs.Outcome.{Outcome, passed, refused, unless, or_else}
 use Rattle.tlv.specs.declared.Stretch.{Stretch}

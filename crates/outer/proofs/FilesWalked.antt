@@ -80,7 +80,8 @@ unfolding files
 files_next w at v h e =
     files_enough (length w) (suc (length w)) w at (omega arith) (omega arith) ∙ files_more w at h (suc (length w)) v e
 
-pub files_refused : (w : List ℕ) (at : ℕ) (n : Why) (p : ℕ) → at < length w → file_at w at ≡ refusal n p → files w at ≡ refusal n p
+pub files_refused : (w : List ℕ) (at : ℕ) (n : Why) (p : ℕ) → at < length w → file_at w at ≡ refusal n p
+    → files w at ≡ refusal n p
 unfolding files
 files_refused w at n p h e =
     files_enough (length w) (suc (length w)) w at (omega arith) (omega arith) ∙ files_stop w at h (suc (length w)) n p e

@@ -15,7 +15,8 @@ use Rattle.lent.specs.Octets.{stands}
 use Rattle.tlv.specs.Tags.{is_group}
 use Rattle.object.specs.Object.{sha256_name}
 use Rattle.presentation_theorems.specs.Presented.{Signed, Lent, Contents, lds_of, common_inside, common_of, signed_of}
-use Rattle.presentation_theorems.specs.Presented.{algorithm_of, strings_of, object_inside, object_of, file_of, all_lent, octets_of}
+use Rattle.presentation_theorems.specs.Presented.{algorithm_of, strings_of, object_inside}
+use Rattle.presentation_theorems.specs.Presented.{object_of, file_of, all_lent, octets_of}
 use Rattle.presentation_theorems.specs.Presented.{all_signed, IsIn, is_once, tags_of, Presented}
 use Rattle.presentation_theorems.proofs.GroupFiles.{group_below}
 use Rattle.presentation_theorems.proofs.GroupOne.{in_tags}
@@ -97,7 +98,8 @@ unfolding object_inside
 object_tells m n a b xs ys l k u v most e =
     let p = tlv 0x30 (all_signed xs) ++ strings_of m l u in
     let q = tlv 0x30 (all_signed ys) ++ strings_of n k v in
-    let x = split 2 (cond m 1 0 ∷ []) (cond n 1 0 ∷ []) (tlv 0x30 (algorithm_of a) ++ p) (tlv 0x30 (algorithm_of b) ++ q) most e in
+    let x = split 2 (cond m 1 0 ∷ []) (cond n 1 0 ∷ []) (tlv 0x30 (algorithm_of a) ++ p)
+    (tlv 0x30 (algorithm_of b) ++ q) most e in
     let y = split 0x30 (algorithm_of a) (algorithm_of b) p q x.rest_fits x.same_rest in
     let z = split 0x30 (all_signed xs) (all_signed ys) (strings_of m l u) (strings_of n k v) y.rest_fits y.same_rest in
     (algorithm_tells a b y.same_content, signed_tells xs ys z.content_fits z.same_content)

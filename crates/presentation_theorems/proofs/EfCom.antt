@@ -18,7 +18,8 @@ use Rattle.tlv.proofs.Encoded.{Stands, inside}
 use Rattle.tlv.specs.Cut.{cut, has_octets, end_check}
 use Rattle.lent.specs.Octets.{alike, stands}
 use Rattle.tlv.specs.Tags.{is_group}
-use Rattle.efcom.specs.EfCom.{known_from, once_from, tags_check, from_tag_list, is_unicode, from_unicode, is_version, from_version}
+use Rattle.efcom.specs.EfCom.{known_from, once_from, tags_check, from_tag_list}
+use Rattle.efcom.specs.EfCom.{is_unicode, from_unicode, is_version, from_version}
 use Rattle.efcom.specs.EfCom.{read_ef_com}
 use Rattle.efcom.specs.declared.Common.{Common}
 use Rattle.tlv.specs.Versions.{both, lds17, lds18}

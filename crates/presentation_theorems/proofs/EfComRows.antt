@@ -13,7 +13,8 @@ use Rattle.tlv.specs.Tags.{is_group}
 use Rattle.tlv.specs.Tags as Tag
 use Rattle.tlv.specs.Versions.{both, lds17, lds18}
 use Rattle.efcom.specs.declared.Common.{Common}
-use Rattle.efcom.specs.EfCom.{known_from, once_from, tags_check, from_tag_list, is_unicode, from_unicode, is_version, from_version}
+use Rattle.efcom.specs.EfCom.{known_from, once_from, tags_check, from_tag_list}
+use Rattle.efcom.specs.EfCom.{is_unicode, from_unicode, is_version, from_version}
 use Rattle.text_theorems.proofs.FirstOf.{first_of}
 use Rattle.tlv.specs.Places.{stretch_at}
 use Rattle.row_theorems.specs.Standing.{coded}
@@ -28,7 +29,8 @@ known_rows : (place : ℕ) (l : List ℕ) → known_from place l ≡ first_of (k
 unfolding known_from known_checks first_of
 known_rows place [] = refl
 known_rows place (c ∷ l) =
-    goes_on (is_group c) 11 place (known_from (suc place) l) ∙ ap (or_else (unless (is_group c) 11 place)) (known_rows (suc place) l)
+    goes_on (is_group c) 11 place (known_from (suc place) l)
+    ∙ ap (or_else (unless (is_group c) 11 place)) (known_rows (suc place) l)
 
 once_rows : (place : ℕ) (before l : List ℕ) → once_from place before l ≡ first_of (once_checks place before l)
 unfolding once_from once_checks first_of

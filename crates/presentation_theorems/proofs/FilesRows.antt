@@ -39,7 +39,8 @@ file_rows w at =
     go false e = refl
 
 file_ends : (w : List ℕ) (at : ℕ) → first_of (group_checks w at) ≡ passed
-    → (at < (lent_file w at).held.to) × ((lent_file w at).held.to ≤ length w) × ((lent_file w at).held.to ≡ (lent_file w at).held.to)
+    → (at < (lent_file w at).held.to) × ((lent_file w at).held.to ≤ length w)
+    × ((lent_file w at).held.to ≡ (lent_file w at).held.to)
 unfolding group_checks lent_file last_of
 file_ends w at e =
     let within = coded_within w at (get_or w at 0) (last_passed (group_checks w at) e) in

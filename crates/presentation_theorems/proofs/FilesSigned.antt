@@ -103,7 +103,8 @@ module _ (w tags : List ℕ) (es : List GroupHash) where
       let same : sha256 (file_octets w f)
       ≡ take 32 (drop (digest_for g es) w) = alike_same (sha256 (file_octets w f)) (take 32 (drop (digest_for g es) w))
       (unless_kept two 15 f.start a.1) in
-      let digest : take 32 (drop (digest_for g es) w) ≡ sha256 (file_of (lent_at w f)) = sym same ∙ ap sha256 (whole_file w f h) in
+      let digest : take 32 (drop (digest_for g es) w) ≡ sha256 (file_of (lent_at w f)) = sym same
+      ∙ ap sha256 (whole_file w f h) in
       let signed = subst (λ (d : List ℕ). IsIn (record { number = g; digest = d }) (signed_in w es)) digest
       (digest_in w g es c.1) in
       (record { is_listed = b.0; is_signed = signed }, not-true (stands t before) c.0)
@@ -119,7 +120,8 @@ module _ (w tags : List ℕ) (es : List GroupHash) where
       let same : sha256 (file_octets w f) ≡ take 32 (drop (digest_for g es) w) = ap sha256 (whole_file w f h) ∙ sym d.1 in
       let expected : is_expected tags before es t
       ≡ true = both_and b.is_listed (both_and (not_so (stands t before) new) d.0) in
-      let digested : is_digested w es f t ≡ true = same_alike (sha256 (file_octets w f)) (take 32 (drop (digest_for g es) w)) same in
+      let digested : is_digested w es f t ≡ true =
+      same_alike (sha256 (file_octets w f)) (take 32 (drop (digest_for g es) w)) same in
       rw (kept_unless (is_expected tags before es t) 14 f.start expected)
       (kept_unless (is_digested w es f t) 15 f.start digested)
 
@@ -137,7 +139,8 @@ module _ (w tags : List ℕ) (es : List GroupHash) where
             rest.1,
       )
 
-  pub backed_files : (n : ℕ) → held_in n es ≡ true → is_once (numbers (signed_in w es)) ≡ true → (before : List ℕ) (fs : List File)
+  pub backed_files : (n : ℕ) → held_in n es ≡ true → is_once (numbers (signed_in w es)) ≡ true
+      → (before : List ℕ) (fs : List File)
       → EachStands w fs
       → once_after before (tags_of (lent_in w fs)) ≡ true → EachBacked tags (signed_in w es) (lent_in w fs)
       → files_check w tags before es fs ≡ passed

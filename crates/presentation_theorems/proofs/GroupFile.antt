@@ -278,7 +278,8 @@ group_refused w g small h = go (walked w) (λ o e. let a = (walked_exactly w sma
     go (refusal n p) k = refl
 
 -- DEMAND 1: whatever was lent, the stretch starts before it ends, and ends no further than what was lent
-pub group_within : (w : List ℕ) (g : ℕ) → ((group_stretch w g).from ≤ (group_stretch w g).to) × ((group_stretch w g).to ≤ length w)
+pub group_within : (w : List ℕ) (g : ℕ)
+    → ((group_stretch w g).from ≤ (group_stretch w g).to) × ((group_stretch w g).to ≤ length w)
 unfolding group_stretch file_or_none files
 group_within w g = go (and_then (walked w) (λ o. and_then (files w o.object.to) (λ fs. first_file w g fs))) refl
   where

@@ -106,7 +106,8 @@ module _ (w : List ℕ) (at : ℕ) where
         files_stand = one_stands w f fs h rest.files_stand;
       }
 
-  pub behind_file_lem : (held : Stretch) → FileStands w (record { start = at; held = held }) → (at < held.to) × (held.to ≤ length w)
+  pub behind_file_lem : (held : Stretch) → FileStands w (record { start = at; held = held })
+      → (at < held.to) × (held.to ≤ length w)
   unfolding FileStands
   behind_file_lem held h =
       let p = place_behind w at (get_or w at 0) (cut w held) (drop held.to w) held h in

@@ -54,7 +54,8 @@ text_rows s at =
 -- ---- the file
 
 one_row : (w ps : List ℕ) → first_file w 1 (map (lent_file w) ps)
-    ≡ checked (unless (stands Tag.group1 (map (λ at. get_or w at 0) ps)) 14 (length w)) (value (lent_file w (group_one_place w ps)))
+    ≡ checked (unless (stands Tag.group1 (map (λ at. get_or w at 0) ps)) 14 (length w))
+    (value (lent_file w (group_one_place w ps)))
 unfolding first_file group_one_place lent_file stands checked
 one_row w [] = refl
 one_row w (at ∷ ps) =
@@ -66,7 +67,8 @@ one_row w (at ∷ ps) =
     some qs = stands Tag.group1 (map (λ q. get_or w q 0) qs)
 
     go : (b : Bool)
-        → first_file w 1 (map (lent_file w) ps) ≡ checked (unless (some ps) 14 (length w)) (value (lent_file w (group_one_place w ps)))
+        → first_file w 1 (map (lent_file w) ps)
+        ≡ checked (unless (some ps) 14 (length w)) (value (lent_file w (group_one_place w ps)))
         → cond b (value (lent_file w at)) (first_file w 1 (map (lent_file w) ps))
         ≡ checked (unless (b || some ps) 14 (length w)) (value (lent_file w (cond b at (group_one_place w ps))))
     go true e = refl

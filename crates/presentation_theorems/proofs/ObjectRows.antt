@@ -20,7 +20,8 @@ use Rattle.object.specs.declared.strings.Strings.{Strings}
 use Rattle.object.specs.declared.strings.Version.{Version}
 use Rattle.object.specs.declared.strings.Version.TheVariants.{One}
 use Rattle.object.specs.Object.{GroupHash, is_group_number, digest_at, number_at, entry_at, entries_from, entries, numbers_once}
-use Rattle.object.specs.Object.{Said, entries_check, strings_at, sequence_at, version_at, from_entry_list, is_sha256, from_algorithm}
+use Rattle.object.specs.Object.{Said, entries_check, strings_at, sequence_at}
+use Rattle.object.specs.Object.{version_at, from_entry_list, is_sha256, from_algorithm}
 use Rattle.object.specs.Object.{is_version, from_version}
 use Rattle.text_theorems.proofs.FirstOf.{first_of}
 use Rattle.tlv.specs.Places.{stretch_at}
@@ -39,7 +40,8 @@ use Rattle.row_theorems.proofs.Places.{places_rows}
 
 entry_rows : (s : List ℕ) (at : ℕ) → entry_at s at ≡ under (entry_checks s at) (value (group_hash s at))
 unfolding
-    entry_at number_at is_group_number digest_at entry_checks sequence_bytes number_place number_stretch digest_stretch group_hash under
+    entry_at number_at is_group_number digest_at entry_checks sequence_bytes number_place number_stretch digest_stretch group_hash
+    under
 entry_rows s at =
     let v = stretch_at s at Tag.sequence in
     let e = take v.to s in

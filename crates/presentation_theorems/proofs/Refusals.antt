@@ -228,7 +228,8 @@ module _ (P : Why → ℕ → Type 0) (last : ℕ)
       (λ t e. each_value P _)
 
   object_each : (w : List ℕ) (v : Stretch) → length w ≤ last → v.from ≤ last → EachRead P (object.read_object both w v)
-  unfolding object.read_object object.from_version object.from_algorithm object.from_entry_list object.entries object.entries_check
+  unfolding object.read_object object.from_version object.from_algorithm object.from_entry_list object.entries
+      object.entries_check
   object_each w v most h =
       let s = take v.to w in
       let at = v.from in

@@ -18,7 +18,8 @@ use Rattle.tlv.proofs.Encoded.{Stands, inside}
 use Rattle.tlv.specs.Cut.{cut, has_octets}
 use Rattle.lent.specs.Octets.{alike}
 use Rattle.tlv.specs.Versions.{both}
-use Rattle.object.specs.Object.{Said, from_entry_list, sha256_name, is_sha256, from_algorithm, is_version, from_version, read_object}
+use Rattle.object.specs.Object.{Said, from_entry_list, sha256_name, is_sha256}
+use Rattle.object.specs.Object.{from_algorithm, is_version, from_version, read_object}
 use Rattle.zone.specs.Octets.{AreOctets}
 use Rattle.presentation_theorems.specs.Presented.{Signed, all_signed, algorithm_of, strings_of, object_inside}
 use Rattle.refusal.proofs.Outcomes.{unless_kept, kept_unless}

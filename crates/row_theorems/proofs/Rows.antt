@@ -142,7 +142,8 @@ element_row s at tag = go (eqb (tag_at s at tag) tag) (size_at s (at + tag_width
     go true (Of z) = within (leb _ (length s)) _
 
 pub coded_within : (s : List ℕ) (at tag : ℕ) → coded s at tag ≡ passed
-    → (at < (stretch_at s at tag).from) × ((stretch_at s at tag).from ≤ (stretch_at s at tag).to) × ((stretch_at s at tag).to ≤ length s)
+    → (at < (stretch_at s at tag).from) × ((stretch_at s at tag).from ≤ (stretch_at s at tag).to)
+    × ((stretch_at s at tag).to ≤ length s)
 unfolding checked
 coded_within s at tag e =
     let v = stretch_at s at tag in

@@ -50,12 +50,14 @@ one_more_lem w at n l x p f =
       stopped = rw place f.stopped;
     }
 
-read_from_lem : (most : ℕ) (w : List ℕ) (at : ℕ) → AreOctets w → at ≤ length w → length w < at + most → From w at (read_from most w at)
+read_from_lem : (most : ℕ) (w : List ℕ) (at : ℕ) → AreOctets w → at ≤ length w → length w < at + most
+    → From w at (read_from most w at)
 unfolding Stop read_from onwards line_at
 read_from_lem zero w at small h k = absurd (omega arith)
 read_from_lem (suc most) w at small h k = go (read_entry w at).onward refl (λ (n : ℕ) i j. read_from_lem most w n small i j)
   where
-    go : (o : Onward) → (read_entry w at).onward ≡ o → ((n : ℕ) → n ≤ length w → length w < n + most → From w n (read_from most w n))
+    go : (o : Onward) → (read_entry w at).onward ≡ o
+        → ((n : ℕ) → n ≤ length w → length w < n + most → From w n (read_from most w n))
         → From w at (onwards o (line_at w at) (read_from most w))
     go (next n) e rest =
         let p = passed_over w at n small e in

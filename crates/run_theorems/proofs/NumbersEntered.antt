@@ -74,7 +74,8 @@ module _ (house : ℕ) (r : Record) (out : List ℕ) where
       room true = refl
       room false = refl
 
-      go : (a : Bool) → number_told (write_answer (unless (a && true) 17 0) octets out) ≡ number_in_turn a (leb octets (length out))
+      go : (a : Bool) → number_told (write_answer (unless (a && true) 17 0) octets out)
+          ≡ number_in_turn a (leb octets (length out))
       go true = room (leb octets (length out))
       go false = refl
 
@@ -129,7 +130,8 @@ module _ (house : ℕ) (r : Record) (out : List ℕ) where
         record { read = h.0; housed = h.1; sound = sound h.0; room = h.2 }
 
     -- with 0 the entry stands in front of the range
-    pub zero_leaves : number_told (answer o) ≡ 0 → Leaves (entry_of house r) out (value_told (answer o)) (entered_out o house r out)
+    pub zero_leaves : number_told (answer o) ≡ 0
+        → Leaves (entry_of house r) out (value_told (answer o)) (entered_out o house r out)
     zero_leaves e =
         let h = zero_enters e in
         let long = length_entry r (taken_apart r h.sound) house in

@@ -24,7 +24,8 @@ use Rattle.cells.specs.Cells.{octets_of}
 use Rattle.cells.proofs.RowOctets.{Whole, whole_told, whole_is, whole_length}
 use Rattle.entry.specs.Row.{row, cells}
 use Rattle.entry.specs.Entry.{entry_of, is_house}
-use Rattle.runs.specs.Run.{Standing, next, none, refused, values_in, house_in, form_in, record_in, size_in, is_whole, is_entry, entry_by}
+use Rattle.runs.specs.Run.{Standing, next, none, refused, values_in, house_in}
+use Rattle.runs.specs.Run.{form_in, record_in, size_in, is_whole, is_entry, entry_by}
 use Rattle.runs.specs.Run.{no_entry, read_entry}
 use Rattle.runs.proofs.ValuesBack.{values_back}
 use Rattle.run_theorems.specs.Runs.{Passed}
@@ -71,7 +72,8 @@ same_next : (m n : ℕ) → next m ≡ next n → m ≡ n
 same_next m n e = cc
 
 module _ (w : List ℕ) (at n : ℕ) (small : AreOctets w) (there : at ≤ length w) where
-  passed_entry : (f : Form) → form_in (drop at w) ≡ As f → is_entry f (drop at w) ≡ true → next (at + size_in (drop at w)) ≡ next n
+  passed_entry : (f : Form) → form_in (drop at w) ≡ As f → is_entry f (drop at w) ≡ true
+      → next (at + size_in (drop at w)) ≡ next n
       → Passed w at n (house_in (drop at w)) (record_in f (drop at w))
   unfolding size_in
   passed_entry f told e same =

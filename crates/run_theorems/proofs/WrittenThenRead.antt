@@ -21,7 +21,8 @@ use Rattle.entry.specs.Row.{row, cells}
 use Rattle.entry.specs.Entry.{said, values, entry_of, size, is_house}
 use Rattle.zone.proofs.FormTold.{entered_tells}
 use Rattle.entry.proofs.Values.{values_fit, values_sized, length_entry}
-use Rattle.runs.specs.Run.{next, number_of, values_in, house_in, form_in, record_of, record_in, size_in, is_whole, is_entry, entry_by}
+use Rattle.runs.specs.Run.{next, number_of, values_in, house_in, form_in}
+use Rattle.runs.specs.Run.{record_of, record_in, size_in, is_whole, is_entry, entry_by}
 use Rattle.runs.specs.Run.{read_entry}
 use Rattle.runs.proofs.ValuesBack.{record_back}
 

@@ -34,8 +34,10 @@ unfolding record_in record_of holding said_of
 entry_short f s =
     let number = characters_at s (start text.number) number_room in
     record {
-      number_short = rw (trimmed_length_lem number) (rw (length-characters s (start text.number) number_room) at (trimmed_le number));
-      name_short = rw (length-characters s (name_at (own_length s) + 6) (name_length s)) (bits_below s (name_at (own_length s)) 6);
+      number_short = rw (trimmed_length_lem number)
+          (rw (length-characters s (start text.number) number_room) at (trimmed_le number));
+      name_short = rw (length-characters s (name_at (own_length s) + 6) (name_length s))
+          (bits_below s (name_at (own_length s)) 6);
       own_short = rw (length-characters s (start text.own + 5) (own_length s)) (bits_below s (start text.own) 5);
     }
 

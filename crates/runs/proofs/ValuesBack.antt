@@ -47,7 +47,8 @@ record_back house r s =
 
 -- and the values that bits say are those of the record that they say, where it is sound
 module _ (f : Form) (s : List ℕ) (told : form_in s ≡ As f) (o : Sound (record_in f s)) where
-  plain_back : (x : Part) → is_plain x ≡ true → said_of (values_in s) x ≡ map character_of (numbers_at s (start x) (plain_room x) 6)
+  plain_back : (x : Part) → is_plain x ≡ true
+      → said_of (values_in s) x ≡ map character_of (numbers_at s (start x) (plain_room x) 6)
       → map code_of (held (record_in f s) x) ≡ numbers_at s (start x) (plain_room x) 6
   unfolding record_in record_of
   plain_back x p e =

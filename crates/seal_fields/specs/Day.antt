@@ -1,6 +1,7 @@
 -- A day in three octets: document 02, 2026-08, "A date is the number MMDDYYYY in three octets, a calendar day of the years 1 to
 -- 9999" (source 002, 3.3.1).
-use Rattle.std.specs.Prelude.{ℕ, ◌+◌, ◌*◌, ◌/◌, ◌%◌, Bool, cond, not, ◌&&◌, ◌||◌, List, [], ◌∷◌, eqb, leb, length, take, drop, get_or}
+use Rattle.std.specs.Prelude.{ℕ, ◌+◌, ◌*◌, ◌/◌, ◌%◌, Bool, cond, not, ◌&&◌}
+use Rattle.std.specs.Prelude.{◌||◌, List, [], ◌∷◌, eqb, leb, length, take, drop, get_or}
 use Rattle.field.specs.Date.{is_short}
 use Rattle.seal_fields.specs.declared.day.Day.{Day}
 

@@ -31,7 +31,8 @@ module _ (house : ℕ) (s out : List ℕ) where
     kept : Kept → read_seal_in_c house s out ≡ fields_in_c 0 no_digit octets (read_seal s).header (read_seal s).signature
         → read_seal_out house s out ≡ entry_of house (read_seal s).kept ++ drop octets out → Told
     denied : (why : Why) (place : ℕ)
-        → read_seal_in_c house s out ≡ fields_in_c (number_of why) (expected_of why) place blank_header (record { from = 0; to = 0 })
+        → read_seal_in_c house s out
+        ≡ fields_in_c (number_of why) (expected_of why) place blank_header (record { from = 0; to = 0 })
         → read_seal_out house s out ≡ out → Told
 
   pub seal_told : Told

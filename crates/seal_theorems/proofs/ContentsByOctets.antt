@@ -139,7 +139,8 @@ module _ (p q : Contents) (k : Shaped p) (l : Shaped q) (e : octets_of p ≡ oct
       let a = same_front (head_octets p.head) (head_octets q.head) (rest p) (rest q) heads e in
       let count : length (joined p.before) ≡ length (joined q.before) = omega (arith, same_place) in
       let b = same_front (joined p.before) (joined q.before) (text p ++ behind p) (text q ++ behind q) count a.1 in
-      let c = same_front (text p) (text q) (behind p) (behind q) (ap (λ (t : List ℕ). length (tlv text_tag (image_of t))) same_text)
+      let c = same_front (text p) (text q) (behind p) (behind q)
+      (ap (λ (t : List ℕ). length (tlv text_tag (image_of t))) same_text)
       b.1 in
       let lasts : length (last p) ≡ length (last q) = ap (λ (g : List ℕ). length (tlv signature_tag g)) same_signature in
       let wide = ap length c.1 in

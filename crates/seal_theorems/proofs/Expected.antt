@@ -163,13 +163,15 @@ seal_within s (expecting d) q e = (seal_carries s (expecting d) q e).1
 seal_within s (by n) q e = (seal_carries s (by n) q e).1
 
 -- and every refusal 9 carries a digit
-pub seal_nine : (s : List ℕ) (n : Why) (q : ℕ) → (read_seal s).outcome ≡ refused n q → number_of n ≡ 9 → (d : ℕ) × (n ≡ expecting d)
+pub seal_nine : (s : List ℕ) (n : Why) (q : ℕ) → (read_seal s).outcome ≡ refused n q → number_of n ≡ 9
+    → (d : ℕ) × (n ≡ expecting d)
 seal_nine s (expecting d) q e h = (d, refl)
 seal_nine s (by n) q e h = absurd (plain_not_nine of_seal n (seal_numbered s (by n) q e) h)
 
 -- ---- at the C border
 
-in_c_told : (o : Outcome) (l : told.Length) (h : Header) (v : Stretch) → DigitTold o (number_told l) (expected_told l) (value_told l)
+in_c_told : (o : Outcome) (l : told.Length) (h : Header) (v : Stretch)
+    → DigitTold o (number_told l) (expected_told l) (value_told l)
     → DigitTold o (seal_in_c l h v).number (seal_in_c l h v).expected (seal_in_c l h v).value
 unfolding seal_in_c fields_in_c
 in_c_told o (told.written n) h v k = k

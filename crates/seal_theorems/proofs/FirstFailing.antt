@@ -218,14 +218,16 @@ module _ (s : List ℕ) where
       let last = said (header_of s) f in
       let walk = features_checks s 0 (places_from (suc (length s)) s at) in
       keep (unless (leb (length s) 65535) 1 0)
-      (first_then (header_check s) (header_checks s) (walk ++ checks_behind s f) (with_header s (header_of s) at) last (header_first s)
+      (first_then (header_check s) (header_checks s) (walk ++ checks_behind s f) (with_header s (header_of s) at) last
+      (header_first s)
       (step_then walk (checks_behind s f) (features s at) f _ last (features_rows at) (behind_rows (header_of s) f)))
 
   pub seal_first : (read_seal s).outcome ≡ first_of (seal_checks s)
   unfolding read_seal
   seal_first = answer_outcome (said_in s) ∙ ap (λ (m : Read Said). outcome_in m) seal_rows ∙ under_outcome (seal_checks s) _
 
-pub seal_refused_exactly : (s : List ℕ) (n : Why) (p : ℕ) → ((read_seal s).outcome ≡ refused n p) ↔ FirstFailing (seal_checks s) n p
+pub seal_refused_exactly : (s : List ℕ) (n : Why) (p : ℕ) → ((read_seal s).outcome ≡ refused n p)
+    ↔ FirstFailing (seal_checks s) n p
 seal_refused_exactly s n p = (
   λ e. first_failing (seal_checks s) n p (sym (seal_first s) ∙ e),
   λ h. seal_first s ∙ failing_first (seal_checks s) n p h,

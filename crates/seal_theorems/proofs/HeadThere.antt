@@ -125,7 +125,8 @@ module _ (s : List ℕ) (small : AreOctets s) where
         let y5 = x5 ∙ ap (λ (l : List ℕ). day_octets i ++ l) y6 in
         let y4 = x4 ∙ ap (λ (l : List ℕ). image_of r ++ l) y5 in
         let y3 = x3 ∙ ap (λ (l : List ℕ). image_of (field_at s 2 3) ++ l) y4 in
-        x1 ∙ ap (λ (l : List ℕ). 0xDC ∷ l) (x2 ∙ ap (λ (l : List ℕ). version s ∷ l) y3) ∙ sym (head_then head_at (drop (12 + w) s))
+        x1 ∙ ap (λ (l : List ℕ). 0xDC ∷ l) (x2 ∙ ap (λ (l : List ℕ). version s ∷ l) y3)
+        ∙ sym (head_then head_at (drop (12 + w) s))
 
 pub header_read : (s : List ℕ) → AreOctets s → header_check s ≡ passed
     → (h : Head) × HeadKept h × (s ≡ head_octets h ++ drop (header_end s) s)

@@ -12,7 +12,8 @@ use Rattle.seal_fields.specs.Day.{day_number, three_octets, day_octets}
 use Rattle.seal_theorems.specs.Examples.{is_text, same_day, is_date, is_right, printed, all_printed}
 
 pub printed_hold : all_printed printed ≡ true
-unfolding all_printed printed is_right is_text octets alike image_of pair packed value_of is_digit is_letter read_c40 before last_pair
+unfolding all_printed printed is_right is_text octets alike image_of pair packed value_of is_digit is_letter read_c40 before
+    last_pair
     is_three three is_two two is_one one is_c40 is_value character_of values_of number_of
     is_date same_day is_day days_in is_leap is_short day_octets three_octets day_number day_of number_in
 printed_hold = refl

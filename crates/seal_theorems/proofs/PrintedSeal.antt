@@ -13,7 +13,8 @@ use Rattle.zone.specs.Form.{first_form, is_visa, is_alone, is_visa_code, may_sta
 use Rattle.zone.specs.Form.{form_of, field, before_own, piece_of, pieces, cut, joined_cuts, covered}
 use Rattle.zone.specs.Record.{trimmed, trimmed_length, padded, holding}
 use Rattle.digit.specs.Check.{value, weight, sum_from, check_of, digit_of}
-use Rattle.field.specs.Date.{pair_of, year_of, month_of, day_of, is_leap, is_short, days_in, year_rule, month_rule, day_rule, birth_rule}
+use Rattle.field.specs.Date.{pair_of, year_of, month_of, day_of, is_leap}
+use Rattle.field.specs.Date.{is_short, days_in, year_rule, month_rule, day_rule, birth_rule}
 use Rattle.field.specs.Date.{is_known, expiry_rule}
 use Rattle.field.specs.Code.{is_card_letter, is_second, card_rule, kind_rule, code_rule}
 use Rattle.field.specs.Letters.{letters_then_fillers, state_rule, sex_rule, name_rule, is_name_character}
@@ -36,11 +37,16 @@ use Rattle.seal_theorems.proofs.TextsSealed.{every_text_sealed}
 
 -- its text is accepted, with this record
 pub printed_text_lem : read_text Seal (octets printed_text) ≡ record { outcome = passed; kept = printed_record }
-unfolding printed_text printed_record octets read_text read_by answered may_stand is_visa is_alone is_visa_code is_of form_of verdict_by
-    characters first_foreign first is_foreign is_character is_digit is_letter is_filler in_order parts part_of row forms first_form
-    start start_in width width_in field field_rows code_rule kind_rule card_rule is_card_letter is_second state_rule letters_then_fillers
-    number_rule span_rule sex_rule name_rule is_name_character every birth_rule expiry_rule is_known pair_of year_of month_of day_of is_leap
-    is_short days_in year_rule month_rule day_rule span_of is_long digit_rows number_digit further_digit personal_digit is_left_out digit_at
+unfolding printed_text printed_record octets read_text read_by answered may_stand is_visa is_alone is_visa_code is_of form_of
+    verdict_by
+    characters first_foreign first is_foreign is_character is_digit is_letter is_filler in_order parts part_of row forms
+    first_form
+    start start_in width width_in field field_rows code_rule kind_rule card_rule is_card_letter is_second state_rule
+    letters_then_fillers
+    number_rule span_rule sex_rule name_rule is_name_character every birth_rule expiry_rule is_known pair_of year_of month_of
+    day_of is_leap
+    is_short days_in year_rule month_rule day_rule span_of is_long digit_rows number_digit further_digit personal_digit
+    is_left_out digit_at
     digit_of checked_by check_of sum_from value weight covered piece_of pieces cut joined_cuts record_by holding in_text number_by
     trimmed trimmed_length padded own_in before_own
 printed_text_lem = refl
@@ -52,7 +58,8 @@ printed_wide = refl
 module _ (g : List ℕ) (n : length g ≡ 64) where
   -- the seal around it is the printed one
   printed_octets : octets_of (around (octets printed_text) g) ≡ printed_seal g
-  unfolding octets_of around printed_head head_octets joined tlv tag_octets length_octets image_of pair packed value_of is_digit is_letter
+  unfolding octets_of around printed_head head_octets joined tlv tag_octets length_octets image_of pair packed value_of is_digit
+      is_letter
       is_filler reference_of count_of day_octets three_octets day_number octets spaced printed_text printed_seal
   printed_octets = rw n
 

@@ -21,7 +21,8 @@ use Rattle.c40.proofs.Images.{images_joined, image_length}
 use Rattle.c40.proofs.Exactly.{no_field}
 use Rattle.c40.proofs.Fields.{FieldStands, field_read, read_field}
 use Rattle.seal_fields.specs.Hex.{is_hex, hex_of}
-use Rattle.seal_header.specs.Reference.{version, more_by, reference_length, width, reference, is_letter_or_digit, is_reference, before}
+use Rattle.seal_header.specs.Reference.{version, more_by, reference_length, width}
+use Rattle.seal_header.specs.Reference.{reference, is_letter_or_digit, is_reference, before}
 use Rattle.seal_fields.specs.Hex.{hex_digit, hexadecimal}
 use Rattle.seal_header.specs.Head.{Head}
 use Rattle.seal_theorems.specs.Sealed.{count_of, reference_of, ReferenceKept}
@@ -109,7 +110,8 @@ module _ (s : List ℕ) (small : AreOctets s) (kept : is_reference (reference s)
       let a = signer_at s in
       let whole : a ++ drop 4 (reference s) ≡ reference s = take-append-drop 4 (reference s) in
       let e = sym (reference_so (drop 4 (reference s)) a signer_four) ∙ ap is_reference whole ∙ kept in
-      let p = and_both (every is_letter (take 2 a)) (every is_letter_or_digit (drop 2 a) && every is_hex (drop 4 (reference s))) e in
+      let p = and_both (every is_letter (take 2 a))
+      (every is_letter_or_digit (drop 2 a) && every is_hex (drop 4 (reference s))) e in
       (p.0, and_both (every is_letter_or_digit (drop 2 a)) (every is_hex (drop 4 (reference s))) p.1)
 
   module _ (h : Head) (v : h.version ≡ version s) (a : h.signer ≡ signer_at s) (c : h.certificate ≡ certificate_at s) where

@@ -172,7 +172,8 @@ module _ (s : List ℕ) where
   abbrev In : Features → Type 0
   In f = (f.text ≤ length s) × (f.end ≤ length s)
 
-  pub features_in : (k at text : ℕ) → at ≤ length s → text ≤ length s → (f : Features) → features_from k s at text ≡ value f → In f
+  pub features_in : (k at text : ℕ) → at ≤ length s → text ≤ length s → (f : Features) → features_from k s at text ≡ value f
+      → In f
   unfolding features_from text_place
   features_in zero at text h t f e = absurd (never_value _ at f e)
   features_in (suc k) at text h t f e = go (is_end s at) e (λ to b. features_in k to (text_place s at text) b placed_in f)

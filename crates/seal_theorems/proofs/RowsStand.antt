@@ -125,7 +125,8 @@ module _ (s : List ℕ) (small : AreOctets s) where
         (day_at s at, record { day_rule_lem = e; day_there = sym (read_day l octets e) }),
     λ c.
         let k = c.1 in
-        ap (λ (l : List ℕ). is_day (day_of (number_in l))) k.day_there ∙ (ap is_day (day_read c.0 k.day_rule_lem) ∙ k.day_rule_lem),
+        ap (λ (l : List ℕ). is_day (day_of (number_in l))) k.day_there
+        ∙ (ap is_day (day_read c.0 k.day_rule_lem) ∙ k.day_rule_lem),
   )
 
 -- ---- feature 02

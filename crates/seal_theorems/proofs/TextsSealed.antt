@@ -42,7 +42,8 @@ use Rattle.seal_theorems.proofs.Acceptance.{sealed_answer}
 -- ---- the header
 
 printed_kept : HeadKept printed_head
-unfolding printed_head octets every is_c40 is_digit is_letter filled state_rule letters_then_fillers is_letter_or_digit is_hex is_hex_letter
+unfolding printed_head octets every is_c40 is_digit is_letter filled state_rule letters_then_fillers is_letter_or_digit is_hex
+    is_hex_letter
     is_day days_in is_leap is_short
 printed_kept = record {
   version_kept = inl refl;

@@ -2,7 +2,8 @@
 -- this order", whose words are those in quotes. Which of them a refusal names is `FirstFailing` (text_theorems). Every row is
 -- said of the octets; where one fails, those behind it decide nothing. The rows of country, reference, dates and feature 02's C40
 -- decode what stands there: `RowsStand` says of each, with encoders, what that is.
-use Rattle.std.specs.Prelude.{ℕ, zero, suc, ◌+◌, Bool, true, false, cond, not, ◌||◌, List, [], ◌∷◌, ◌++◌, map, eqb, leb, length, get_or}
+use Rattle.std.specs.Prelude.{ℕ, zero, suc, ◌+◌, Bool, true, false, cond, not}
+use Rattle.std.specs.Prelude.{◌||◌, List, [], ◌∷◌, ◌++◌, map, eqb, leb, length, get_or}
 use Rattle.zone.specs.declared.form.Source.TheVariants.{Seal}
 use Rattle.refusal.specs.Outcome.{Outcome, unless}
 use Rattle.field.specs.Letters.{state_rule}

@@ -1,7 +1,8 @@
 -- What a sound seal of an emergency document is: the joined encodings of a header, features and a signature, said with encoders
 -- and without the reader. The words in quotes are those of document 02, request 2026-08; what they leave to source 002 is that of
 -- its table 1.
-use Rattle.std.specs.Prelude.{ℕ, ◌+◌, ◌-◌, ◌≤◌, ◌≡◌, ◌⊎◌, Bool, true, cond, not, ◌&&◌, List, [], ◌∷◌, ◌++◌, map, eqb, ltb, length, take, drop}
+use Rattle.std.specs.Prelude.{ℕ, ◌+◌, ◌-◌, ◌≤◌, ◌≡◌, ◌⊎◌, Bool, true, cond, not}
+use Rattle.std.specs.Prelude.{◌&&◌, List, [], ◌∷◌, ◌++◌, map, eqb, ltb, length, take, drop}
 use Rattle.refusal.specs.Outcome.{passed}
 use Rattle.zone.specs.declared.form.Source.TheVariants.{Seal}
 use Rattle.zone.specs.Form.{may_stand}

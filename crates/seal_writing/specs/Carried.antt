@@ -23,7 +23,8 @@ is_emergency h = eqb h.version 0x03 && (eqb h.definition 0x5E && eqb h.category 
 -- two letters, and two letters or digits (source 002, table 1)
 unfoldable pub is_signer : List ℕ → Bool
 is_signer t =
-    (is_letter (get_or t 0 0) && is_letter (get_or t 1 0)) && (is_letter_or_digit (get_or t 2 0) && is_letter_or_digit (get_or t 3 0))
+    (is_letter (get_or t 0 0) && is_letter (get_or t 1 0))
+    && (is_letter_or_digit (get_or t 2 0) && is_letter_or_digit (get_or t 3 0))
 
 -- n characters of 0-9 and A-F, and fillers in every place past them
 unfoldable pub is_referred : List ℕ → ℕ → Bool

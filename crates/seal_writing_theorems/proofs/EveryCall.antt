@@ -54,7 +54,8 @@ unfolding written_answer written_out
 written_answers e h g out = go (is_only (read_entry e 0).onward (length e))
   where
     go : (b : Bool)
-        → Answers of_seal_writer_in_c 0 out (cond b (seal_answer (header_given h) (read_entry e 0).kept g out) (told.refused (by 18) 0))
+        → Answers of_seal_writer_in_c 0 out
+        (cond b (seal_answer (header_given h) (read_entry e 0).kept g out) (told.refused (by 18) 0))
         (cond b (seal_out (header_given h) (read_entry e 0).kept g out) out)
     go true = answers_by of_seal_writer_in_c refl refl refl (header_given h) (read_entry e 0).kept g out
     go false = record {

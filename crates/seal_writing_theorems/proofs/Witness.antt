@@ -57,7 +57,8 @@ given_header = record {
 }
 
 given_carried : Carried given_header
-unfolding given_header octets padded every is_hex is_hex_letter is_digit is_letter is_filler is_day is_leap days_in is_short state_rule
+unfolding given_header octets padded every is_hex is_hex_letter is_digit is_letter is_filler is_day is_leap days_in is_short
+    state_rule
     letters_then_fillers is_signer is_letter_or_digit
 given_carried = record {
   country_three = refl;

@@ -41,7 +41,8 @@ length-joined (x ∷ h) = simp (length-append, length-octets, length-joined h) (
 
 -- the words before place i are joined in front: one word more
 pub joined_more : (h l : List ℕ) (i : ℕ) → i < length h → length l ≡ 4 * length h
-    → sets (joined (take i h) ++ drop (4 * i) l) (4 * i) (octets 4 (get_or h i 0)) ≡ joined (take (i + 1) h) ++ drop (4 * (i + 1)) l
+    → sets (joined (take i h) ++ drop (4 * i) l) (4 * i) (octets 4 (get_or h i 0)) ≡ joined (take (i + 1) h)
+    ++ drop (4 * (i + 1)) l
 unfolding joined
 joined_more h l i hi hl =
     let P = joined (take i h) in

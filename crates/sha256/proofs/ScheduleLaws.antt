@@ -55,7 +55,8 @@ unfolding schedule
 schedule_first block t h = extended_kept 48 (up_to (word block) 16) t (rw (length-up_to (word block) 16) h)
 
 -- W_t looks at words before it only
-next_word_before : (v w : List ℕ) (t : ℕ) → 16 ≤ t → ((i : ℕ) → i < t → get_or v i 0 ≡ get_or w i 0) → next_word t v ≡ next_word t w
+next_word_before : (v w : List ℕ) (t : ℕ) → 16 ≤ t → ((i : ℕ) → i < t → get_or v i 0 ≡ get_or w i 0)
+    → next_word t v ≡ next_word t w
 unfolding next_word
 next_word_before v w t h e =
     rw (e (t - 2) (omega arith), e (t - 7) (omega arith), e (t - 15) (omega arith), e (t - 16) (omega arith))

@@ -1,5 +1,6 @@
 -- Formulas of bitwise operations are equal where they are equal on single bits, at any width; and two such for Ch and Maj.
-use Rattle.std.proofs.Common.{◌≡◌, ℕ, zero, suc, ◌+◌, ◌-◌, ◌*◌, ◌/◌, ◌%◌, ◌^◌, ◌<◌, sym, refl, ap, ◌∙◌, ap₂, mod-lt, mod-eq_of_lt, div-add-mod', add-one, arith, lit<, shr_lt}
+use Rattle.std.proofs.Common.{◌≡◌, ℕ, zero, suc, ◌+◌, ◌-◌, ◌*◌, ◌/◌, ◌%◌, ◌^◌, ◌<◌}
+use Rattle.std.proofs.Common.{sym, refl, ap, ◌∙◌, ap₂, mod-lt, mod-eq_of_lt, div-add-mod', add-one, arith, lit<, shr_lt}
 use lib.Bits.{bit_and, bit_xor, and_shr, and_mod, xor_shr, xor_mod, and_comm, and_mask, xor_add_and}
 use lib.Pow.{ones_lt}
 
@@ -112,5 +113,6 @@ majority =
     (bitwise_xor _ _ (bitwise_and _ _ (bitwise_xor _ _ bitwise_x bitwise_y) (bitwise_xor _ _ bitwise_y bitwise_z)) bitwise_y)
     (bitwise_xor _ _ (bitwise_xor _ _ (bitwise_and _ _ bitwise_x bitwise_y) (bitwise_and _ _ bitwise_x bitwise_z))
     (bitwise_and _ _ bitwise_y bitwise_z))
-    (bits3 (λ x y z. bit_xor (bit_and (bit_xor x y) (bit_xor y z)) y ≡ bit_xor (bit_xor (bit_and x y) (bit_and x z)) (bit_and y z))
+    (bits3 (λ x y z. bit_xor (bit_and (bit_xor x y) (bit_xor y z)) y
+    ≡ bit_xor (bit_xor (bit_and x y) (bit_and x z)) (bit_and y z))
     refl refl refl refl refl refl refl refl)

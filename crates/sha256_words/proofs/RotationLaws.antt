@@ -1,5 +1,7 @@
 -- Laws on the rotation of words of any width w: what it is in numbers, that it passes through XOR, and that rotations add.
-use Rattle.std.proofs.Common.{◌≡◌, ℕ, ◌+◌, ◌-◌, ◌*◌, ◌/◌, ◌%◌, ◌^◌, ◌<◌, ◌≤◌, sym, ap, ◌∙◌, ap₂, add-zero, add_assoc, mod-lt, mul_assoc, mul_comm, add-mul, add_comm, arith, pow_pos, pow-add, shr-shr, shr_lt}
+use Rattle.std.proofs.Common.{◌≡◌, ℕ, ◌+◌, ◌-◌, ◌*◌, ◌/◌, ◌%◌, ◌^◌, ◌<◌, ◌≤◌, sym, ap, ◌∙◌}
+use Rattle.std.proofs.Common.{ap₂, add-zero, add_assoc, mod-lt, mul_assoc, mul_comm}
+use Rattle.std.proofs.Common.{add-mul, add_comm, arith, pow_pos, pow-add, shr-shr, shr_lt}
 use native.Mathlib.Nat.{mul-mod_left, mul-add-mod_self_right}
 use native.Mathlib.Nat.{mul-add-div_right}
 use lib.Arith.{digits_lt}
@@ -83,6 +85,7 @@ nest_three w a b c x h bx =
     let b_q : Q < 2 ^ w = rotr_lt w (b + c) x (omega arith) bx in
     ap (λ (n : ℕ). rotr w a (bit_xor x n)) (nest_two w b c x (omega arith) bx)
     ∙ rotr_xor w a x (bit_xor P Q) ha bx (xor_lt w P Q b_p b_q)
-    ∙ ap (bit_xor (rotr w a x)) (rotr_xor w a P Q ha b_p b_q ∙ ap₂ bit_xor (rotr_rotr w a b x hab bx) (rotr_rotr w a (b + c) x h bx))
+    ∙ ap (bit_xor (rotr w a x))
+    (rotr_xor w a P Q ha b_p b_q ∙ ap₂ bit_xor (rotr_rotr w a b x hab bx) (rotr_rotr w a (b + c) x h bx))
     ∙ sym (xor_assoc w (rotr w a x) (rotr w (a + b) x) (rotr w (a + (b + c)) x)
     (rotr_lt w a x ha bx) (rotr_lt w (a + b) x hab bx) (rotr_lt w (a + (b + c)) x h bx))

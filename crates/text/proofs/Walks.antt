@@ -27,7 +27,8 @@ abbrev joined : Form → List ℕ → Span → Outcome
 joined f t span =
     let check = field_check f t span in
     let ahead = ltb (start f name) (start f number) in
-    or_else (opening check) (in_turn ahead (check name) (or_else (check number) (in_turn ahead (check nationality) (person check))))
+    or_else (opening check)
+    (in_turn ahead (check name) (or_else (check number) (in_turn ahead (check nationality) (person check))))
 
 -- the name and the nationality stand before number and person, TD2 and TD3, or behind them, TD1
 pub fields_in_order : (f : Form) (t : List ℕ) (span : Span) → joined f t span ≡ in_order (field_check f t span) (parts f)

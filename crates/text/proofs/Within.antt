@@ -66,7 +66,8 @@ module _ (f : Form) (t : List ℕ) (long : length t ≡ total f) where
 
   verdict_in : Each (In t) (verdict_by f t (span_of f t))
   unfolding first_foreign
-  verdict_in = each_verdict (In t) f t (span_of f t) (λ n x h. start_in_lem x) (each_foreign (In t) t (first_le is_foreign t)) digits_in
+  verdict_in = each_verdict (In t) f t (span_of f t) (λ n x h. start_in_lem x)
+      (each_foreign (In t) t (first_le is_foreign t)) digits_in
 
 pub text_within : (source : Source) (t : List ℕ) → Each (λ n p. p ≤ length t) (read_text source t).outcome
 unfolding read_text read_by
@@ -75,4 +76,5 @@ text_within source t = go (form_of source t) refl
     go : (told : Recognised) → form_of source t ≡ told → Each (In t) (read_by told t).outcome
     go Unknown e = each_answered (In t) (refused (by 1) 0) blank (each_refused (In t) (by 1) 0 (omega arith))
     go (As f) e =
-        each_answered (In t) (verdict_by f t (span_of f t)) (record_by f t (span_of f t)) (verdict_in f t (by_told source f t e).1)
+        each_answered (In t) (verdict_by f t (span_of f t)) (record_by f t (span_of f t))
+        (verdict_in f t (by_told source f t e).1)

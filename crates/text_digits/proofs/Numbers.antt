@@ -24,7 +24,8 @@ alone : (s : List ℕ) → padded number_room (s ++ []) ≡ padded number_room (
 alone s = ap (padded number_room) (append-nil s) ∙ sym (padded_trimmed number_room s)
 
 pub number_room_lem : (f : Form) (t : List ℕ) (span : Span)
-    → padded number_room (field f number t ++ take (further_in span) (field f optional t)) ≡ padded number_room (number_by f t span)
+    → padded number_room (field f number t ++ take (further_in span) (field f optional t))
+    ≡ padded number_room (number_by f t span)
 unfolding further_in number_by
 number_room_lem f t Short = alone (field f number t)
 number_room_lem f t (Long further) = refl

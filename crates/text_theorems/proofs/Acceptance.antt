@@ -21,7 +21,8 @@ use Rattle.zone.proofs.First.{first_none, none_first}
 use Rattle.zone.specs.Part.{Part, code, state, number, number_check, optional, birth, birth_check, sex, expiry, expiry_check}
 use Rattle.zone.specs.Part.{nationality, composite, name, personal_check}
 use Rattle.zone.proofs.Parts.{in_rows_lem, ◌and◌, all_said}
-use Rattle.zone.specs.Form.{row, is_visa, is_alone, is_visa_code, selects_visa, may_stand, form_of, parts, start, width, has, total}
+use Rattle.zone.specs.Form.{row, is_visa, is_alone, is_visa_code, selects_visa, may_stand}
+use Rattle.zone.specs.Form.{form_of, parts, start, width, has, total}
 use Rattle.zone.specs.Form.{field, covered}
 use Rattle.field.proofs.Characters.{code_tells}
 use Rattle.text_theorems.proofs.CodeTold.{code_there}

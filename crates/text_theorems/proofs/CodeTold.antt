@@ -26,5 +26,6 @@ there f t i h =
     sym (in_field f code t i (omega (arith, (fixed f).code_width))) ∙ (ap (λ (n : ℕ). get_or t (n + i) 0) (first f).at_start
     ∙ ap (λ (n : ℕ). get_or t n 0) (zero-add i))
 
-pub code_there : (f : Form) (t : List ℕ) → is_visa_code (get_or (field f code t) 0 0) (get_or (field f code t) 1 0) ≡ selects_visa t
+pub code_there : (f : Form) (t : List ℕ)
+    → is_visa_code (get_or (field f code t) 0 0) (get_or (field f code t) 1 0) ≡ selects_visa t
 code_there f t = rw (there f t 0 (omega arith), there f t 1 (omega arith))

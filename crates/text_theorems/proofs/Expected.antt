@@ -24,7 +24,8 @@ use Rattle.zone.specs.Alphabet.{is_filler, every}
 use Rattle.zone.specs.Record.{blank}
 use Rattle.zone.specs.Part.{Part, number_check, optional, birth, birth_check, expiry}
 use Rattle.zone.specs.Part.{expiry_check, composite, personal, personal_check, same}
-use Rattle.zone.specs.Form.{row, forms, form_of, start, start_in, width, width_in, has, total, field, pieces, joined_cuts, covered}
+use Rattle.zone.specs.Form.{row, forms, form_of, start, start_in, width}
+use Rattle.zone.specs.Form.{width_in, has, total, field, pieces, joined_cuts, covered}
 use Rattle.zone.proofs.AllForms.{all_forms}
 use Rattle.zone.proofs.Widths.{within, here_or_end}
 use Rattle.zone.proofs.Parts.{apart}
@@ -94,11 +95,13 @@ expected_at f t p covers same wrong = record {
   not_there = eqb-false (get_or t p 0) (digit_of covers) wrong;
 }
 
-tells_digit : (f : Form) (t : List ℕ) (p : ℕ) (covers : List ℕ) → covers ≡ covered_at f t p → Each (Tells f t) (digit_at t p covers)
+tells_digit : (f : Form) (t : List ℕ) (p : ℕ) (covers : List ℕ) → covers ≡ covered_at f t p
+    → Each (Tells f t) (digit_at t p covers)
 unfolding digit_at
 tells_digit f t p covers same = go (eqb (get_or t p 0) (digit_of covers)) refl
   where
-    go : (b : Bool) → eqb (get_or t p 0) (digit_of covers) ≡ b → Each (Tells f t) (refused_unless b (expecting (check_of covers)) p)
+    go : (b : Bool) → eqb (get_or t p 0) (digit_of covers) ≡ b
+        → Each (Tells f t) (refused_unless b (expecting (check_of covers)) p)
     go true h = each_passed (Tells f t)
     go false h = each_refused (Tells f t) (expecting (check_of covers)) p (expected_at f t p covers same h)
 

@@ -17,12 +17,14 @@ use Rattle.text_digits.specs.Digits.{in_order, digit_at, is_left_out, personal_d
 use Rattle.digit.specs.Check.{check_of, digit_of}
 use Rattle.zone.proofs.Parts.{same_one, same_self}
 
-pub digit_kept : (t : List ℕ) (place : ℕ) (covers : List ℕ) → digit_at t place covers ≡ passed → get_or t place 0 ≡ digit_of covers
+pub digit_kept : (t : List ℕ) (place : ℕ) (covers : List ℕ) → digit_at t place covers ≡ passed
+    → get_or t place 0 ≡ digit_of covers
 unfolding digit_at
 digit_kept t place covers e = eqb-true (get_or t place 0) (digit_of covers)
     (rule_kept (eqb (get_or t place 0) (digit_of covers)) (expecting (check_of covers)) place e)
 
-pub kept_digit : (t : List ℕ) (place : ℕ) (covers : List ℕ) → get_or t place 0 ≡ digit_of covers → digit_at t place covers ≡ passed
+pub kept_digit : (t : List ℕ) (place : ℕ) (covers : List ℕ) → get_or t place 0 ≡ digit_of covers
+    → digit_at t place covers ≡ passed
 unfolding digit_at
 kept_digit t place covers e = kept_rule (eqb (get_or t place 0) (digit_of covers)) (expecting (check_of covers)) place
     (eq-eqb (get_or t place 0) (digit_of covers) e)
@@ -33,7 +35,8 @@ unfolding personal_digit
 personal_kept f t e in_text_lem = digit_kept t (start f personal_check) (field f personal t) (rw in_text_lem at e)
 
 pub kept_personal : (f : Form) (t : List ℕ)
-    → (is_left_out f t ≡ false → get_or t (start f personal_check) 0 ≡ digit_of (field f personal t)) → personal_digit f t ≡ passed
+    → (is_left_out f t ≡ false → get_or t (start f personal_check) 0 ≡ digit_of (field f personal t))
+    → personal_digit f t ≡ passed
 unfolding personal_digit
 kept_personal f t h = go (is_left_out f t) refl
   where

@@ -167,9 +167,11 @@ module _ (f : Form) (t : List ℕ) (k : Keeps f t) where
   name_length_lem = field_length f name t k.size
 
   name_fits : length (trimmed (field f name t)) ≤ 39
-  name_fits = rw (trimmed_length_lem (field f name t)) (omega (arith, trimmed_le (field f name t), name_length_lem, name_room_lem f))
+  name_fits = rw (trimmed_length_lem (field f name t))
+      (omega (arith, trimmed_le (field f name t), name_length_lem, name_room_lem f))
 
-  whole_number_lem : take (length (number_by f t (span_of f t))) (padded 22 (number_by f t (span_of f t))) ≡ number_by f t (span_of f t)
+  whole_number_lem : take (length (number_by f t (span_of f t))) (padded 22 (number_by f t (span_of f t)))
+      ≡ number_by f t (span_of f t)
   whole_number_lem = take-padded 22 (number_by f t (span_of f t)) ∙ take_all 22 (number_by f t (span_of f t)) number_room_lem
 
   -- ---- the issuer's own data
@@ -221,7 +223,8 @@ module _ (f : Form) (t : List ℕ) (k : Keeps f t) where
 
   short_length : is_long f t ≡ false → numbered ≤ 9
   unfolding number_by
-  short_length e = rw (short_span f t e, trimmed_length_lem (field f number t)) (omega (arith, trimmed_le (field f number t), nine))
+  short_length e = rw (short_span f t e, trimmed_length_lem (field f number t))
+      (omega (arith, trimmed_le (field f number t), nine))
 
   pub holds : Holds f t told
   unfolding record_by holding held_rows in_text number_by own_in

@@ -123,7 +123,11 @@ module _ (r : Record) (s : Sound r) where
         let fits = (further_fits r s wide).1 in
         let e : w - length (further_in r) ≡ suc (w - suc (length (further_in r))) = omega arith in
         optional_padded ∙ padded_append w (further_in r) last
-        ∙ rw (take_all w (further_in r) (omega arith), e, padded_cons (w - suc (length (further_in r))) (digit_of (number_in r)) _)
+        ∙ rw (
+          take_all w (further_in r) (omega arith),
+          e,
+          padded_cons (w - suc (length (further_in r))) (digit_of (number_in r)) _,
+        )
 
     before_filler : filler_at f t - 1 ≡ length (further_in r)
     before_filler = omega (arith, filler_shown)
@@ -142,7 +146,11 @@ module _ (r : Record) (s : Sound r) where
 
     digit_shown : get_or t (start f optional + (filler_at f t - 1)) 0 ≡ digit_of (number_in r)
     digit_shown =
-        rw (before_filler, in_field f optional t (length (further_in r)) (omega (arith, (further_fits r s wide).1)), optional_shown)
+        rw (
+          before_filler,
+          in_field f optional t (length (further_in r)) (omega (arith, (further_fits r s wide).1)),
+          optional_shown,
+        )
         (get_or-append_seam (further_in r) (digit_of (number_in r)) after 0)
 
   ends : is_wide r ≡ true → (2 ≤ filler_at f t) × (filler_at f t < width f optional)

@@ -20,7 +20,8 @@ use Rattle.zone.proofs.Every.{every_append, every_take, every_drop}
 use Rattle.digit.specs.Check.{digit_of}
 use Rattle.digit.proofs.Written.{digit_character}
 use Rattle.sound.proofs.SoundRecord.{Sound, held_pure}
-use Rattle.writing.specs.Text.{number_in, further_in, is_wide, at_check, in_optional, own_at, given_rows, given, last_digit, given_all}
+use Rattle.writing.specs.Text.{number_in, further_in, is_wide, at_check, in_optional}
+use Rattle.writing.specs.Text.{own_at, given_rows, given, last_digit, given_all}
 use Rattle.writing.specs.Text.{text_of}
 use Rattle.writing.proofs.CompositePlace.{covered_clear}
 use Rattle.writing.proofs.Further.{further_all}

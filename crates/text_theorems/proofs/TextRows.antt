@@ -17,7 +17,8 @@ use Rattle.zone.specs.Form.{parts, start, width, field, covered}
 use Rattle.zone.proofs.Widths.{has_among}
 use Rattle.text_digits.specs.declared.number.Span.TheVariants.{Short, Long, Bad}
 use Rattle.text_digits.specs.Number.{is_long, cut_at, span_of, span_rule, number_rule, checked_by}
-use Rattle.text_digits.specs.Digits.{digit_at, number_digit, further_digit, is_left_out, personal_digit, digit_rows, digit_check, in_order}
+use Rattle.text_digits.specs.Digits.{digit_at, number_digit, further_digit, is_left_out}
+use Rattle.text_digits.specs.Digits.{personal_digit, digit_rows, digit_check, in_order}
 use Rattle.text.specs.Order.{field_rows, field_check}
 use Rattle.text_theorems.specs.Accepted.{filler_at}
 use Rattle.text_theorems.specs.TextChecks.{is_ended, field_checks, nine_at, digit_checks}
@@ -40,12 +41,14 @@ alike_rows : {A B : Type 0} (Q : A → B → Type 0) (none : A) (none' : B) → 
 alike_rows Q none none' q _ _ all_alike z = q
 alike_rows {A} {B} Q none none' q _ _ (◌with◌ {x} {a} {b} {xs} {ys} h hs) z = go (same z x) (alike_rows Q none none' q xs ys hs z)
   where
-    go : (c : Bool) → Q (in_rows none xs z) (in_rows none' ys z) → Q (cond c a (in_rows none xs z)) (cond c b (in_rows none' ys z))
+    go : (c : Bool) → Q (in_rows none xs z) (in_rows none' ys z)
+        → Q (cond c a (in_rows none xs z)) (cond c b (in_rows none' ys z))
     go true rest = h
     go false rest = rest
 
 -- a walk over parts, and the rows of these parts
-by_part_lem : (check : Part → Outcome) (rows : List (PartRow (List Outcome))) → ((x : Part) → check x ≡ first_of (in_rows [] rows x))
+by_part_lem : (check : Part → Outcome) (rows : List (PartRow (List Outcome)))
+    → ((x : Part) → check x ≡ first_of (in_rows [] rows x))
     → (xs : List Part) → in_order check xs ≡ first_of (by_part rows xs)
 unfolding in_order by_part first_of
 by_part_lem check rows h [] = refl
@@ -110,7 +113,8 @@ module _ (f : Form) (t : List ℕ) where
 
   module _ (ends : is_long f t ≡ true → (2 ≤ filler_at f t) × (filler_at f t < width f optional)) where
     record Both : Type 0 where
-      of_short : number_digit f t (span_of f t) ≡ first_of (cond (is_long f t) [] (nine_at t (start f number_check) (field f number t)))
+      of_short : number_digit f t (span_of f t)
+          ≡ first_of (cond (is_long f t) [] (nine_at t (start f number_check) (field f number t)))
       of_long : further_digit f t (span_of f t)
           ≡ first_of (cond (is_long f t) (nine_at t (start f optional + (filler_at f t - 1))
           (field f number t ++ take (filler_at f t - 1) (field f optional t))) [])
@@ -149,16 +153,19 @@ module _ (f : Form) (t : List ℕ) where
       → (2 ≤ filler_at f t) × (filler_at f t < width f optional)
   unfolding field_rows number_rule
   number_ends e =
-      let passes = walk_each (field_check f t (span_of f t)) (parts f) e number (sym (has_among f number) ∙ (common f).has_number) in
+      let passes = walk_each (field_check f t (span_of f t)) (parts f) e number
+      (sym (has_among f number) ∙ (common f).has_number) in
       span_ends f t (and_both (not (is_filler (get_or (field f number t) 0 0))) (span_rule (span_of f t))
       (unless_kept (number_rule f t (span_of f t)) 5 (start f number) passes)).1
 
-  pub rows_first : or_else (in_order (field_check f t (span_of f t)) (parts f)) (in_order (digit_check f t (span_of f t)) (parts f))
+  pub rows_first : or_else (in_order (field_check f t (span_of f t)) (parts f))
+      (in_order (digit_check f t (span_of f t)) (parts f))
       ≡ first_of (by_part (field_checks f t) (parts f) ++ by_part (digit_checks f t) (parts f))
   rows_first =
       let fields = by_part (field_checks f t) (parts f) in
       let digits = by_part (digit_checks f t) (parts f) in
       else_same _ (in_order (digit_check f t (span_of f t)) (parts f)) (first_of digits)
       (λ e. by_part_lem (digit_check f t (span_of f t)) (digit_checks f t) (digit_first (number_ends e)) (parts f))
-      ∙ ap (λ o. or_else o (first_of digits)) (by_part_lem (field_check f t (span_of f t)) (field_checks f t) field_first (parts f))
+      ∙ ap (λ o. or_else o (first_of digits))
+      (by_part_lem (field_check f t (span_of f t)) (field_checks f t) field_first (parts f))
       ∙ sym (first_append fields digits)

@@ -47,7 +47,8 @@ code_other f t other visa = go (code_rule f (field f code t)) refl
     go : (b : Bool) → code_rule f (field f code t) ≡ b → b ≡ false
     go false e = refl
     go true e = absurd (false≢true (sym other
-        ∙ (sym (code_tells (row f).kind (get_or (field f code t) 0 0) (get_or (field f code t) 1 0) e) ∙ (code_there f t ∙ visa))))
+        ∙ (sym (code_tells (row f).kind (get_or (field f code t) 0 0) (get_or (field f code t) 1 0) e)
+        ∙ (code_there f t ∙ visa))))
 
 fields_other : (f : Form) (t : List ℕ) → code_rule f (field f code t) ≡ false
     → in_order (field_check f t (span_of f t)) (parts f) ≡ refused (by 3) 0

@@ -62,7 +62,8 @@ pub value_within : (s : List ℕ) (at tag : ℕ) (v : Stretch) → element s at 
 unfolding element
 value_within s at tag v e =
     let p = at + tag_width tag in
-    let k = sized_within s at p (size_at s p) v (kept_value (eqb (tag_at s at tag) tag) (sized s at p (size_at s p)) _ at v e).1 in
+    let k = sized_within s at p (size_at s p) v
+    (kept_value (eqb (tag_at s at tag) tag) (sized s at p (size_at s p)) _ at v e).1 in
     (omega (arith, some_tag tag, k.0), k.1, k.2)
 
 -- what is refused is refused at its place

@@ -83,7 +83,8 @@ four_read s k number e =
 pub length-characters : (s : List ℕ) (k n : ℕ) → length (characters_at s k n) ≡ n
 length-characters s k n = length-map (numbers_at s k n 6) character_of ∙ length-numbers s k n 6
 
-pub get_d_characters : (s : List ℕ) (k n i : ℕ) → i < n → get_or (characters_at s k n) i 0 ≡ character_of (bits_at s (k + 6 * i) 6)
+pub get_d_characters : (s : List ℕ) (k n i : ℕ) → i < n
+    → get_or (characters_at s k n) i 0 ≡ character_of (bits_at s (k + 6 * i) 6)
 unfolding numbers_at
 get_d_characters s k zero i h = absurd (omega arith)
 get_d_characters s k (suc n) zero h = simp unary_clauses

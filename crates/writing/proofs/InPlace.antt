@@ -132,7 +132,8 @@ put_cells g x s none (y of w ∷ cells) e =
         ∙ ap (λ (l : List ℕ). l ++ in_place g cells) (copied_padded w (take w s) ∙ padded_cut w s))
     go false k once left =
         rw (same_other x y k)
-        (copied_second (padded w (g y)) (in_place g cells) (take (width_in cells x) s) w (start_in cells x) (length-padded w (g y))
+        (copied_second (padded w (g y)) (in_place g cells) (take (width_in cells x) s) w (start_in cells x)
+        (length-padded w (g y))
         ∙ ap (λ (l : List ℕ). padded w (g y) ++ l) left)
 
 pub put_in_place : (f : Form) (g : Part → List ℕ) (x : Part) (s : List ℕ) → g x ≡ []

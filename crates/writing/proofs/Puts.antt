@@ -105,7 +105,8 @@ module _ (r : Record) where
             let more : length (further_in r ++ (d ∷ [])) ≡ length (further_in r) + 1 = length-append (further_in r) (d ∷ []) in
             let place : at + length (further_in r) + 1 ≡ at + length (further_in r ++ (d ∷ [])) = omega (arith, more) in
             let one = put_more r optional (further_in r) d u (long_put filler) (omega (arith, room wide)) in
-            let two = put_more r optional (further_in r ++ (d ∷ [])) filler u (long_put filler) (omega (arith, more, room wide)) in
+            let two = put_more r optional (further_in r ++ (d ∷ [])) filler u (long_put filler)
+            (omega (arith, more, room wide)) in
             rw (marked filler, one, place)
             (two ∙ ap (λ (l : List ℕ). put r optional l u) (append_assoc (further_in r) (d ∷ []) (filler ∷ [])))
         go false short = rw (marked (digit_of (take 9 r.number)))
@@ -169,7 +170,8 @@ module _ (r : Record) where
   -- ---- the steps together
 
   steps : Sound r
-      → mark r personal_check (digit_of (held r own)) (put_person r (put_dates r (put_own r (put_number r (put_opening r blanks)))))
+      → mark r personal_check (digit_of (held r own))
+      (put_person r (put_dates r (put_own r (put_number r (put_opening r blanks)))))
       ≡ written whole blanks
   unfolding whole written taken
   steps s =
@@ -235,7 +237,8 @@ module _ (r : Record) where
   all_given : (y : Part) → only_in whole y ≡ given r y
   unfolding only_in whole given_rows held_rows among
   all_given = in_rows_or (λ y l. cond (among y whole) l [] ≡ l) (held r) (given_rows r)
-      (in_rows_lem (λ y l. cond (among y whole) l [] ≡ l) [] (held_rows r) (λ y. either (among y whole)) (here (held_rows r) refl))
+      (in_rows_lem (λ y l. cond (among y whole) l [] ≡ l) [] (held_rows r) (λ y. either (among y whole))
+      (here (held_rows r) refl))
       (here (given_rows r) refl)
     where
       either : (b : Bool) → cond {A = List ℕ} b [] [] ≡ []
@@ -272,6 +275,7 @@ module _ (r : Record) where
       ∙ text_put))
     where
       go : (b : Bool) → has r.form composite ≡ b
-          → cond b (mark r composite (last_digit r) (before_last r)) (before_last r) ≡ mark r composite (last_digit r) (before_last r)
+          → cond b (mark r composite (last_digit r) (before_last r)) (before_last r)
+          ≡ mark r composite (last_digit r) (before_last r)
       go true e = refl
       go false e = sym (mark_none r composite (last_digit r) (before_last r) length_before e)

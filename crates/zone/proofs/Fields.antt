@@ -22,4 +22,5 @@ pub one_there : (f : Form) (x : Part) (t : List ℕ) (c : ℕ) → width f x ≡
     → get_or t (start f x) 0 ≡ c
 one_there f x t c w e =
     let k : padded (width f x) (c ∷ []) ≡ c ∷ [] = padded_exact (width f x) (c ∷ []) (sym w) in
-    ap (λ i. get_or t i 0) (sym (add-zero (start f x))) ∙ in_field f x t 0 (omega arith) ∙ ap (λ (l : List ℕ). get_or l 0 0) (e ∙ k)
+    ap (λ i. get_or t i 0) (sym (add-zero (start f x))) ∙ in_field f x t 0 (omega arith)
+    ∙ ap (λ (l : List ℕ). get_or l 0 0) (e ∙ k)

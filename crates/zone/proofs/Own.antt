@@ -15,7 +15,8 @@ use Rattle.zone.proofs.AllForms.{all_forms}
 pub own_parts : (f : Form) → same (own_part f) optional || (same (own_part f) optional2 || same (own_part f) personal) ≡ true
 unfolding row forms
 own_parts =
-    all_forms (λ f. same (own_part f) optional || (same (own_part f) optional2 || same (own_part f) personal) ≡ true) (search rules)
+    all_forms (λ f. same (own_part f) optional || (same (own_part f) optional2 || same (own_part f) personal) ≡ true)
+    (search rules)
 
 -- which begins where the optional field does exactly when it is that
 pub own_in_optional : (f : Form) → eqb (start f (own_part f)) (start f optional) ≡ same (own_part f) optional

@@ -16,7 +16,8 @@ use Rattle.zone.specs.Form.{Cell, ◌of◌, layout, start_in, start, width_in, w
 
 -- one part before the other, whichever
 Apart : List Cell → Part → Part → Type 0
-Apart cells x y = (start_in cells x + width_in cells x ≤ start_in cells y) ⊎ (start_in cells y + width_in cells y ≤ start_in cells x)
+Apart cells x y = (start_in cells x + width_in cells x ≤ start_in cells y)
+    ⊎ (start_in cells y + width_in cells y ≤ start_in cells x)
 
 both_there : (x y z : Part) → same x y ≡ false → same x z ≡ true → same y z ≡ true → ⊥
 both_there x y z n p q =
@@ -89,7 +90,8 @@ in_rows_or {A} Q none (y is a ∷ rows) other (said and left) x = go (same x y) 
     go true e rest = subst (λ (z : Part). Q z a) (sym (same_one x y e)) said
     go false e rest = rest
 
-pub in_rows_lem : {A : Type 0} (Q : Part → A → Type 0) (none : A) (rows : List (PartRow A)) → ((x : Part) → Q x none) → OfRows Q rows
+pub in_rows_lem : {A : Type 0} (Q : Part → A → Type 0) (none : A) (rows : List (PartRow A)) → ((x : Part) → Q x none)
+    → OfRows Q rows
     → (x : Part) → Q x (in_rows none rows x)
 in_rows_lem Q none rows = in_rows_or Q (λ x. none) rows
 

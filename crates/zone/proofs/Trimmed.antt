@@ -101,7 +101,8 @@ trimmed_rest : (w c : ℕ) (s : List ℕ) → trimmed_length (c ∷ s) ≤ suc w
 unfolding trimmed_length
 trimmed_rest w c s h = go (is_filler c && eqb (trimmed_length s) 0) refl h
   where
-    go : (b : Bool) → is_filler c && eqb (trimmed_length s) 0 ≡ b → cond b 0 (suc (trimmed_length s)) ≤ suc w → trimmed_length s ≤ w
+    go : (b : Bool) → is_filler c && eqb (trimmed_length s) 0 ≡ b → cond b 0 (suc (trimmed_length s)) ≤ suc w
+        → trimmed_length s ≤ w
     go true e k = omega (arith, eqb-true (trimmed_length s) 0 (and_both (is_filler c) (eqb (trimmed_length s) 0) e).1)
     go false e k = omega arith
 

@@ -16,7 +16,8 @@ use Rattle.chip.specs.Inner.ByTable.{lent_from, files_by}
 
 -- stages 5 and 6, by the table of digests
 abbrev pub with_digests : List ℕ → ℕ → Stretch → List ℕ → Read Record
-with_digests w start tags digests = checked (files_by w (cut w tags) digests (lent_from w start)) (group_one w (lent_from w start))
+with_digests w start tags digests =
+    checked (files_by w (cut w tags) digests (lent_from w start)) (group_one w (lent_from w start))
 
 -- stages 4 to 6
 abbrev pub with_common : List ℕ → Outer → Common → Read Record

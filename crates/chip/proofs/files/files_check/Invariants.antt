@@ -10,7 +10,8 @@ use Rattle.chip.proofs.files.files_check.Given as goal
 
 abbrev pub invariant-loop-at : goal.invariant-loop-at
 invariant-loop-at l = (length l.table ≡ 17) × (outcome_in (files l.w l.at) ≡ passed)
-    × (files_by l.w l.tags l.table (files_in (files l.w l.at)) ≡ files_by l.w l.tags l.initial.table (files_in (files l.w l.start)))
+    × (files_by l.w l.tags l.table (files_in (files l.w l.at))
+    ≡ files_by l.w l.tags l.initial.table (files_in (files l.w l.start)))
 
 abbrev pub decreases-loop-at : goal.decreases-loop-at
 decreases-loop-at l = length l.w - l.at

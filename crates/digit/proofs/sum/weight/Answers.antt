@@ -15,5 +15,6 @@ returns-in-1 c = rw c.in-1.is
 
 pub returns-in_default : goal.returns-in_default
 unfolding weight
-returns-in_default c = let k : c.args.place % 3 ≡ 2 = omega (arith, c.in_default.in_default-own.rest.1, c.in_default.in_default-own.rest.0.1) in
+returns-in_default c = let k : c.args.place % 3 ≡ 2 =
+    omega (arith, c.in_default.in_default-own.rest.1, c.in_default.in_default-own.rest.0.1) in
     rw k

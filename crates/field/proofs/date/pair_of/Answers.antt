@@ -32,5 +32,6 @@ unfolding pair_of is_digit is_filler
 returns-else-a-b c =
     elim c.in_default.branch [
       | in_default-via-then-a-lt48 w ↦ simp (lt-leb _ _ w.if-a-lt48-1.true, c.if-a-b.false)
-      | in_default-via-else-a-lt48+else-a-lt58 w ↦ simp (le-leb _ _ w.if-a-lt48-1.false, lt-leb _ (code "9") w.if-a-lt58-1.false, c.if-a-b.false)
+      | in_default-via-else-a-lt48+else-a-lt58 w ↦ simp
+          (le-leb _ _ w.if-a-lt48-1.false, lt-leb _ (code "9") w.if-a-lt58-1.false, c.if-a-b.false)
     ]

@@ -8,7 +8,8 @@ use Rattle.packing.proofs.pack.pack_fours.Given as goal
 
 abbrev pub invariant-loop-i : goal.invariant-loop-i
 invariant-loop-i l =
-    (l.i ≤ l.fours) × (length l.out ≡ length l.initial.out) × (l.out ≡ take (3 * l.i) (packed 0 l.fours l.s) ++ drop (3 * l.i) l.initial.out)
+    (l.i ≤ l.fours) × (length l.out ≡ length l.initial.out)
+    × (l.out ≡ take (3 * l.i) (packed 0 l.fours l.s) ++ drop (3 * l.i) l.initial.out)
 
 abbrev pub decreases-loop-i : goal.decreases-loop-i
 decreases-loop-i l = l.fours - l.i

@@ -7,7 +7,8 @@ use Rattle.seal_writing.proofs.parts.copy_all.Given as goal
 
 abbrev pub invariant-loop-i : goal.invariant-loop-i
 invariant-loop-i l =
-    (length l.from ≤ length l.initial.to) × (l.i ≤ length l.from) × (length l.to ≡ length l.initial.to) × (l.to ≡ take l.i l.from ++ drop l.i l.initial.to)
+    (length l.from ≤ length l.initial.to) × (l.i ≤ length l.from) × (length l.to ≡ length l.initial.to)
+    × (l.to ≡ take l.i l.from ++ drop l.i l.initial.to)
 
 abbrev pub decreases-loop-i : goal.decreases-loop-i
 decreases-loop-i l = length l.from - l.i

@@ -7,7 +7,8 @@ use Rattle.sha256.specs.Parsing.{joined}
 use Rattle.sha256.proofs.octets.joined.Given as goal
 
 abbrev pub invariant-loop-i : goal.invariant-loop-i
-invariant-loop-i l = (l.i ≤ 8) × (length l.initial.out ≡ 32) × (length l.out ≡ 32) × (l.out ≡ joined (take l.i l.hash) ++ drop (4 * l.i) l.initial.out)
+invariant-loop-i l = (l.i ≤ 8) × (length l.initial.out ≡ 32) × (length l.out ≡ 32)
+    × (l.out ≡ joined (take l.i l.hash) ++ drop (4 * l.i) l.initial.out)
 
 abbrev pub decreases-loop-i : goal.decreases-loop-i
 decreases-loop-i l = 8 - l.i

@@ -10,7 +10,8 @@ abbrev pub invariant-loop-i : goal.invariant-loop-i
 invariant-loop-i l =
     (l.i ≤ 8) × (length l.w ≡ 16) × (drop (l.at + l.i) l.w ≡ drop (l.at + l.i) l.initial.w)
     × (rolled (8 - l.i) (l.at + l.i) l.w ≡ rolled 8 l.at l.initial.w)
-    × (rounds (drop l.i l.k) (drop l.i (take 8 (drop l.at l.initial.w))) l.s ≡ rounds l.k (take 8 (drop l.at l.initial.w)) l.initial.s)
+    × (rounds (drop l.i l.k) (drop l.i (take 8 (drop l.at l.initial.w))) l.s
+    ≡ rounds l.k (take 8 (drop l.at l.initial.w)) l.initial.s)
 
 abbrev pub decreases-loop-i : goal.decreases-loop-i
 decreases-loop-i l = 8 - l.i

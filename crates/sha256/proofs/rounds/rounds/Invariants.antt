@@ -19,7 +19,8 @@ decreases-loop-t l = 48 - l.t
 abbrev pub invariant-loop-t-2 : goal.invariant-loop-t-2
 invariant-loop-t-2 l =
     (48 ≤ l.t) × (l.t ≤ 64) × (l.t % 8 ≡ 0)
-    × (rounds (drop l.t K) (drop l.t (schedule l.block)) l.s ≡ rounds (drop l.initial.t K) (drop l.initial.t (schedule l.block)) l.initial.s)
+    × (rounds (drop l.t K) (drop l.t (schedule l.block)) l.s
+    ≡ rounds (drop l.initial.t K) (drop l.initial.t (schedule l.block)) l.initial.s)
 
 abbrev pub decreases-loop-t-2 : goal.decreases-loop-t-2
 decreases-loop-t-2 l = 64 - l.t

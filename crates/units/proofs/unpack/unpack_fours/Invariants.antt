@@ -8,7 +8,8 @@ use Rattle.units.proofs.unpack.unpack_fours.Given as goal
 
 abbrev pub invariant-loop-i : goal.invariant-loop-i
 invariant-loop-i l =
-    (l.i ≤ l.fours) × (length l.to ≡ length l.initial.to) × (l.to ≡ take (4 * l.i) (characters_at l.s l.at (4 * l.fours)) ++ drop (4 * l.i) l.initial.to)
+    (l.i ≤ l.fours) × (length l.to ≡ length l.initial.to)
+    × (l.to ≡ take (4 * l.i) (characters_at l.s l.at (4 * l.fours)) ++ drop (4 * l.i) l.initial.to)
 
 abbrev pub decreases-loop-i : goal.decreases-loop-i
 decreases-loop-i l = l.fours - l.i
