@@ -3,19 +3,38 @@
 // document 01 by a program that shares nothing with the library.
 #![tactic(auto)]
 
+ghost use Rattle.std.specs.Prelude.{◌≤◌, length, IfOk};
+
 mod print;
 
 use lent::{octet, part};
 use std::io;
-use std::io::{BufWriter, Read, Write};
+use std::io::{Read, Write};
+
+// The most that is read of the samples.
+const MOST: usize = 65536;
 
 fn main(rt: HostRuntime) -> io::Result<()> {
-    let mut samples = Vec::new(rt.alloc());
-    rt.reader().read_to_end(&mut samples)?;
-    let mut out = BufWriter::new(rt.alloc(), io::writer(&rt))?;
+    let mut room = [0u8; MOST];
+    let n = read_full(&mut rt.reader(), &mut room)?;
+    let mut out = io::writer(&rt);
     out.write_all(b"Texts of machine readable zones, and what the library reads each as.\n")?;
-    lines(&mut out, &samples)?;
-    out.flush()
+    lines(&mut out, &room[..n])
+}
+
+// Reads until the range is full or the input ends, and answers how many octets were read.
+fn read_full<R: Read>(input: &mut R, room: &mut [u8]) -> io::Result<usize>
+    ensures { IfOk result (λ n. n ≤ length room.new) }
+{
+    let mut done = 0;
+    while done < room.len() {
+        let n = input.read(&mut room[done..])?;
+        if n == 0 {
+            return Ok(done);
+        }
+        done += n;
+    }
+    Ok(done)
 }
 
 // Every line, the last one too, ends in a line end.
