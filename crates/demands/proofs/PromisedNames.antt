@@ -61,23 +61,23 @@ module _ (file text : List ℕ) (r : NameInC) (call : FindsName file text r) whe
 
   pub full_name_of_file : (name : List ℕ) → ((r.from ≡ 1) × (found ≡ name)) ↔ HeldInFile file name
   full_name_of_file name = (
-    λ h. (name_from_file file text call.file_octets_lem name).0 (rw call.answers at h.0, sym found_part ∙ h.1),
-    λ h. let k = (name_from_file file text call.file_octets_lem name).1 h in (rw call.answers k.0, found_part ∙ k.1),
+    λ h. (name_from_file file text call.file_octets name).0 (rw call.answers at h.0, sym found_part ∙ h.1),
+    λ h. let k = (name_from_file file text call.file_octets name).1 h in (rw call.answers k.0, found_part ∙ k.1),
   )
 
   pub full_name_of_text : (r.from ≡ 2)
       ↔ (((name : List ℕ) → HeldInFile file name → ⊥) × ((read_text Alone text).outcome ≡ passed))
-  full_name_of_text = rw call.answers (name_from_text file text call.file_octets_lem)
+  full_name_of_text = rw call.answers (name_from_text file text call.file_octets)
 
   -- "its name without trailing fillers"
   pub full_name_in_text : r.from ≡ 2 → found ≡ trimmed (field (read_text Alone text).kept.form part.name text)
   full_name_in_text e =
-      found_part ∙ text_name file text call.file_octets_lem
-      ((name_in_text file text call.file_octets_lem).1 (full_name_of_text.0 e))
+      found_part ∙ text_name file text call.file_octets
+      ((name_in_text file text call.file_octets).1 (full_name_of_text.0 e))
 
   pub full_name_of_none : (r.from ≡ 0)
       ↔ (((name : List ℕ) → HeldInFile file name → ⊥) × ((read_text Alone text).outcome ≡ passed → ⊥))
-  full_name_of_none = rw call.answers (name_from_none file text call.file_octets_lem)
+  full_name_of_none = rw call.answers (name_from_none file text call.file_octets)
 
   pub full_name_within : r.stretch.start + r.stretch.length ≤ length (range_in_c r.from file text)
   full_name_within = rw call.answers (name_in_range file text)

@@ -69,5 +69,5 @@ pub record ReadsDetail (s : List ℕ) (asked : ℕ) (r : DetailInC) : Type 0 whe
 -- `lamphudet_full_name`
 pub record FindsName (file text : List ℕ) (r : NameInC) : Type 0 where
   pub answers : r ≡ name_in_c (full_name file text)
-  pub file_octets_lem : AreOctets file
+  pub file_octets : AreOctets file
   pub text_octets : AreOctets text

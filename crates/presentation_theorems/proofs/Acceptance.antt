@@ -31,7 +31,8 @@ use Rattle.presentation_theorems.specs.Presented.{object_of}
 use Rattle.presentation_theorems.specs.Presented.{all_lent, octets_of, IsIn, is_once, numbers, tags_of, FileKept, Presented}
 use Rattle.refusal.proofs.Outcomes.{refused_not_passed, unless_kept, kept_unless}
 use Rattle.text_theorems.proofs.Acceptance.{accepted_exactly}
-use Rattle.presentation_theorems.proofs.NoneTwice.{once_none, none_once}
+use Rattle.presentation_theorems.proofs.NoneTwice.{none_once}
+use Rattle.presentation_theorems.proofs.LentOnce.{lent_once}
 use Rattle.tlv.proofs.Joined.{first_value, value_then, one_value, checked_value, value_checked}
 use Rattle.presentation_theorems.proofs.EfCom.{common_read, read_common}
 use Rattle.presentation_theorems.proofs.ObjectEntry.{signed_in}
@@ -115,11 +116,11 @@ module _ (w : List ℕ) (small : AreOctets w) (r : Record) where
           tags_known = l.tags_kept.known_tags;
           tags_once = l.tags_kept.once_tags;
           entry_kept = s.entries_kept.each_kept;
-          numbers_once_lem = s.entries_kept.once_kept;
+          numbers_once = s.entries_kept.once_kept;
           entries_least = s.entries_kept.least_kept;
           file_kept = file_kept tags (signed_in w es) (lent_in w fs) h.files_group k.1;
-          lent_once = once_none (tags_of (lent_in w fs)) k.0;
-          group_one_lem = t.1;
+          lent_once = lent_once (lent_in w fs) k.0;
+          group_one = t.1;
           text_kept = (accepted_exactly GroupOne t.0).0 t.2;
         },
         t.3,
@@ -164,12 +165,12 @@ read_stages_lem p k =
     let tags = cut w x.tags in
     let s = read_object_lem w o.efcom.to 0x30 d (drop o.object.to w) o.object h.object_stands most p.newer
     p.followed p.entries (lds_of p.newer) p.digits refl
-    (record { each_kept = k.entry_kept; once_kept = k.numbers_once_lem; least_kept = k.entries_least }) in
+    (record { each_kept = k.entry_kept; once_kept = k.numbers_once; least_kept = k.entries_least }) in
     let y = s.0 in
     let es = y.entries in
     let agree = kept_unless (agrees w x y.version) 19 o.efcom.to
     (agreeing w x p.digits l.3 p.newer y.version l.2 s.4) in
-    let once = subst (λ (q : List Signed). is_once (numbers q) ≡ true) (sym s.2) k.numbers_once_lem in
+    let once = subst (λ (q : List Signed). is_once (numbers q) ≡ true) (sym s.2) k.numbers_once in
     let tags_once = subst (λ (q : List Lent). is_once (tags_of q) ≡ true) (sym lent) k.lent_once in
     let backed = subst (λ (q : List Lent). EachBacked tags (signed_in w es) q) (sym lent)
     (subst (λ (q : List Signed). EachBacked tags q p.lent) (sym s.2)
@@ -177,7 +178,7 @@ read_stages_lem p k =
     let check = backed_files w tags es (length w) s.3 once [] fs h.files_stand
     (none_once (tags_of (lent_in w fs)) tags_once) backed in
     let one = subst (λ (q : List Lent). IsIn (record { tag = 0x61; content = tlv 0x5F1F p.text }) q) (sym lent)
-    k.group_one_lem in
+    k.group_one in
     let text = read_one w fs h.files_stand most p.text tags_once one ((accepted_exactly GroupOne p.text).1
     k.text_kept) in
     value_then (walked w) (λ (q : Outer). decided both w q) o (value r) a.2

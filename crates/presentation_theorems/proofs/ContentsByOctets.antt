@@ -169,12 +169,12 @@ octets_tell p q k l e =
     (lds_of q.newer) p.digits q.digits b.content_fits b.same_content in
     let z = lent_tells p.lent q.lent (λ f m. (k.file_kept f m).of_group) (λ f m. (l.file_kept f m).of_group) b.rest_fits
     b.same_rest in
-    let one = subst (IsIn (record { tag = 0x61; content = tlv 0x5F1F p.text })) z k.group_one_lem in
+    let one = subst (IsIn (record { tag = 0x61; content = tlv 0x5F1F p.text })) z k.group_one in
     let held : tlv 0x5F1F p.text
     ≡ tlv 0x5F1F q.text = content_tells 0x61 (tlv 0x5F1F p.text) (tlv 0x5F1F q.text) q.lent l.lent_once one
-    l.group_one_lem in
+    l.group_one in
     let t : p.text ≡ q.text = split_last 0x5F1F p.text q.text
-    (lent_fits (record { tag = 0x61; content = tlv 0x5F1F p.text }) p.lent b.rest_fits k.group_one_lem) held in
+    (lent_fits (record { tag = 0x61; content = tlv 0x5F1F p.text }) p.lent b.rest_fits k.group_one) held in
     λ i. record {
       newer = x.0 i;
       tags = x.2 i;

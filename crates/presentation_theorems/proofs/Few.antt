@@ -43,6 +43,6 @@ presented_few p k =
     let xs = p.entries in
     let known = known_back 0 tags k.tags_known in
     let once = once_back 0 [] tags (none_once tags k.tags_once) in
-    let differ = numbers_once_lem [] [] (hashes xs) (rw (same_numbers xs) (none_once (numbers xs) k.numbers_once_lem)) in
+    let differ = numbers_once_lem [] [] (hashes xs) (rw (same_numbers xs) (none_once (numbers xs) k.numbers_once)) in
     let few = sixteen_entries (hashes xs) (numbered xs k.entry_kept) differ in
     (fifteen_tags 0 0 tags known once, omega (arith, same_count xs, few))

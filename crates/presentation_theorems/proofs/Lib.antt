@@ -20,6 +20,8 @@ pub mod GroupFiles
 pub mod FilesSigned
 -- stage 6: group 1 and its text
 pub mod GroupOne
+-- stage 5: that no group is lent twice
+pub mod LentOnce
 -- stages 1 and 2
 pub mod OuterWalk
 -- DEMAND 2: accepted exactly when it is the encodings of what belongs together (`presented-exactly`)

@@ -125,11 +125,11 @@ around_presented newer t small k = record {
   tags_known = refl;
   tags_once = refl;
   entry_kept = entries_kept newer t;
-  numbers_once_lem = refl;
+  numbers_once = refl;
   entries_least = omega arith;
   file_kept = files_kept newer t;
   lent_once = refl;
-  group_one_lem = inl refl;
+  group_one = inl refl;
   text_kept = k;
 }
 

@@ -145,13 +145,13 @@ pub record Presented (p : Contents) : Type 0 where
   pub tags_once : is_once p.tags ≡ true
   -- of the entries not "a repeated number", nor "fewer than 2"
   pub entry_kept : (e : Signed) → IsIn e p.entries → EntryKept e
-  pub numbers_once_lem : is_once (numbers p.entries) ≡ true
+  pub numbers_once : is_once (numbers p.entries) ≡ true
   pub entries_least : 2 ≤ length p.entries
   -- "Per group file", and none "lent before"
   pub file_kept : (f : Lent) → IsIn f p.lent → FileKept p.tags p.entries f
   pub lent_once : is_once (tags_of p.lent) ≡ true
   -- "Inside group 1: 5F1F and the text, exactly filling 61", and the text keeps every rule
-  pub group_one_lem : IsIn (record { tag = Tag.group1; content = tlv Tag.text p.text }) p.lent
+  pub group_one : IsIn (record { tag = Tag.group1; content = tlv Tag.text p.text }) p.lent
   pub text_kept : (f : Form) × (may_stand GroupOne f ≡ true) × Keeps f p.text
 
 -- ---- the file of a group

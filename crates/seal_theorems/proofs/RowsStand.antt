@@ -122,11 +122,11 @@ module _ (s : List ℕ) (small : AreOctets s) where
     λ e.
         let l = take 3 (drop at s) in
         let octets = every_take is_octet 3 (drop at s) (every_drop is_octet at s small) in
-        (day_at s at, record { day_rule_lem = e; day_there = sym (read_day l octets e) }),
+        (day_at s at, record { day_rule = e; day_there = sym (read_day l octets e) }),
     λ c.
         let k = c.1 in
         ap (λ (l : List ℕ). is_day (day_of (number_in l))) k.day_there
-        ∙ (ap is_day (day_read c.0 k.day_rule_lem) ∙ k.day_rule_lem),
+        ∙ (ap is_day (day_read c.0 k.day_rule) ∙ k.day_rule),
   )
 
 -- ---- feature 02

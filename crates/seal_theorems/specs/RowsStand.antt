@@ -33,7 +33,7 @@ pub record ReferenceStands (s : List ℕ) (h : Head) : Type 0 where
 
 -- "issue date, signature date": a calendar day's three octets
 pub record DayStands (s : List ℕ) (at : ℕ) (d : Day) : Type 0 where
-  pub day_rule_lem : is_day d ≡ true
+  pub day_rule : is_day d ≡ true
   pub day_there : StandsAt s at (day_octets d)
 
 -- behind tag and length of the feature 02 at a place, its 48 octets are the image of a text in C40

@@ -47,6 +47,7 @@ use Rattle.text_theorems.proofs.Common.{common, plain_has}
 use Rattle.refusal.proofs.Outcomes.{refused_not_passed, both_passed, unless_kept, kept_unless}
 use Rattle.text_theorems.proofs.PartByPart.{digit_kept, kept_digit, personal_kept, kept_personal, walk_each, each_walk}
 use Rattle.text_theorems.proofs.NumberSpan.{short_span, long_span, span_ends, long_has}
+use Rattle.text_theorems.proofs.CompositeKept.{composite_kept}
 
 -- a test that was not passed
 not_false : (b : Bool) → not b ≡ false → b ≡ true
@@ -132,12 +133,12 @@ module _ (f : Form) (t : List ℕ) (told : length t ≡ total f) (accepted : ver
     number_begins = number_kept.0;
     number_ends = ends;
     name_kept = unless_kept (name_rule (field f name t)) 8 (start f name) (field_passed name (common f).has_name);
-    number_digit_lem = short_kept;
+    number_digit = short_kept;
     long_digit = long_kept;
     birth_digit = digit_kept t (start f birth_check) (field f birth t) (digit_passed birth_check (common f).has_birth_check);
     expiry_digit = digit_kept t (start f expiry_check) (field f expiry t) (digit_passed expiry_check (common f).has_expiry_check);
-    personal_digit_lem = λ h. personal_kept f t (digit_passed personal_check h);
-    composite_digit = λ h. digit_kept t (start f composite) (covered f t) (digit_passed composite h);
+    personal_digit = λ h. personal_kept f t (digit_passed personal_check h);
+    composite_digit = λ h. composite_kept f t span (digit_passed composite h);
   }
 
 -- ---- and back
@@ -148,7 +149,7 @@ module _ (f : Form) (t : List ℕ) (k : Keeps f t) where
       → (span_rule (span_of f t) ≡ true) × (number_digit f t (span_of f t) ≡ passed) × (further_digit f t (span_of f t) ≡ passed)
   unfolding span_rule number_digit further_digit checked_by
   number_right false e = rw (short_span f t e)
-      (refl, kept_digit t (start f number_check) (field f number t) (k.number_digit_lem e), refl)
+      (refl, kept_digit t (start f number_check) (field f number t) (k.number_digit e), refl)
   number_right true e =
       rw (long_span f t e (k.number_ends e).0 (k.number_ends e).1) (
         refl,
@@ -183,7 +184,7 @@ module _ (f : Form) (t : List ℕ) (k : Keeps f t) where
       and (λ h. (number_right (is_long f t) refl).2)
       and (λ h. kept_digit t (start f birth_check) (field f birth t) k.birth_digit)
       and (λ h. kept_digit t (start f expiry_check) (field f expiry t) k.expiry_digit)
-      and (λ h. kept_personal f t (k.personal_digit_lem h))
+      and (λ h. kept_personal f t (k.personal_digit h))
       and (λ h. kept_digit t (start f composite) (covered f t) (k.composite_digit h))
       and all_said)
 

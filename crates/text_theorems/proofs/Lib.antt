@@ -14,14 +14,16 @@ pub mod FirstFailing
 pub mod Expected
 -- the code stands first, and tells a visa
 pub mod CodeTold
+-- what the text of a record holds, part by part
+pub mod TextOfRecord
+-- the composite's digit, of a text that passed and of one that was written
+pub mod CompositeKept
 -- DEMAND 2: accepted exactly when every rule is kept (`accepted-exactly`)
 pub mod Acceptance
 -- DEMAND 2: the record of an accepted text holds its fields, and is sound (`kept-and-sound`)
 pub mod RecordOfText
 -- visas as text only: elsewhere every answer is as it was (`no-visa-same`, `visa-elsewhere`)
 pub mod Visas
--- what the text of a record holds, part by part
-pub mod TextOfRecord
 -- the issuer's own data in the text of a record
 pub mod OwnData
 -- DEMAND 2: every sound record is written as a text that reads back as that record (`text-read-back`)

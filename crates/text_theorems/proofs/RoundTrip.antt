@@ -41,7 +41,8 @@ use Rattle.zone.proofs.Trimmed.{trimmed_cut}
 use Rattle.sound.proofs.Solid.{solid, first_behind}
 use Rattle.digit.proofs.Written.{digit_solid}
 use Rattle.writing.proofs.Further.{is_wide_lem, number_length, further_all, further_fits}
-use Rattle.text_theorems.proofs.TextOfRecord.{length-text, shown, last_shown, one_shown, front_shown, text_pure}
+use Rattle.text_theorems.proofs.TextOfRecord.{length-text, shown, one_shown, front_shown, text_pure}
+use Rattle.text_theorems.proofs.CompositeKept.{composite_shown}
 use Rattle.text_theorems.proofs.TextOfRecord.{plain_shown}
 use Rattle.text_theorems.proofs.OwnData.{own_back, personal_shown}
 use Rattle.text_theorems.proofs.RecordOfText.{in_text_lem}
@@ -201,12 +202,12 @@ module _ (r : Record) (s : Sound r) where
     number_begins = rw (nine_shown, get_or-take 9 r.number 0 0 (omega arith)) (solid (get_or r.number 0 0) s.number_begins);
     number_ends = λ e. ends (sym long_shown ∙ e);
     name_kept = ap name_rule name_shown ∙ name_rule_lem;
-    number_digit_lem = λ e. check_shown ∙ short_digit (sym long_shown ∙ e) ∙ ap digit_of (sym nine_shown);
+    number_digit = λ e. check_shown ∙ short_digit (sym long_shown ∙ e) ∙ ap digit_of (sym nine_shown);
     long_digit = λ e. digit_shown (sym long_shown ∙ e) ∙ ap digit_of (sym (number_shown (sym long_shown ∙ e)));
     birth_digit = birth_right;
     expiry_digit = expiry_right;
-    personal_digit_lem = λ h in_text_lem. personal_right h;
-    composite_digit = last_shown r;
+    personal_digit = λ h standing. personal_right h;
+    composite_digit = composite_shown r;
   }
 
   -- ---- and is read as the record

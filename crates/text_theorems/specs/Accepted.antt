@@ -25,12 +25,12 @@ pub record Keeps (f : Form) (t : List ℕ) : Type 0 where
   pub number_begins : is_filler (get_or (field f number t) 0 0) ≡ false
   pub number_ends : is_long f t ≡ true → (2 ≤ filler_at f t) × (filler_at f t < width f optional)
   pub name_kept : name_rule (field f name t) ≡ true
-  pub number_digit_lem : is_long f t ≡ false → get_or t (start f number_check) 0 ≡ digit_of (field f number t)
+  pub number_digit : is_long f t ≡ false → get_or t (start f number_check) 0 ≡ digit_of (field f number t)
   pub long_digit : is_long f t ≡ true
       → get_or t (start f optional + (filler_at f t - 1)) 0
       ≡ digit_of (field f number t ++ take (filler_at f t - 1) (field f optional t))
   pub birth_digit : get_or t (start f birth_check) 0 ≡ digit_of (field f birth t)
   pub expiry_digit : get_or t (start f expiry_check) 0 ≡ digit_of (field f expiry t)
-  pub personal_digit_lem : has f personal_check ≡ true → is_left_out f t ≡ false
+  pub personal_digit : has f personal_check ≡ true → is_left_out f t ≡ false
       → get_or t (start f personal_check) 0 ≡ digit_of (field f personal t)
   pub composite_digit : has f composite ≡ true → get_or t (start f composite) 0 ≡ digit_of (covered f t)
