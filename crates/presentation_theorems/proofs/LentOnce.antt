@@ -1,5 +1,5 @@
--- That no group is lent twice, of a presentation whose files passed. It stands apart so that acceptance can be stated without that
--- rule, this fitted to it, and seen to be refused where the rule is used.
+-- That no group is lent twice, of a presentation whose files passed. It stands apart so that acceptance can be stated without
+-- that rule, this fitted to it, and seen to be refused where the rule is used.
 use mathlib.Core.Path.{◌≡◌}
 use mathlib.Core.Bool.{true}
 use mathlib.Core.List.{List, []}
