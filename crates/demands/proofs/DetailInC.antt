@@ -1,7 +1,7 @@
--- What a C host may rely on of `lamphudet_read_detail`: 0 exactly for a list and the elements that it names (`octets-detailed`),
--- with the stretch of the one that is asked for (`detail-stretch`), within the file (`detail-in-range`); a refusal is not 0
--- (`detail-not-zero`), is the first failing check (`detail-refused`), has one of the call's numbers and a place in the file, and
--- no stretch (`detail-answers`), and tells no digit (`detail-no-digit`).
+-- What a C host may rely on of `lamphudet_read_detail`: 0 exactly for a list and the elements that it names (`octets_detailed`),
+-- with the stretch of the one that is asked for (`detail_stretch`), within the file (`detail_in_range`); a refusal is not 0
+-- (`detail_not_zero`), is the first failing check (`detail_refused`), has one of the call's numbers and a place in the file, and
+-- no stretch (`detail_answers`), and tells no digit (`detail_no_digit`).
 use Prim.Native.Nat.{ℕ, ◌+◌, ◌≤◌}
 use mathlib.Core.Path.{◌≡◌, refl, ap, sym, ◌∙◌}
 use mathlib.Core.Bool.{true, false≢true}

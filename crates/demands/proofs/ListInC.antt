@@ -1,6 +1,6 @@
 -- What a C host may rely on of `lamphudet_look_over`: 0 and the number of entries exactly for a list whose keys rise
--- (`octets-counted`). DEMAND 1: another number is 18 or 23 at a place before the list's end (`list-answers`), no refusal is told
--- by 0 (`list-not-zero`), what is given with it (`list-gives`), and no digit (`list-no-digit`).
+-- (`octets_counted`). DEMAND 1: another number is 18 or 23 at a place before the list's end (`list_answers`), no refusal is told
+-- by 0 (`list_not_zero`), what is given with it (`list_gives`), and no digit (`list_no_digit`).
 use Prim.Native.Nat.{ℕ, ◌<◌}
 use mathlib.Core.Path.{◌≡◌, refl, ap, sym, ◌∙◌}
 use mathlib.Core.Logic.{◌↔◌}

@@ -1,5 +1,5 @@
--- What a C host may rely on of `lamphudet_look_inside`: 0 and the number of elements exactly for a whole file (`octets-looked`);
--- a refusal is not 0, and is the first failing check (`look-refused`).
+-- What a C host may rely on of `lamphudet_look_inside`: 0 and the number of elements exactly for a whole file (`octets_looked`);
+-- a refusal is not 0, and is the first failing check (`look_refused`).
 use Prim.Native.Nat.{ℕ}
 use mathlib.Core.Path.{◌≡◌, refl, ap, sym, ◌∙◌}
 use mathlib.Core.Logic.{◌↔◌}

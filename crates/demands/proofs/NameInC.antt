@@ -1,6 +1,6 @@
 -- What a C host may rely on of `lamphudet_full_name`: the octets at its stretch, in the range that it is from, are the name
--- (`name-octets`) and stand in it (`name-in-range`); 1 and 2 and 0 are told as the sentence says (`name-from-file`,
--- `name-from-text`, `name-from-none`).
+-- (`name_octets`) and stand in it (`name_in_range`); 1 and 2 and 0 are told as the sentence says (`name_from_file`,
+-- `name_from_text`, `name_from_none`).
 use Prim.Native.Nat.{ℕ, ◌+◌, ◌≤◌}
 use mathlib.Core.Path.{◌≡◌, refl, ap}
 use mathlib.Core.Logic.{◌↔◌}

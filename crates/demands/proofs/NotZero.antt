@@ -1,5 +1,5 @@
--- What a C host may rely on of every call: number 0 is never a refusal. (Of `lamphudet_next_entry`: `next-not-zero`; of
--- `lamphudet_look_inside`: `look-not-zero`; of `lamphudet_read_detail`: `detail-not-zero`.)
+-- What a C host may rely on of every call: number 0 is never a refusal. (Of `lamphudet_next_entry`: `next_not_zero`; of
+-- `lamphudet_look_inside`: `look_not_zero`; of `lamphudet_read_detail`: `detail_not_zero`.)
 use Prim.Native.Nat.{ℕ}
 use mathlib.Core.Path.{◌≡◌, refl, sym, ◌∙◌}
 use mathlib.Core.Logic.{◌↔◌}

@@ -1,4 +1,4 @@
--- THE RECORD of an accepted presentation is that of an accepted text (`presentation-held`), and so sound (`presentation-sound`),
+-- THE RECORD of an accepted presentation is that of an accepted text (`presentation_held`), and so sound (`presentation_sound`),
 -- whatever numbers it was read from.
 use Prim.Native.Nat.{ℕ}
 use mathlib.Core.Path.{◌≡◌, ap, sym, ◌∙◌}

@@ -1,5 +1,5 @@
 -- DEMAND 2 of a file of group 11: it is read exactly when its octets are those of a list and of the elements that it names
--- (`details-exactly`), and what is told of an element is where it stands (`detail-told`).
+-- (`details_exactly`), and what is told of an element is where it stands (`detail_told`).
 use Prim.Native.Nat.{ℕ, ◌-◌, ◌≤◌, ◌<◌}
 use mathlib.Core.Path.{◌≡◌, ap, sym, ◌∙◌}
 use mathlib.Core.Bool.{true}

@@ -1,5 +1,5 @@
 -- DEMAND 2, the other way: a file of group 11 is refused exactly by the first of its checks that fails
--- (`details-refused-exactly`).
+-- (`details_refused_exactly`).
 use Prim.Native.Nat.{ℕ, ◌≤◌, ◌<◌}
 use mathlib.Core.Path.{◌≡◌, refl, ap, sym, ◌∙◌}
 use mathlib.Core.Bool.{Bool, true, false, cond}

@@ -1,5 +1,5 @@
--- THE FULL NAME, as the sentence says: in the file exactly where that holds one (`name-in-file`), else in the text exactly where
--- that is accepted, without trailing fillers (`name-in-text`, `text-name`), and else nowhere (`name-nowhere`, `no_name`).
+-- THE FULL NAME, as the sentence says: in the file exactly where that holds one (`name_in_file`), else in the text exactly where
+-- that is accepted, without trailing fillers (`name_in_text`, `text_name`), and else nowhere (`name_nowhere`, `no_name`).
 use Prim.Native.Nat.{ℕ, ◌+◌, ◌-◌, ◌≤◌, ◌<◌}
 use mathlib.Core.Path.{◌≡◌, refl, ap, sym, ◌∙◌}
 use mathlib.Core.Bool.{Bool, true, false, ◌||◌, false≢true}

@@ -1,4 +1,4 @@
--- NO SECOND ANSWER meets the promise of a detail (`only-detail`). That of the full name is an equation.
+-- NO SECOND ANSWER meets the promise of a detail (`only_detail`). That of the full name is an equation.
 use Prim.Native.Nat.{ℕ}
 use mathlib.Core.Path.{◌≡◌, sym, ◌∙◌}
 use mathlib.Core.List.{List}

@@ -1,4 +1,4 @@
--- DEMAND 1: every refusal is by 10 or 20, at a place no further than the file's end (`detail-refusal`).
+-- DEMAND 1: every refusal is by 10 or 20, at a place no further than the file's end (`detail_refusal`).
 use Prim.Native.Nat.{ℕ, zero, suc, ◌≤◌}
 use mathlib.Core.Path.{◌≡◌, refl, ap}
 use mathlib.Core.Bool.{true}

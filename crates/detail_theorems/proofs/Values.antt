@@ -1,5 +1,5 @@
--- What stands where a detail is told to stand: its element's value, A0 whole (`detail-there`); nothing where the list does not
--- name it (`detail-none`). No other elements have a file's octets (`no-other-elements`).
+-- What stands where a detail is told to stand: its element's value, A0 whole (`detail_there`); nothing where the list does not
+-- name it (`detail_none`). No other elements have a file's octets (`no_other_elements`).
 use Prim.Native.Nat.{ℕ, ◌+◌, ◌-◌, ◌≤◌, ◌<◌}
 use mathlib.Core.Path.{◌≡◌, refl, ap, sym, ◌∙◌}
 use mathlib.Core.Bool.{Bool, true, false, cond, not, ◌&&◌}

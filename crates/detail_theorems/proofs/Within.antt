@@ -1,5 +1,5 @@
--- WHAT IS TOLD STANDS IN WHAT WAS LENT: a detail in the file (`detail-within`), a name in the range that it is from
--- (`name-within-range`), whatever octets these hold.
+-- WHAT IS TOLD STANDS IN WHAT WAS LENT: a detail in the file (`detail_within`), a name in the range that it is from
+-- (`name_within_range`), whatever octets these hold.
 use Prim.Native.Nat.{ℕ, ◌≤◌}
 use mathlib.Core.Path.{◌≡◌, refl, ap, ◌∙◌}
 use mathlib.Core.Bool.{Bool, true, false, cond}

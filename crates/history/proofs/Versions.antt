@@ -1,5 +1,5 @@
--- REQUEST 2026-04: presentations accepted before keep their record (`accepted-kept`); no `0107` one refused before is accepted
--- now (`refused-still`); and a `0107` one with object version 0 keeps its whole answer (`older-same`).
+-- REQUEST 2026-04: presentations accepted before keep their record (`accepted_kept`); no `0107` one refused before is accepted
+-- now (`refused_still`); and a `0107` one with object version 0 keeps its whole answer (`older_same`).
 use Prim.Native.Nat.{ℕ}
 use mathlib.Core.Path.{◌≡◌, refl, ap, sym, ◌∙◌}
 use mathlib.Core.Bool.{Bool, true, false, not, ◌&&◌, ◌||◌, false≢true}

@@ -1,5 +1,5 @@
--- ACCEPTED EXACTLY WHEN the octets are the encoding of a whole file's tree (`inside-exactly`); the number is then that tree's
--- (`number-exactly`), and no other tree has these octets (`no-other-tree`).
+-- ACCEPTED EXACTLY WHEN the octets are the encoding of a whole file's tree (`inside_exactly`); the number is then that tree's
+-- (`number_exactly`), and no other tree has these octets (`no_other_tree`).
 use Prim.Native.Nat.{ℕ, ◌≤◌, ◌<◌}
 use mathlib.Core.Path.{◌≡◌, refl, ap, sym, ◌∙◌}
 use mathlib.Core.Logic.{◌↔◌}

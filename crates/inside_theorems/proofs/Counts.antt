@@ -1,4 +1,4 @@
--- The templates by their places are those of the tree: as many, and the first where it stands (`count-places`, `first-places`).
+-- The templates by their places are those of the tree: as many, and the first where it stands (`count_places`, `first_places`).
 use Prim.Native.Nat.{ℕ, suc, ◌≤◌}
 use mathlib.Core.Path.{◌≡◌, refl, ap, sym, ◌∙◌}
 use mathlib.Core.Logic.{◌⊎◌, inl, inr}

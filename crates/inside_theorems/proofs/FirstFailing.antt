@@ -1,6 +1,6 @@
 -- THE FIRST FAILING CHECK: a file is refused by a number at a place exactly where the first row of `inside_checks` that fails
 -- says
--- so (`inside-refused-exactly`).
+-- so (`inside_refused_exactly`).
 use Prim.Native.Nat.{ℕ, zero, suc, ◌+◌, ◌≤◌, ◌<◌}
 use mathlib.Core.Path.{◌≡◌, refl, ap, sym, ◌∙◌}
 use mathlib.Core.Logic.{◌↔◌}

@@ -12,14 +12,14 @@ pub mod Counts
 pub mod Opening
 -- the count of templates is right exactly where the tree's is
 pub mod Templates
--- accepted exactly when the octets are a whole file's tree (`inside-exactly`), no other tree has them (`no-other-tree`), and the
--- number is that tree's (`number-exactly`)
+-- accepted exactly when the octets are a whole file's tree (`inside_exactly`), no other tree has them (`no_other_tree`), and the
+-- number is that tree's (`number_exactly`)
 pub mod Acceptance
--- the first failing check (`inside-refused-exactly`)
+-- the first failing check (`inside_refused_exactly`)
 pub mod FirstFailing
--- DEMAND 1: every refusal's number and place (`look-told`)
+-- DEMAND 1: every refusal's number and place (`look_told`)
 pub mod Refusals
--- no second answer (`only-look`, `only-list`)
+-- no second answer (`only_look`, `only_list`)
 pub mod OneAnswer
--- the demands are not empty (`examples-hold`)
+-- the demands are not empty (`examples_hold`)
 pub mod NotEmpty

@@ -1,4 +1,4 @@
--- NO SECOND ANSWER meets the promise of looking inside a file (`only-look`), nor that of the list walker (`only-list`).
+-- NO SECOND ANSWER meets the promise of looking inside a file (`only_look`), nor that of the list walker (`only_list`).
 use Prim.Native.Nat.{ℕ}
 use mathlib.Core.Path.{◌≡◌, ap, sym, ◌∙◌}
 use mathlib.Core.List.{List}

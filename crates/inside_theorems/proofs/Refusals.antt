@@ -1,4 +1,4 @@
--- DEMAND 1: every refusal is by 10, 21 or 22, at a place no further than the file's end (`look-told`).
+-- DEMAND 1: every refusal is by 10, 21 or 22, at a place no further than the file's end (`look_told`).
 use Prim.Native.Nat.{ℕ, zero, suc, ◌≤◌}
 use mathlib.Core.Path.{◌≡◌, refl, ap}
 use mathlib.Core.Bool.{Bool, true, false, cond, not, ◌&&◌}

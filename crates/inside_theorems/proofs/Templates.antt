@@ -1,4 +1,4 @@
--- The count of templates is right exactly where the tree's is (`count-right`, `right-count`).
+-- The count of templates is right exactly where the tree's is (`count_right`, `right_count`).
 use Prim.Native.Nat.{ℕ, ◌+◌, ◌≤◌}
 use mathlib.Core.Path.{◌≡◌, refl, ap, sym, ◌∙◌}
 use mathlib.Core.Logic.{◌⊎◌, inl, inr}

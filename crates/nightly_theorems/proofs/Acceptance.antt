@@ -1,5 +1,5 @@
--- ACCEPTED EXACTLY WHEN the octets are the joined entries of houses and sound records whose keys rise (`count-exactly`), and no
--- other lines have these octets (`no-other-lines`); REFUSED EXACTLY WHERE the first sentence fails (`refused-exactly`).
+-- ACCEPTED EXACTLY WHEN the octets are the joined entries of houses and sound records whose keys rise (`count_exactly`), and no
+-- other lines have these octets (`no_other_lines`); REFUSED EXACTLY WHERE the first sentence fails (`refused_exactly`).
 use Prim.Native.Nat.{ℕ, suc, ◌+◌, ◌<◌}
 use mathlib.Core.Path.{◌≡◌, refl, ap, sym, ◌∙◌}
 use mathlib.Core.Logic.{◌↔◌, inl, inr}

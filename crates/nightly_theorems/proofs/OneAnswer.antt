@@ -1,4 +1,4 @@
--- NO SECOND ANSWER meets the promise of looking over a list (`only-look-over`). Of a house's stretch and its entries the promise
+-- NO SECOND ANSWER meets the promise of looking over a list (`only_look_over`). Of a house's stretch and its entries the promise
 -- is the answer itself.
 use Prim.Native.Nat.{ℕ}
 use mathlib.Core.Path.{◌≡◌, ap, sym, ◌∙◌}

@@ -1,4 +1,4 @@
--- DEMAND 1: every refusal of a list is by 18 or 23, at a place before its end (`list-told`).
+-- DEMAND 1: every refusal of a list is by 18 or 23, at a place before its end (`list_told`).
 use Prim.Native.Nat.{ℕ, zero, suc, ◌+◌, ◌≤◌, ◌<◌}
 use mathlib.Core.Path.{◌≡◌, refl, ap}
 use mathlib.Core.Bool.{Bool, true, false}

@@ -1,6 +1,6 @@
--- SEPARATION in a list: the stretches of two different houses have no octet in common (`stretches-apart`), and those of all
--- houses, in their order, are the list where it is accepted (`stretches-all`). A refused list has none (`refused-empty`), nor has
--- a number that is no house's (`no-house-empty`); and each ends within the list (`stretch-within`).
+-- SEPARATION in a list: the stretches of two different houses have no octet in common (`stretches_apart`), and those of all
+-- houses, in their order, are the list where it is accepted (`stretches_all`). A refused list has none (`refused_empty`), nor has
+-- a number that is no house's (`no_house_empty`); and each ends within the list (`stretch_within`).
 use Prim.Native.Nat.{ℕ, zero, suc, ◌+◌, ◌≤◌, ◌<◌}
 use mathlib.Core.Path.{◌≡◌, refl, ap, sym, ◌∙◌}
 use mathlib.Core.Bool.{Bool, true, false, cond, false≢true}

@@ -1,4 +1,4 @@
--- THE STRETCH OF A HOUSE is that of its own entries, all of them and in their order (`stretch-exactly`, `cut-exactly`).
+-- THE STRETCH OF A HOUSE is that of its own entries, all of them and in their order (`stretch_exactly`, `cut_exactly`).
 use Prim.Native.Nat.{ℕ, suc, ◌+◌, ◌-◌}
 use mathlib.Core.Path.{◌≡◌, refl, ap, sym, ◌∙◌}
 use mathlib.Core.Bool.{Bool, true, false, cond}

@@ -1,5 +1,5 @@
 -- DEMAND 2, the answer: reading a presentation answers `refused n p` exactly where n at p is the first failing check in the
--- paper's order (`presentation-refused-exactly`).
+-- paper's order (`presentation_refused_exactly`).
 use Prim.Native.Nat.{ℕ}
 use mathlib.Core.Path.{◌≡◌, refl, ap, sym, ◌∙◌}
 use mathlib.Core.Logic.{◌↔◌}

@@ -24,22 +24,22 @@ pub mod GroupOne
 pub mod LentOnce
 -- stages 1 and 2
 pub mod OuterWalk
--- DEMAND 2: accepted exactly when it is the encodings of what belongs together (`presented-exactly`)
+-- DEMAND 2: accepted exactly when it is the encodings of what belongs together (`presented_exactly`)
 pub mod Acceptance
--- DEMAND 2: the file of a group (`group-stretch` and what is around it)
+-- DEMAND 2: the file of a group (`group_stretch_lem` and what is around it)
 pub mod GroupFile
--- DEMAND 2: every accepted text is carried by an accepted presentation (`every-text-carried`)
+-- DEMAND 2: every accepted text is carried by an accepted presentation (`every_text_carried`)
 pub mod TextsCarried
--- contents that belong together keep the two limits that nothing reaches (`presented-few`)
+-- contents that belong together keep the two limits that nothing reaches (`presented_few`)
 pub mod Few
--- no two contents have the same octets (`octets-tell`)
+-- no two contents have the same octets (`octets_tell`)
 pub mod ContentsByOctets
--- reading a presentation is finding its text and reading it (`through-text`)
+-- reading a presentation is finding its text and reading it (`through_text`)
 pub mod ThroughText
 -- what every refusal before the text has
 pub mod Refusals
--- DEMAND 2: the digit that a refusal 9 carries is the text's (`expected-carried`, `presentation-nine`); DEMAND 1: its number and
--- its place (`presentation-numbered`, `presentation-within`)
+-- DEMAND 2: the digit that a refusal 9 carries is the text's (`expected_carried`, `presentation_nine`); DEMAND 1: its number and
+-- its place (`presentation_numbered`, `presentation_within`)
 pub mod Expected
 -- stage 3 as rows
 pub mod EfComRows
@@ -49,5 +49,5 @@ pub mod ObjectRows
 pub mod FilesRows
 -- stage 6 as rows
 pub mod GroupOneRows
--- DEMAND 2: the answer is the first failing check (`presentation-refused-exactly`)
+-- DEMAND 2: the answer is the first failing check (`presentation_refused_exactly`)
 pub mod FirstFailing

@@ -1,5 +1,5 @@
--- Reading a presentation is finding its text (`text_stretch`) and then reading it (`through-text`); and where the text stands
--- (`text-stands`).
+-- Reading a presentation is finding its text (`text_stretch`) and then reading it (`through_text`); and where the text stands
+-- (`text_stands`).
 use Prim.Native.Nat.{ℕ, ◌≤◌}
 use mathlib.Core.Path.{◌≡◌, ap}
 use mathlib.Core.List.{List, []}

@@ -1,6 +1,6 @@
 -- Stage 3, the checks of EF.COM one after the other: document 01, "Stages of a presentation", whose words are those in quotes;
 -- `0108` document 02, 2026-04. 11 stands "at the element's tag", and of each element the "encoding before its content". s: the
--- bytes up to the end of EF.COM. No row has "more than fifteen": the rows before it leave none to refuse (`fifteen-tags`;
+-- bytes up to the end of EF.COM. No row has "more than fifteen": the rows before it leave none to refuse (`fifteen_tags`;
 -- document 02, 2026-09).
 use Rattle.std.specs.Prelude.{ℕ, suc, not, ◌||◌, List, [], ◌∷◌, ◌++◌}
 use Rattle.refusal.specs.Outcome.{Outcome, unless}

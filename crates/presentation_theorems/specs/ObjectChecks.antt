@@ -1,7 +1,7 @@
 -- Stage 4, the checks of the security object one after the other: document 01, "Stages of a presentation", and document 02,
 -- 2026-04, whose words are those in quotes. 12 stands "at the bad element", and of each element the "encoding before its
 -- content". s: the bytes up to the end of what holds the element. No row has "more than 16": the rows before it leave none to
--- refuse (`sixteen-entries`; document 02, 2026-09).
+-- refuse (`sixteen_entries`; document 02, 2026-09).
 use Rattle.std.specs.Prelude.{ℕ, Bool, cond, not, ◌&&◌, ◌||◌, List, [], ◌∷◌, ◌++◌, map, eqb, leb, length, take, get_or}
 use Rattle.refusal.specs.Outcome.{Outcome, unless}
 use Rattle.lent.specs.Octets.{stands}

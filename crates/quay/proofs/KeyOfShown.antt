@@ -1,5 +1,5 @@
 -- DEMAND 3, the key, for texts, presentations and seals in any mixture: the record of whatever is accepted is sound
--- (`shown-sound`), so that two keys agree exactly when house, form, state, whole number, birth and expiry do (`shown-key`).
+-- (`shown_sound`), so that two keys agree exactly when house, form, state, whole number, birth and expiry do (`shown_key`).
 use Prim.Native.Nat.{ℕ}
 use mathlib.Core.Path.{◌≡◌}
 use mathlib.Core.Logic.{◌↔◌}

@@ -1,6 +1,6 @@
 -- SEPARATION over every mixture of calls that write an entry, of a text, a presentation or a seal: what two that answer 0 leave
--- begins with the same thirty octets exactly when house, form, state, whole number, birth and expiry agree (`calls-apart`), so
--- for two houses never (`houses-never-meet`); and what one leaves is read as its own house's wherever it stands (`own-entry`).
+-- begins with the same thirty octets exactly when house, form, state, whole number, birth and expiry agree (`calls_apart`), so
+-- for two houses never (`houses_never_meet`); and what one leaves is read as its own house's wherever it stands (`own_entry`).
 use Prim.Native.Nat.{ℕ, ◌+◌}
 use mathlib.Core.Path.{◌≡◌, refl, sym, ◌∙◌}
 use mathlib.Core.Logic.{◌↔◌}

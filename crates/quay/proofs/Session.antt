@@ -1,6 +1,6 @@
 -- SEPARATION of a session: of calls in any mixture and for any houses that all answer 0, what they report, joined, is read back
--- as their houses and records (`session-read`), and the lines whose octets begin with a house are exactly those of that house's
--- calls (`session-own`).
+-- as their houses and records (`session_read`), and the lines whose octets begin with a house are exactly those of that house's
+-- calls (`session_own`).
 use Prim.Native.Nat.{ℕ}
 use mathlib.Core.Path.{◌≡◌, refl, ap, ◌∙◌}
 use mathlib.Core.Bool.{Bool, true, false, cond}

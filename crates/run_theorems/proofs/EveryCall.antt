@@ -1,5 +1,5 @@
--- DEMAND 1 of the calls that write: an entry, what was read as an entry (`entered-answers`), a text (`text-answers`); of a run
--- that is read (`run-steps`); and of the numbers that C receives (`answers-in-c`).
+-- DEMAND 1 of the calls that write: an entry, what was read as an entry (`entered_answers`), a text (`text_answers`); of a run
+-- that is read (`run_steps`); and of the numbers that C receives (`answers_in_c`).
 use Prim.Native.Nat.{ℕ, ◌+◌}
 use mathlib.Core.Path.{◌≡◌, refl, sym}
 use mathlib.Core.Bool.{true, false, ◌&&◌}

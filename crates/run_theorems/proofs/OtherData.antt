@@ -1,4 +1,4 @@
--- Two accepted texts whose records agree but for the issuer's own data have one key and two entries (`data-told`).
+-- Two accepted texts whose records agree but for the issuer's own data have one key and two entries (`data_told`).
 use Prim.Native.Nat.{ℕ}
 use mathlib.Core.Path.{◌≡◌, refl, ap}
 use mathlib.Core.Bool.{true}

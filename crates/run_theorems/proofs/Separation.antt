@@ -1,6 +1,6 @@
 -- SEPARATION: what two accepted calls leave in their ranges shares its first thirty octets exactly when house, form, state, whole
--- number, birth and expiry agree (`entries-apart`); and of a run that is read, the lines whose first fifteen bits are a house are
--- exactly that house's, and together the lines are the run's, or those before the place where it is refused (`own-lines`). A call
+-- number, birth and expiry agree (`entries_apart`); and of a run that is read, the lines whose first fifteen bits are a house are
+-- exactly that house's, and together the lines are the run's, or those before the place where it is refused (`own_lines`). A call
 -- may have read anything, a text, a presentation or a seal: `entered_out` is what it leaves.
 use Prim.Native.Nat.{ℕ}
 use mathlib.Core.Path.{◌≡◌, refl, ap, sym, ◌∙◌}

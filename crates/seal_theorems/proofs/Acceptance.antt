@@ -1,6 +1,6 @@
 -- ACCEPTANCE: a seal is accepted exactly when it is the joined encodings of a header, features and a signature that keep every
--- rule (`sealed-exactly`), and the whole answer is then that of these contents (`sealed-contents`, `sealed-answer`). Where every
--- rule is kept but those of the text, the text decides (`shaped-answer`).
+-- rule (`sealed_exactly`), and the whole answer is then that of these contents (`sealed_contents`, `sealed_answer`). Where every
+-- rule is kept but those of the text, the text decides (`shaped_answer`).
 use Prim.Native.Nat.{ℕ, suc, ◌+◌, ◌≤◌}
 use mathlib.Core.Path.{◌≡◌, refl, ap, sym, ◌∙◌, subst}
 use mathlib.Core.Logic.{◌↔◌}

@@ -1,4 +1,4 @@
--- The octets of a seal tell its contents (`seal-octets-tell`): no two contents that keep every rule but those of the text give
+-- The octets of a seal tell its contents (`seal_octets_tell`): no two contents that keep every rule but those of the text give
 -- the same octets. So "its text" is one text.
 use Prim.Native.Nat.{ℕ, ◌+◌, ◌≤◌, ◌<◌}
 use mathlib.Core.Path.{◌≡◌, refl, ap, sym, ◌∙◌}

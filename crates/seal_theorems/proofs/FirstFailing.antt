@@ -1,5 +1,5 @@
 -- THE ANSWER is the first failing check: reading a seal answers `refused n p` exactly where n at p is the first failing check in
--- the paper's order (`seal-refused-exactly`).
+-- the paper's order (`seal_refused_exactly`).
 use Prim.Native.Nat.{ℕ, zero, suc, ◌+◌, ◌≤◌, ◌<◌}
 use mathlib.Core.Path.{◌≡◌, refl, ap, sym, ◌∙◌}
 use mathlib.Core.Logic.{◌↔◌}

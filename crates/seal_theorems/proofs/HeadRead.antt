@@ -1,5 +1,5 @@
 -- Where the encoding of a head that keeps its rules stands in front, the header passes its checks and is read as that head; and
--- so both (`header-exactly`).
+-- so both (`header_exactly`).
 use Prim.Native.Nat.{ℕ, ◌+◌}
 use mathlib.Core.Path.{◌≡◌, refl, ap, sym, ◌∙◌, subst}
 use mathlib.Core.Logic.{◌⊎◌, ◌↔◌}

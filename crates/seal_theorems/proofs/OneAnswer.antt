@@ -1,5 +1,5 @@
--- NO SECOND ANSWER meets the promise of reading a seal (`only-seal`), its header (`only-header`) or its features
--- (`only-features`), and every refusal gives the blank header, the blank record and no signature (`seal-blank`).
+-- NO SECOND ANSWER meets the promise of reading a seal (`only_seal`), its header (`only_header`) or its features
+-- (`only_features`), and every refusal gives the blank header, the blank record and no signature (`seal_blank`).
 use Prim.Native.Nat.{ℕ}
 use mathlib.Core.Path.{◌≡◌, ap, sym, ◌∙◌}
 use mathlib.Core.List.{List}

@@ -1,4 +1,4 @@
--- Source 002's section 8 is read: whatever 64 octets are its signature (`printed-read`).
+-- Source 002's section 8 is read: whatever 64 octets are its signature (`printed_read`).
 use Prim.Native.Nat.{ℕ}
 use mathlib.Core.Path.{◌≡◌, refl, ap, sym, ◌∙◌}
 use mathlib.Core.List.{List}

@@ -1,5 +1,5 @@
 -- THE ROWS of a seal's checks that decode, C40 or a day, each by what stands there: it passes exactly where the encoding of what
--- it asks for does (`country-row` and the others).
+-- it asks for does (`country_row` and the others).
 use Prim.Native.Nat.{ℕ, ◌+◌}
 use mathlib.Core.Path.{◌≡◌, refl, ap, sym, ◌∙◌}
 use mathlib.Core.Logic.{◌↔◌}

@@ -1,5 +1,5 @@
--- THE RECORD of an accepted seal is sound (`seal-sound`), whatever numbers it was read from, since it is an accepted text's
--- (`seal-held`).
+-- THE RECORD of an accepted seal is sound (`seal_sound`), whatever numbers it was read from, since it is an accepted text's
+-- (`seal_held`).
 use Prim.Native.Nat.{ℕ}
 use mathlib.Core.Path.{◌≡◌, ap, ◌∙◌}
 use mathlib.Core.Bool.{true}

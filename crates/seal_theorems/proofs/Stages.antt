@@ -1,5 +1,5 @@
 -- The stages of reading a seal, one behind the other: reading a seal is finding its zones (`zones_in`) and then reading its text
--- (`through-text`), and what each stage gave where the zones were found (`before_text`).
+-- (`through_text`), and what each stage gave where the zones were found (`before_text`).
 use Prim.Native.Nat.{ℕ, ◌≤◌, ◌<◌}
 use mathlib.Core.Path.{◌≡◌, refl, ap, sym, ◌∙◌}
 use mathlib.Core.Bool.{true, not}

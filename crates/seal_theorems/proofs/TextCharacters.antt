@@ -1,4 +1,4 @@
--- A seal's text has the characters of a text, so that it is never refused by 2 (`filled-numbered`): C40 has no others, spaces
+-- A seal's text has the characters of a text, so that it is never refused by 2 (`filled_numbered`): C40 has no others, spaces
 -- being fillers.
 use Prim.Native.Nat.{ℕ}
 use mathlib.Core.Path.{◌≡◌, refl}

@@ -1,5 +1,5 @@
 -- ACCEPTANCE is not empty for seals: every text of 72 characters that is accepted in a seal is carried by octets that are
--- accepted, with the text's own record (`every-text-sealed`). So no reader that refuses everything, or always hands out the same
+-- accepted, with the text's own record (`every_text_sealed`). So no reader that refuses everything, or always hands out the same
 -- record, meets it.
 use Prim.Native.Nat.{ℕ, ◌+◌, ◌≤◌}
 use mathlib.Core.Path.{◌≡◌, refl, ap, sym, ◌∙◌, subst}

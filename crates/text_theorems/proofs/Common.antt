@@ -10,7 +10,7 @@ use Rattle.zone.proofs.Holding.{plain_width}
 use lib.Dec.{ltb}
 use borrow.Author.Rules.{rules}
 
--- beside the fields of one width (`plain-has`)
+-- beside the fields of one width (`plain_has`)
 pub record Common (f : Form) : Type 0 where
   pub has_number : has f number ≡ true
   pub has_name : has f name ≡ true

@@ -8,9 +8,9 @@ pub mod Common
 pub mod FirstOf
 -- the rows of a text's checks decide as the reader's checks do
 pub mod TextRows
--- DEMAND 2: the answer is the first failing check (`refused-exactly`); a refusal gives the blank record
+-- DEMAND 2: the answer is the first failing check (`refused_exactly`); a refusal gives the blank record
 pub mod FirstFailing
--- DEMAND 2: the digit that a refusal 9 carries (`expected-exactly`, `digit-told`, `nine-tells`)
+-- DEMAND 2: the digit that a refusal 9 carries (`expected_exactly`, `digit_told`, `nine_tells`)
 pub mod Expected
 -- the code stands first, and tells a visa
 pub mod CodeTold
@@ -18,13 +18,13 @@ pub mod CodeTold
 pub mod TextOfRecord
 -- the composite's digit, of a text that passed and of one that was written
 pub mod CompositeKept
--- DEMAND 2: accepted exactly when every rule is kept (`accepted-exactly`)
+-- DEMAND 2: accepted exactly when every rule is kept (`accepted_exactly`)
 pub mod Acceptance
--- DEMAND 2: the record of an accepted text holds its fields, and is sound (`kept-and-sound`)
+-- DEMAND 2: the record of an accepted text holds its fields, and is sound (`kept_and_sound`)
 pub mod RecordOfText
--- visas as text only: elsewhere every answer is as it was (`no-visa-same`, `visa-elsewhere`)
+-- visas as text only: elsewhere every answer is as it was (`no_visa_same`, `visa_elsewhere`)
 pub mod Visas
 -- the issuer's own data in the text of a record
 pub mod OwnData
--- DEMAND 2: every sound record is written as a text that reads back as that record (`text-read-back`)
+-- DEMAND 2: every sound record is written as a text that reads back as that record (`text_read_back`)
 pub mod RoundTrip

@@ -1,5 +1,5 @@
--- DEMAND 2, round trip: every sound record is written as a text (`text-length`) that is accepted and read as that record
--- (`text-read-back`); so no two have one text (`text-tells`).
+-- DEMAND 2, round trip: every sound record is written as a text (`text_length`) that is accepted and read as that record
+-- (`text_read_back`); so no two have one text (`text_tells`).
 use Prim.Native.Nat.{ℕ, suc, ◌+◌, ◌-◌, ◌≤◌, ◌<◌}
 use mathlib.Core.Path.{◌≡◌, refl, ap, sym, ◌∙◌}
 use mathlib.Core.Bool.{Bool, true, false, cond, ◌&&◌}
