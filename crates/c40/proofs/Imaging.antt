@@ -4,11 +4,11 @@ use Prim.Native.Char.{code}
 use mathlib.Core.Path.{◌≡◌, refl, sym, ap, ◌∙◌}
 use mathlib.Core.Bool.{Bool, true, false, cond}
 use mathlib.Core.List.{List, [], ◌∷◌, ◌++◌, append-nil}
-use native.Mathlib.Nat.{zero-add, sub-zero, add-div_right, mod-mod, mod-eq_of_lt, mod-lt}
+use native.Mathlib.Nat.{zero-add, mod-mod, mod-eq_of_lt, mod-lt}
 use native.Mathlib.Omega.{arith}
 use lib.Dec.{ltb}
-use lib.ListN.{length, take, drop, get_or, set, length-set, length-map, length-drop, drop_of_length-le}
-use lib.Seq.{sets, sets-eq, drop-cons, drop-drop, drop-length, length-take-le}
+use lib.ListN.{length, take, drop, get_or, set, length-map, length-drop}
+use lib.Seq.{sets, sets-eq, take_all, drop-drop, drop-length, length-take-le}
 use borrow.Author.Tests.{ltb-true, le-leb}
 use Rattle.lent.specs.Copied.{copied_at}
 use Rattle.lent.proofs.Bools.{and_both}
@@ -68,44 +68,6 @@ pub imaged_length : (t : List ℕ) → length (imaged t) ≡ octets_for (length 
 unfolding imaged reduced octets_for
 imaged_length t = length-map (image_of t) _ ∙ image_length t
 
--- three characters more have two octets more
-pub octets_more : (m : ℕ) → 3 ≤ m → octets_for m ≡ 2 + octets_for (m - 3)
-unfolding octets_for
-octets_more m h =
-    let e : m + 2 ≡ m - 3 + 2 + 3 = omega arith in
-    let more = add-div_right (m - 3 + 2) {k = 3} (omega arith) in
-    rw (e, more) (omega arith)
-
--- the characters that are left
-module _ (s : List ℕ) (i : ℕ) where
-  three_at : i + 3 ≤ length s → drop i s ≡ get_or s i 0 ∷ get_or s (i + 1) 0 ∷ get_or s (i + 2) 0 ∷ drop (i + 3) s
-  three_at h =
-      let one : i + 1 ≡ suc i = omega arith in
-      let two : i + 2 ≡ suc (suc i) = omega arith in
-      let three : i + 3 ≡ suc (suc (suc i)) = omega arith in
-      rw (
-        one,
-        two,
-        three,
-        drop-cons s i 0 (omega arith),
-        drop-cons s (suc i) 0 (omega arith),
-        drop-cons s (suc (suc i)) 0 (omega arith),
-      )
-
-  none_at : length s ≤ i → drop i s ≡ []
-  none_at h = drop_of_length-le s {i = i} h
-
-  two_at : i + 2 ≡ length s → drop i s ≡ get_or s i 0 ∷ get_or s (i + 1) 0 ∷ []
-  two_at h =
-      let one : i + 1 ≡ suc i = omega arith in
-      let end : drop (suc (suc i)) s ≡ [] = drop_of_length-le s {i = suc (suc i)} (omega arith) in
-      rw (one, drop-cons s i 0 (omega arith), drop-cons s (suc i) 0 (omega arith), end)
-
-  one_at : i + 1 ≡ length s → drop i s ≡ get_or s i 0 ∷ []
-  one_at h =
-      let end : drop (suc i) s ≡ [] = drop_of_length-le s {i = suc i} (omega arith) in
-      rw (drop-cons s i 0 (omega arith), end)
-
 -- two octets of a number, and then others
 pub pair_reduced : (n : ℕ) (l : List ℕ) → reduced (pair n l) ≡ (n / 256 % 256) ∷ (n % 256) ∷ reduced l
 unfolding reduced pair
@@ -119,58 +81,54 @@ pair_stored l n x r =
     let two : n + 2 ≡ suc (suc n) = omega arith in
     rw (one, two)
 
-module _ (s : List ℕ) (i : ℕ) where
-  pub three_left : i + 3 ≤ length s
-      → imaged (drop i s)
-      ≡ (packed (value_of (get_or s i 0)) (value_of (get_or s (i + 1) 0)) (value_of (get_or s (i + 2) 0)) / 256 % 256)
-      ∷ (packed (value_of (get_or s i 0)) (value_of (get_or s (i + 1) 0)) (value_of (get_or s (i + 2) 0)) % 256)
-      ∷ imaged (drop (i + 3) s)
+-- what is left: three characters and others, two, one or none
+pub three_and_rest : (s : List ℕ) → 3 ≤ length s → s ≡ get_or s 0 0 ∷ get_or s 1 0 ∷ get_or s 2 0 ∷ take (length s - 3) (drop 3 s)
+three_and_rest [] h = absurd (omega arith)
+three_and_rest (a ∷ []) h = absurd (omega arith)
+three_and_rest (a ∷ b ∷ []) h = absurd (omega arith)
+three_and_rest (a ∷ b ∷ c ∷ s) h =
+    let e : suc (suc (suc (length s))) - 3 ≡ length s = omega arith in
+    rw (e, take_all (length s) s (omega arith))
+
+pub imaged_two : (s : List ℕ) → length s ≡ 2
+    → imaged s ≡ (packed (value_of (get_or s 0 0)) (value_of (get_or s 1 0)) 0 / 256 % 256)
+    ∷ (packed (value_of (get_or s 0 0)) (value_of (get_or s 1 0)) 0 % 256) ∷ []
+unfolding imaged image_of reduced
+imaged_two (a ∷ b ∷ []) h = pair_reduced (packed (value_of a) (value_of b) 0) []
+imaged_two [] h = absurd (omega arith)
+imaged_two (a ∷ []) h = absurd (omega arith)
+imaged_two (a ∷ b ∷ c ∷ s) h = absurd (omega arith)
+
+pub imaged_one : (s : List ℕ) → length s ≡ 1
+    → imaged s ≡ ((256 * 0xFE + (get_or s 0 0 + 1) % 256) / 256 % 256) ∷ ((256 * 0xFE + (get_or s 0 0 + 1) % 256) % 256) ∷ []
+unfolding imaged image_of reduced
+imaged_one (c ∷ []) h =
+    let low : (c + 1) % 256 < 256 = mod-lt (c + 1) (omega arith) in
+    let both = split 256 0xFE ((c + 1) % 256) low in
+    rw (both.0, both.1)
+imaged_one [] h = absurd (omega arith)
+imaged_one (a ∷ b ∷ s) h = absurd (omega arith)
+
+pub imaged_none : (s : List ℕ) → length s ≤ 0 → imaged s ≡ []
+unfolding imaged image_of reduced
+imaged_none [] h = refl
+imaged_none (a ∷ s) h = absurd (omega arith)
+
+-- three characters more are stored
+module _ {s t : List ℕ} {a b c : ℕ} (is : s ≡ a ∷ b ∷ c ∷ t) where
+  imaged_three : imaged s ≡ (packed (value_of a) (value_of b) (value_of c) / 256 % 256)
+      ∷ (packed (value_of a) (value_of b) (value_of c) % 256) ∷ imaged t
   unfolding imaged image_of
-  three_left h = ap imaged (three_at s i h)
-      ∙ pair_reduced (packed (value_of (get_or s i 0)) (value_of (get_or s (i + 1) 0)) (value_of (get_or s (i + 2) 0))) _
+  imaged_three = ap imaged is ∙ pair_reduced (packed (value_of a) (value_of b) (value_of c)) (image_of t)
 
-  pub two_left : i + 2 ≡ length s
-      → imaged (drop i s)
-      ≡ (packed (value_of (get_or s i 0)) (value_of (get_or s (i + 1) 0)) 0 / 256 % 256)
-      ∷ (packed (value_of (get_or s i 0)) (value_of (get_or s (i + 1) 0)) 0 % 256) ∷ []
-  unfolding imaged image_of reduced
-  two_left h = ap imaged (two_at s i h) ∙ pair_reduced (packed (value_of (get_or s i 0)) (value_of (get_or s (i + 1) 0)) 0) []
+  pub two_shorter : length (imaged s) ≡ 2 + length (imaged t)
+  two_shorter = rw imaged_three (omega arith)
 
-  pub one_left : i + 1 ≡ length s
-      → imaged (drop i s)
-      ≡ ((256 * 0xFE + (get_or s i 0 + 1) % 256) / 256 % 256) ∷ ((256 * 0xFE + (get_or s i 0 + 1) % 256) % 256) ∷ []
-  unfolding imaged image_of reduced
-  one_left h =
-      let c = get_or s i 0 in
-      let low : (c + 1) % 256 < 256 = mod-lt (c + 1) (omega arith) in
-      let both = split 256 0xFE ((c + 1) % 256) low in
-      rw (one_at s i h, both.0, both.1)
-
-  pub none_left : length s ≤ i → imaged (drop i s) ≡ []
-  unfolding imaged image_of reduced
-  none_left h = ap imaged (none_at s i h)
-
--- at first there is room for all, and three characters more leave room for the others
-pub room_first : (s out : List ℕ) → length out ≡ octets_for (length s) → 0 + octets_for (length s - 0) ≡ length out
-room_first s out h = rw (zero-add, sub-zero) (sym h)
-
-module _ (s out after : List ℕ) (i n : ℕ) (there : i + 3 ≤ length s) where
-  unfoldable pub valued : ℕ
-  valued = packed (value_of (get_or s i 0)) (value_of (get_or s (i + 1) 0)) (value_of (get_or s (i + 2) 0))
-
-  module _ (e : after ≡ set (set out n (valued / 256 % 256)) (n + 1) (valued % 256)) where
-    pub room_left : n + octets_for (length s - i) ≡ length out → n + 2 + octets_for (length s - (i + 3)) ≡ length after
-    room_left h =
-        let same : length after ≡ length out = ap length e ∙ length-set (set out n (valued / 256 % 256)) (n + 1) (valued % 256)
-        ∙ length-set out n (valued / 256 % 256) in
-        let less : length s - (i + 3) ≡ length s - i - 3 = omega arith in
-        rw (less, same) (omega (arith, octets_more (length s - i) (omega arith), h))
-
-    pub three_stored : (whole : List ℕ) → sets out n (imaged (drop i s)) ≡ whole
-        → sets after (n + 2) (imaged (drop (i + 3) s)) ≡ whole
-    unfolding valued
-    three_stored whole h =
-        rw e (pair_stored out n valued (imaged (drop (i + 3) s)) ∙ ap (sets out n) (sym (three_left s i there)) ∙ h)
+  pub three_stored : (out whole : List ℕ) (n : ℕ) → sets out n (imaged s) ≡ whole
+      → sets (set (set out n (packed (value_of a) (value_of b) (value_of c) / 256 % 256))
+      (n + 1) (packed (value_of a) (value_of b) (value_of c) % 256)) (n + 2) (imaged t) ≡ whole
+  three_stored out whole n h =
+      pair_stored out n (packed (value_of a) (value_of b) (value_of c)) (imaged t) ∙ ap (sets out n) (sym imaged_three) ∙ h
 
 -- what is put where it has room is a copy of the image
 pub put_there : (out : List ℕ) (at : ℕ) (t : List ℕ) → at + octets_for (length t) ≤ length out
@@ -191,9 +149,8 @@ module _ (out : List ℕ) (at w : ℕ) (fits : at + w ≤ length out) where
   pub part_length : length (take (at + w - at) (drop at out)) ≡ w
   part_length = rw same_part (length-take-le w (drop at out) (rw length-drop (omega arith)))
 
-  pub put_into : (t back : List ℕ) → length t ≡ w → back ≡ sets (take (at + w - at) (drop at out)) 0 t
-      → take at out ++ (back ++ drop (at + w - at) (drop at out)) ≡ copied_at out at t
-  put_into t back n e =
-      let all : back ≡ t = e ∙ whole_stored (take (at + w - at) (drop at out)) t (part_length ∙ sym n) in
+  pub put_into : (t : List ℕ) → length t ≡ w
+      → take at out ++ (t ++ drop (at + w - at) (drop at out)) ≡ copied_at out at t
+  put_into t n =
       let there : at + length t ≤ length out = rw n fits in
-      rw (all, same_part, copied_there out at t there, n, drop-drop)
+      rw (same_part, copied_there out at t there, n, drop-drop)

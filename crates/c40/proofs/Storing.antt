@@ -1,21 +1,22 @@
 -- Storing the characters: what is read from a place on, stored behind n others, gives the same as the whole. And what was
 -- counted decides what is stored.
-use Prim.Native.Nat.{ℕ, ◌+◌, ◌≤◌}
+use Prim.Native.Nat.{ℕ, ◌+◌, ◌≤◌, ◌<◌}
 use mathlib.Core.Path.{◌≡◌, refl, sym, ap, ◌∙◌}
-use mathlib.Core.Bool.{Bool, true, false}
-use mathlib.Core.List.{List, ◌++◌, append-nil}
-use native.Mathlib.Nat.{zero-add, add-zero}
+use mathlib.Core.Bool.{Bool, true, false, cond, false≢true}
+use mathlib.Core.List.{List, [], ◌∷◌, ◌++◌}
 use native.Mathlib.Omega.{arith}
-use borrow.Author.Tests.{le-leb, eq-eqb, ne_eqb}
-use lib.Dec.{leb}
-use lib.ListN.{length, drop, get_or, length-drop}
-use lib.Seq.{drop-drop, drop-length, get_or-drop, sets, sets-eq}
+use borrow.Author.Tests.{ne_eqb, eqb-true, leb-false}
+use lib.Dec.{eqb, leb}
+use lib.ListN.{length, get_or}
+use lib.Seq.{sets}
 use Rattle.lent.proofs.Lists.{sets_append}
-use Rattle.c40.specs.declared.measure.Counted.TheVariants.{Characters, Bad}
-use Rattle.c40.specs.Reader.{Reading, characters, no_image, three, two, one}
+use Rattle.std.specs.Prelude.{Some, None}
+use Rattle.std.specs.Option.{option_eq}
+use Rattle.c40.specs.Reader.{Reading, characters, no_image, number_of, values_of, three, two, one}
 use Rattle.c40.specs.Reader.{read_c40}
 use Rattle.c40.specs.Field.{is_of, exactly}
-use Rattle.c40.specs.Inner.Left.{answered, text_of, text_from, values_at}
+use Rattle.c40.specs.Inner.Left.{answered, text_of}
+use Rattle.c40.proofs.Imaging.{whole_stored}
 use Rattle.c40.proofs.Pairs.{Pairs, none, of_one, of_two, of_three, pairs_read, read_pairs}
 
 -- what is left is read pair by pair
@@ -27,108 +28,87 @@ text_pairs s h = go (read_c40 s) refl h
     go (characters t) q k = read_pairs s t q
     go no_image q k = absurd (omega arith)
 
-three_left : {s t : List ℕ} → Pairs s t → 3 ≤ length t
-    → (2 ≤ length s) × (t ≡ three (values_at s 0) ++ text_of (read_c40 (drop 2 s)))
-unfolding one two values_at text_of
-three_left none h = absurd (omega arith)
+three_left : {x y : ℕ} {s t : List ℕ} → Pairs (x ∷ y ∷ s) t → 3 ≤ length t
+    → t ≡ three (values_of (number_of x y)) ++ text_of (read_c40 s)
+unfolding one two text_of
 three_left (of_one x y p q r) h = absurd (omega arith)
 three_left (of_two x y p q) h = absurd (omega arith)
-three_left (of_three x y p more) h = (omega arith, rw (pairs_read more))
+three_left (of_three x y p more) h = rw (pairs_read more)
 
-two_left : {s t : List ℕ} → Pairs s t → length t ≡ 2 → (2 ≤ length s) × (t ≡ two (values_at s 0))
-unfolding one two three values_at
+two_left : {s t : List ℕ} → Pairs s t → length t ≡ 2 → t ≡ two (values_of (number_of (get_or s 0 0) (get_or s 1 0)))
+unfolding one two three
 two_left none h = absurd (omega arith)
 two_left (of_one x y p q r) h = absurd (omega arith)
-two_left (of_two x y p q) h = (omega arith, refl)
+two_left (of_two x y p q) h = refl
 two_left (of_three x y p more) h = absurd (omega arith)
 
-one_left : {s t : List ℕ} → Pairs s t → length t ≡ 1 → (2 ≤ length s) × (t ≡ one (get_or s 1 0))
+one_left : {s t : List ℕ} → Pairs s t → length t ≡ 1 → t ≡ one (get_or s 1 0)
 unfolding one two three
 one_left none h = absurd (omega arith)
-one_left (of_one x y p q r) h = (omega arith, refl)
+one_left (of_one x y p q r) h = refl
 one_left (of_two x y p q) h = absurd (omega arith)
 one_left (of_three x y p more) h = absurd (omega arith)
 
--- the same from a place on
-module _ (s : List ℕ) (i : ℕ) where
-  pair_left : 2 ≤ length (drop i s) → i + 2 ≤ length s
-  pair_left h = let k = rw (length-drop i s) at h in omega arith
+pub two_from : (s : List ℕ) → length (text_of (read_c40 s)) ≡ 2
+    → text_of (read_c40 s) ≡ two (values_of (number_of (get_or s 0 0) (get_or s 1 0)))
+two_from s h = two_left (text_pairs s (omega arith)) h
 
-  values_left : values_at (drop i s) 0 ≡ values_at s i
-  unfolding values_at
-  values_left = rw (get_or-drop i s 0 0, get_or-drop i s 1 0, add-zero i)
+pub one_from : (s : List ℕ) → length (text_of (read_c40 s)) ≡ 1 → text_of (read_c40 s) ≡ one (get_or s 1 0)
+one_from s h = one_left (text_pairs s (omega arith)) h
 
-  pub three_from : 3 ≤ length (text_from s i)
-      → (i + 2 ≤ length s) × (text_from s i ≡ three (values_at s i) ++ text_from s (i + 2))
-  unfolding text_from
-  three_from h =
-      let both = three_left (text_pairs (drop i s) (omega arith)) h in
-      (pair_left both.0, both.1 ∙ rw (values_left, drop-drop 2 i s))
+-- half a pair is none
+pub none_from : (s : List ℕ) → length s < 2 → text_of (read_c40 s) ≡ []
+unfolding text_of read_c40
+none_from [] h = refl
+none_from (x ∷ []) h = refl
+none_from (x ∷ y ∷ s) h = absurd (omega arith)
 
-  pub two_from : length (text_from s i) ≡ 2 → (i + 2 ≤ length s) × (text_from s i ≡ two (values_at s i))
-  unfolding text_from
-  two_from h =
-      let both = two_left (text_pairs (drop i s) (omega arith)) h in
-      (pair_left both.0, both.1 ∙ rw values_left)
-
-  pub one_from : length (text_from s i) ≡ 1 → (i + 2 ≤ length s) × (text_from s i ≡ one (get_or s (i + 1) 0))
-  unfolding text_from
-  one_from h =
-      let both = one_left (text_pairs (drop i s) (omega arith)) h in
-      (pair_left both.0, both.1 ∙ rw (get_or-drop i s 1 0))
+-- where three are left a pair is
+pub pair_there : (s : List ℕ) → 3 ≤ length (text_of (read_c40 s)) → 2 ≤ length s
+unfolding text_of read_c40
+pair_there [] h = absurd (omega arith)
+pair_there (x ∷ []) h = absurd (omega arith)
+pair_there (x ∷ y ∷ s) h = omega arith
 
 -- three more are stored
-module _ (s : List ℕ) (i : ℕ) (there : 3 ≤ length (text_from s i)) where
-  pub three_shorter : length (text_from s i) ≡ 3 + length (text_from s (i + 2))
+three_from : (x y : ℕ) (u : List ℕ) → 3 ≤ length (text_of (read_c40 (x ∷ y ∷ u)))
+    → text_of (read_c40 (x ∷ y ∷ u)) ≡ three (values_of (number_of x y)) ++ text_of (read_c40 u)
+three_from x y u h = three_left (text_pairs (x ∷ y ∷ u) (omega arith)) h
+
+module _ {s u : List ℕ} {x y : ℕ} (is : s ≡ x ∷ y ∷ u) (there : 3 ≤ length (text_of (read_c40 s))) where
+  text_three : text_of (read_c40 s) ≡ three (values_of (number_of x y)) ++ text_of (read_c40 u)
+  text_three = rw is (three_from x y u (rw is at there))
+
+  pub three_shorter : length (text_of (read_c40 s)) ≡ 3 + length (text_of (read_c40 u))
   unfolding three
   three_shorter =
-      let e : length (three (values_at s i) ++ text_from s (i + 2)) ≡ 3 + length (text_from s (i + 2)) = omega arith in
-      ap length (three_from s i there).1 ∙ e
+      let t = text_of (read_c40 u) in
+      let e : length (three (values_of (number_of x y)) ++ t) ≡ 3 + length t = omega arith in
+      ap length text_three ∙ e
 
-  pub three_written : (out after whole : List ℕ) (n : ℕ) → after ≡ sets out n (three (values_at s i))
-      → sets out n (text_from s i) ≡ whole → sets after (n + 3) (text_from s (i + 2)) ≡ whole
+  pub three_written : (out whole : List ℕ) (n : ℕ) → sets out n (text_of (read_c40 s)) ≡ whole
+      → sets (sets out n (three (values_of (number_of x y)))) (n + 3) (text_of (read_c40 u)) ≡ whole
   unfolding three
-  three_written out after whole n e h =
-      rw e (sets_append out n (three (values_at s i)) (text_from s (i + 2)) ∙ ap (sets out n) (sym (three_from s i there).1) ∙ h)
+  three_written out whole n h =
+      sets_append out n (three (values_of (number_of x y))) (text_of (read_c40 u)) ∙ ap (sets out n) (sym text_three) ∙ h
 
-same_count : (a b : ℕ) → Characters a ≡ Characters b → a ≡ b
-same_count a b e = cc
+-- all of it is as long as the range
+pub text_stored : (s out : List ℕ) → length (text_of (read_c40 s)) ≡ length out
+    → sets out 0 (text_of (read_c40 s)) ≡ text_of (read_c40 s)
+text_stored s out h = whole_stored out (text_of (read_c40 s)) (sym h)
 
-no_count : (n : ℕ) → Bad ≡ Characters n → ⊥
-no_count n e = let z : ◌≡◌ {A = ℕ} 0 1 = cc in omega arith
-
--- what was counted is the length of what was read
-pub counted_length : (r : Reading) (room n : ℕ) → answered r room ≡ Characters n → length (text_of r) ≡ n
-unfolding answered text_of
-counted_length no_image room n e = absurd (no_count n e)
-counted_length (characters t) room n e = go (leb (length t) room) refl
-  where
-    go : (b : Bool) → leb (length t) room ≡ b → length t ≡ n
-    go true p = same_count (length t) n (rw p at e)
-    go false p = absurd (no_count n (rw p at e))
-
--- a field of as many characters as there is room for: what was counted decides whether it is one, and what is written
-pub field_written : (r : Reading) (out : List ℕ) (n : ℕ) → answered r (length out) ≡ Characters n → n ≡ length out
-    → (length (text_of r) ≡ length out) × (is_of (length out) r ≡ true) × (sets out 0 (text_of r) ≡ exactly (length out) r)
-unfolding is_of exactly text_of answered
-field_written no_image out n e h = absurd (no_count n e)
-field_written (characters t) out n e h =
-    let same : length t ≡ length out = counted_length (characters t) (length out) n e ∙ h in
-    let all : sets out 0 t ≡ t =
-    sets-eq t out 0 (rw (zero-add, same) (omega arith)) ∙ rw (zero-add, same, drop-length) (append-nil t) in
-    let told = eq-eqb (length t) (length out) same in
-    (same, rw told, all ∙ rw told)
-
-pub other_field : (r : Reading) (out : List ℕ) (n : ℕ) → answered r (length out) ≡ Characters n → (n ≡ length out → ⊥)
-    → is_of (length out) r ≡ false
-unfolding is_of text_of
-other_field no_image out n e h = refl
-other_field (characters t) out n e h =
-    ne_eqb (length t) (length out) (λ q. h (sym (counted_length (characters t) (length out) n e) ∙ q))
-
-pub bad_field : (r : Reading) (out : List ℕ) → answered r (length out) ≡ Bad → is_of (length out) r ≡ false
+-- what was counted decides whether it is a field of so many characters,
+pub decided : (r : Reading) (m : ℕ) → option_eq eqb (answered r m) (Some m) ≡ is_of m r
 unfolding is_of answered
-bad_field no_image out e = refl
-bad_field (characters t) out e = ne_eqb (length t) (length out) (λ q.
-    let fits : leb (length t) (length out) ≡ true = le-leb (length t) (length out) (omega arith) in
-    no_count (length t) (sym (rw fits at e)))
+decided no_image m = refl
+decided (characters t) m = go (leb (length t) m) refl
+  where
+    go : (b : Bool) → leb (length t) m ≡ b → option_eq eqb (cond b (Some (length t)) None) (Some m) ≡ eqb (length t) m
+    go true p = refl
+    go false p = let far = leb-false (length t) m p in sym (ne_eqb (length t) m (λ q. omega arith))
+
+-- and what is written
+pub field_written : (r : Reading) (m : ℕ) → is_of m r ≡ true → (length (text_of r) ≡ m) × (text_of r ≡ exactly m r)
+unfolding is_of exactly text_of
+field_written no_image m e = absurd (false≢true e)
+field_written (characters t) m e = (eqb-true (length t) m e, rw e)

@@ -1,9 +1,8 @@
 // The image of a text, written.
-ghost use Rattle.std.specs.Prelude.{◌≡◌, ◌+◌, ◌-◌, ◌*◌, ◌/◌, ◌%◌, ◌≤◌, ◌<◌, length, drop, get_or, set};
+ghost use Rattle.std.specs.Prelude.{◌≡◌, ◌+◌, ◌*◌, ◌/◌, ◌%◌, ◌≤◌, ◌<◌, length, set};
 ghost use Rattle.std.proofs.lemmas.List.Edits.{sets};
 ghost use Rattle.c40.specs.Values.{value_of};
 ghost use Rattle.c40.specs.Image.{packed};
-ghost use Rattle.c40.specs.Field.{octets_for};
 ghost use Rattle.c40.specs.Inner.Imaged.{imaged, image_put};
 
 // The value of a character; of any other octet that of a space.
@@ -17,20 +16,12 @@ fn value_of(c: u8) -> u32
     }
 }
 
-// The values of three characters in one number, and of two that are left over.
-fn three_packed(s: &[u8], i: usize) -> u32
-    requires { i + 3 ≤ length s.now }
-    ensures { result ≡ packed (value_of (get_or s.now i 0)) (value_of (get_or s.now (i + 1) 0))
-        (value_of (get_or s.now (i + 2) 0)) }
+// Three values in one number; 0 is the third where two characters are left over.
+fn packed(a: u32, b: u32, c: u32) -> u32
+    requires { (a ≤ 39) × (b ≤ 39) × (c ≤ 39) }
+    ensures { result ≡ packed a b c }
 {
-    1600 * value_of(s[i]) + 40 * value_of(s[i + 1]) + value_of(s[i + 2]) + 1
-}
-
-fn two_packed(s: &[u8], i: usize) -> u32
-    requires { i + 2 ≤ length s.now }
-    ensures { result ≡ packed (value_of (get_or s.now i 0)) (value_of (get_or s.now (i + 1) 0)) 0 }
-{
-    1600 * value_of(s[i]) + 40 * value_of(s[i + 1]) + 1
+    1600 * a + 40 * b + c + 1
 }
 
 // One that is left over: FE, and its code plus one.
@@ -50,32 +41,29 @@ fn put_pair(out: &mut [u8], n: usize, number: u32)
 }
 
 // The last pair, where two characters are left over or one; nothing where none is.
-fn put_last(s: &[u8], i: usize, out: &mut [u8], n: usize)
-    requires { (i ≤ length s.now) × (length s.now < i + 3) × (n + octets_for (length s.now - i) ≡ length out.old) }
-    ensures { out.new ≡ sets out.old n (imaged (drop i s.now)) }
+fn put_last(s: &[u8], out: &mut [u8], n: usize)
+    requires { (length s.now < 3) × (n + length (imaged s.now) ≡ length out.old) }
+    ensures { out.new ≡ sets out.old n (imaged s.now) }
 {
-    let left = s.len() - i;
-    if left == 2 {
-        put_pair(out, n, two_packed(s, i));
-        return;
-    }
-    if left == 1 {
-        put_pair(out, n, one_packed(s[i]));
+    match s {
+        [] => {}
+        [a] => put_pair(out, n, one_packed(*a)),
+        [a, b, ..] => put_pair(out, n, packed(value_of(*a), value_of(*b), 0)),
     }
 }
 
 fn put_pairs(s: &[u8], out: &mut [u8])
-    requires { length out.old ≡ octets_for (length s.now) }
-    ensures { out.new ≡ sets out.old 0 (imaged s.now) }
+    requires { length out.old ≡ length (imaged s.now) }
+    ensures { out.new ≡ imaged s.now }
 {
-    let mut i = 0;
+    let mut left = s;
     let mut n = 0;
-    while 3 <= s.len() - i {
-        put_pair(out, n, three_packed(s, i));
-        i += 3;
+    while let [a, b, c, more @ ..] = left {
+        put_pair(out, n, packed(value_of(*a), value_of(*b), value_of(*c)));
         n += 2;
+        left = more;
     }
-    put_last(s, i, out, n);
+    put_last(left, out, n);
 }
 
 // The image at a place of a range. Where it has no room there, the range stays as it is.

@@ -1,89 +1,78 @@
 // How many characters an image has. The test that it is one is made here, before anything is written.
-ghost use Rattle.std.specs.Prelude.{cond, [], ◌≡◌, ◌+◌, ◌≤◌, leb, length, get_or};
+ghost use Rattle.std.specs.Prelude.{cond, [], ◌≡◌, ◌+◌, ◌≤◌, leb, Some, None};
 ghost use Rattle.c40.specs.Reader.{read_c40, last_pair};
 ghost use Rattle.c40.specs.Inner.Left.{answered, fitted, all_three};
 
-use crate::pair::{is_one, is_three, is_two, values_at};
+use crate::pair::{is_one, is_three, is_two, values_of};
 
-#[derive(Clone, Copy)]
-pub(crate) enum Counted {
-    // How many there are.
-    Characters(usize),
-    // It is no image, or there is no room for its characters.
-    Bad,
-}
-
-// So many characters more, behind n.
-fn behind(n: usize, more: usize, room: usize) -> Counted
+// So many characters more, behind n; none where there is no room.
+fn behind(n: usize, more: usize, room: usize) -> Option<usize>
     requires { n ≤ room }
-    ensures { result ≡ cond (leb (n + more) room) (Counted.Characters (n + more)) Counted.Bad }
+    ensures { result ≡ cond (leb (n + more) room) (Some (n + more)) None }
 {
     if more <= room - n {
-        Counted::Characters(n + more)
+        Some(n + more)
     } else {
-        Counted::Bad
+        None
     }
 }
 
 // The last pair where it is not of three characters: of two or of one, behind n others.
-fn last(s: &[u8], i: usize, n: usize, room: usize) -> Counted
-    requires { (i + 2 ≤ length s.now) × (n ≤ room) }
-    ensures { result ≡ fitted room n (last_pair (get_or s.now i 0) (get_or s.now (i + 1) 0) []) }
+fn last(x: u8, y: u8, n: usize, room: usize) -> Option<usize>
+    requires { n ≤ room }
+    ensures { result ≡ fitted room n (last_pair x y []) }
 {
-    if is_two(values_at(s, i)) {
-        return behind(n, 2, room);
+    if is_two(values_of(x, y)) {
+        behind(n, 2, room)
+    } else if is_one(x, y) {
+        behind(n, 1, room)
+    } else {
+        None
     }
-    if is_one(s[i], s[i + 1]) {
-        return behind(n, 1, room);
-    }
-    Counted::Bad
 }
 
-// Pairs of three characters and nothing else. The loop goes to the end in any case: so the compiler takes many pairs at a time.
+// Pairs of three characters and nothing else. The loop goes to the end in any case, along pairs that are counted before: so the
+// compiler takes many at a time.
 fn all_three(s: &[u8]) -> bool
     ensures { result ≡ all_three s.now }
 {
+    let (pairs, rest) = s.as_chunks::<2>();
     let mut fine = true;
-    let mut i = 0;
-    while 2 <= s.len() - i {
-        fine = fine & is_three(values_at(s, i));
-        i += 2;
+    for pair in pairs {
+        fine = fine & is_three(values_of(pair[0], pair[1]));
     }
-    fine & (i == s.len())
+    fine & rest.is_empty()
 }
 
 // Pairs of three characters up to the end, or to another pair, which must be the last.
-fn paired(s: &[u8], room: usize) -> Counted
+fn paired(s: &[u8], room: usize) -> Option<usize>
     ensures { result ≡ answered (read_c40 s.now) room }
 {
-    let mut i = 0;
+    let mut left = s;
     let mut n = 0;
-    while 2 <= s.len() - i {
-        if is_three(values_at(s, i)) {
-            if room - n < 3 {
-                return Counted::Bad;
+    while let [x, y, more @ ..] = left {
+        if !is_three(values_of(*x, *y)) {
+            if 0 < more.len() {
+                return None;
             }
-            i += 2;
-            n += 3;
-        } else {
-            if 2 < s.len() - i {
-                return Counted::Bad;
-            }
-            return last(s, i, n, room);
+            return last(*x, *y, n, room);
         }
+        if room - n < 3 {
+            return None;
+        }
+        n += 3;
+        left = more;
     }
-    if i < s.len() {
-        return Counted::Bad;
-    }
-    Counted::Characters(n)
+    (left.len() == 0).then_some(n)
 }
 
-// As a rule there are pairs of three alone.
-pub(crate) fn measured(s: &[u8], room: usize) -> Counted
+// How many characters an image has, where it is one and there is room for them. As a rule there are pairs of three alone.
+pub(crate) fn measured(s: &[u8], room: usize) -> Option<usize>
     ensures { result ≡ answered (read_c40 s.now) room }
 {
     if all_three(s) {
-        return behind(0, s.len() / 2 * 3, room);
+        behind(0, s.len() / 2 * 3, room)
+    } else {
+        paired(s, room)
     }
-    paired(s, room)
 }

@@ -1,8 +1,8 @@
 // A pair of octets: the three values in it, and what they can stand for.
-ghost use Rattle.std.specs.Prelude.{◌≡◌, ◌+◌, ◌-◌, ◌≤◌, length};
+ghost use Rattle.std.specs.Prelude.{◌≡◌, ◌-◌, ◌≤◌};
 ghost use Rattle.c40.specs.Values.{is_value, character_of};
-ghost use Rattle.c40.specs.Reader.{number_of, is_three, is_two, is_one};
-ghost use Rattle.c40.specs.Inner.Left.{values_at, Small};
+ghost use Rattle.c40.specs.Reader.{number_of, values_of, is_three, is_two, is_one};
+ghost use Rattle.c40.specs.Inner.Left.{Small};
 
 use zone::alphabet::{is_digit, is_letter};
 
@@ -14,27 +14,18 @@ pub(crate) struct Triple {
     pub third: u32,
 }
 
-// 1 less; 0 stays 0, which is no character.
-pub(crate) fn less_one(y: u8) -> u8
-    ensures { result ≡ y - 1 }
-{
-    if 0 < y { y - 1 } else { 0 }
-}
-
 // 1 less than the number in two octets: the three values, packed. 0 stays 0, and no text has it.
 fn packed(x: u8, y: u8) -> u32
     ensures { (result ≡ number_of x y - 1) × (result ≤ 65535) }
 {
-    let n = 256 * (x as u32) + y as u32;
-    if 0 < n { n - 1 } else { 0 }
+    (256 * u32::from(x) + u32::from(y)).saturating_sub(1)
 }
 
-// The values in the pair at a place.
-pub(crate) fn values_at(s: &[u8], i: usize) -> Triple
-    requires { i + 2 ≤ length s.now }
-    ensures { (result ≡ values_at s.now i) × Small result }
+// The values in a pair.
+pub(crate) fn values_of(x: u8, y: u8) -> Triple
+    ensures { (result ≡ values_of (number_of x y)) × Small result }
 {
-    let n = packed(s[i], s[i + 1]);
+    let n = packed(x, y);
     Triple {
         first: n / 1600,
         second: n % 1600 / 40,
@@ -66,7 +57,7 @@ pub(crate) fn is_two(v: Triple) -> bool
 pub(crate) fn is_one(x: u8, y: u8) -> bool
     ensures { result ≡ is_one x y }
 {
-    let c = less_one(y);
+    let c = y.saturating_sub(1);
     (x == 0xFE) & (is_digit(c) | (is_letter(c) | (c == b' ')))
 }
 

@@ -1,6 +1,7 @@
 -- Where there is room, the part of the range becomes the image.
 use Prim.Native.Nat.{◌+◌, ◌≤◌, ◌<◌}
 use native.Mathlib.Omega.{arith}
+use mathlib.Core.Path.{sym, ◌∙◌}
 use borrow.Author.Tests.{lt-leb}
 use lib.ListN.{length}
 use Rattle.c40.specs.Field.{octets_for}
@@ -12,8 +13,8 @@ pub put_pairs-requires : goal.put_pairs-requires
 unfolding octets_for
 put_pairs-requires c =
     let a = c.args in
-    part_length a.out.now a.at (octets_for (length a.s.now))
-    (omega (arith, c.if-wide-out.true, c.if-at-out.true))
+    part_length a.out.now a.at (octets_for (length a.s.now)) (omega (arith, c.if-wide-out.true, c.if-at-out.true))
+    ∙ sym (imaged_length a.s.now)
 
 pub returns-then-wide-out : goal.returns-then-wide-out
 unfolding octets_for
@@ -23,9 +24,8 @@ returns-then-wide-out c =
     let out = a.out.now in
     let room : a.at + octets_for (length s) ≤ length out = omega
     (arith, c.if-wide-out.true, c.if-at-out.true) in
-    rw (put_there out a.at s room)
-    (put_into out a.at (octets_for (length s)) room (imaged s) c.put_pairs.new.out (imaged_length s)
-    c.put_pairs.ensures)
+    rw (put_there out a.at s room, c.put_pairs.ensures)
+    (put_into out a.at (octets_for (length s)) room (imaged s) (imaged_length s))
 
 pub returns-else-wide-out : goal.returns-else-wide-out
 unfolding image_put octets_for

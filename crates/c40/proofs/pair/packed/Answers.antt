@@ -3,10 +3,6 @@ use borrow.Author.Rules.{rules}
 use Rattle.c40.specs.Reader.{number_of}
 use Rattle.c40.proofs.pair.packed.Goals as goal
 
-pub returns-then-n-gt0 : goal.returns-then-n-gt0
+pub returns : goal.returns
 unfolding number_of
-returns-then-n-gt0 c = search rules
-
-pub returns-else-n-gt0 : goal.returns-else-n-gt0
-unfolding number_of
-returns-else-n-gt0 c = search rules
+returns c = search rules

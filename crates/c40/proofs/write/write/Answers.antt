@@ -1,39 +1,53 @@
-use borrow.Author.Rules.{rules}
-use Prim.Native.Nat.{◌≤◌}
-use mathlib.Core.Path.{refl, ◌∙◌}
 use native.Mathlib.Omega.{arith}
-use lib.ListN.{length}
-use lib.Seq.{sets}
-use Rattle.c40.specs.Inner.Left.{text_from}
-use Rattle.c40.proofs.Storing.{three_from, three_shorter, three_written}
+use Prim.Native.Nat.{◌+◌, ◌*◌, ◌/◌, ◌≤◌}
+use mathlib.Core.Path.{◌≡◌, ◌∙◌}
+use lib.ListN.{length, drop, length-drop}
+use Rattle.lent.proofs.Lists.{pair_at_lem, rest_all}
+use Rattle.c40.specs.Reader.{read_c40}
+use Rattle.c40.specs.Inner.Left.{text_of}
+use Rattle.c40.proofs.Storing.{pair_there, three_shorter, three_written, text_stored}
 use Rattle.c40.proofs.write.write.Goals as goal
 
-pub loop-n-init : goal.loop-n-init
-loop-n-init c = (search rules, refl, search rules, refl)
+-- a pair is there in each turn
+fits : (s : _) (k m : _) → 3 * k + length (text_of (read_c40 (drop (2 * k) s))) ≡ m → k + 1 ≤ m / 3 → 2 * k + 2 ≤ length s
+fits s k m e h =
+    let there : 3 ≤ length (text_of (read_c40 (drop (2 * k) s))) = omega arith in
+    let pair : 2 ≤ length (drop (2 * k) s) = pair_there (drop (2 * k) s) there in
+    omega (arith, length-drop (2 * k) s)
 
-pub values_at-requires : goal.values_at-requires
-values_at-requires c = let a = c.args in
-    let l = c.loop-n in
-    (three_from a.s.now l.i (omega arith)).0
-
-pub overflow_add-i : goal.overflow_add-i
-overflow_add-i c = let a = c.args in
-    let l = c.loop-n in
-    omega (arith, (three_from a.s.now l.i (omega arith)).0)
-
-pub loop-n-preserved : goal.loop-n-preserved
-loop-n-preserved c = let a = c.args in
-    let l = c.loop-n in
-    let there : 3 ≤ length (text_from a.s.now l.i) = omega arith in
-    let v = c.values_at in
-    let p = c.put_three in
-    let stored = rw v.ensures.0 at p.ensures in (
-      omega arith,
-      search rules,
-      omega (arith, three_shorter a.s.now l.i there),
-      three_written a.s.now l.i there l.out p.new.out (sets a.out.now 0 (text_from a.s.now 0)) l.n
-          stored l.invariant.3,
+pub loop-k-preserved : goal.loop-k-preserved
+loop-k-preserved c =
+    let l = c.loop-k in
+    let s = c.args.s.now in
+    let k = l.k in
+    let room : 2 * k + 2 ≤ length s = fits s k (length l.out) l.invariant.2 (omega (arith, l.invariant.0)) in
+    let there : 3 ≤ length (text_of (read_c40 (drop (2 * k) s))) = omega (arith, l.invariant.2, l.invariant.0) in
+    let is = pair_at_lem s (2 * k) room in
+    let two : 2 * (k + 1) ≡ 2 * k + 2 = omega arith in
+    let three : 3 * (k + 1) ≡ 3 * k + 3 = omega arith in (
+      c.put_three.auto.out ∙ l.invariant.0,
+      omega (arith, room),
+      rw (two, three) (omega (arith, three_shorter is there, c.put_three.auto.out, l.invariant.2)),
+      rw (two, three, c.put_three.ensures) (three_written is there l.out _ (3 * k) l.invariant.3),
     )
 
+pub bounds-s-k : goal.bounds-s-k
+bounds-s-k c =
+    let l = c.loop-k in
+    let room = fits c.args.s.now l.k (length l.out) l.invariant.2 (omega (arith, l.invariant.0)) in
+    omega (arith, room)
+
+pub bounds-s-k-in-loop-k : goal.bounds-s-k-in-loop-k
+bounds-s-k-in-loop-k c =
+    let l = c.loop-k in
+    let room = fits c.args.s.now l.k (length l.out) l.invariant.2 (omega (arith, l.invariant.0)) in
+    omega (arith, room)
+
 pub returns : goal.returns
-returns c = c.write_last.ensures ∙ c.loop-n.invariant.3
+returns c =
+    let l = c.loop-k in
+    let s = c.args.s.now in
+    let end : length c.args.out.now / 3 ≡ l.k = omega arith in
+    c.write_last.ensures
+    ∙ rw (end, rest_all s (2 * l.k)) l.invariant.3
+    ∙ text_stored s c.args.out.now c.requires

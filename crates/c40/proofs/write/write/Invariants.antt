@@ -1,17 +1,15 @@
--- What is left from place i, stored behind n characters, gives the same as the whole.
-use Prim.Native.Nat.{◌≤◌, ◌-◌}
+-- What is left, stored behind so many threes, gives the same as the whole, and there is room for just that.
+use Prim.Native.Nat.{◌+◌, ◌*◌, ◌≤◌}
 use mathlib.Core.Path.{◌≡◌}
-use lib.ListN.{length}
+use lib.ListN.{length, drop}
 use lib.Seq.{sets}
-use Rattle.c40.specs.Inner.Left.{text_from}
+use Rattle.c40.specs.Reader.{read_c40}
+use Rattle.c40.specs.Inner.Left.{text_of}
 use Rattle.c40.proofs.write.write.Given as goal
 
-abbrev pub invariant-loop-n : goal.invariant-loop-n
-invariant-loop-n l =
-    (l.n ≤ l.count)
-    × (length l.out ≡ length l.initial.out)
-    × (length (text_from l.s l.i) ≡ l.count - l.n)
-    × (sets l.out l.n (text_from l.s l.i) ≡ sets l.initial.out 0 (text_from l.s 0))
-
-abbrev pub decreases-loop-n : goal.decreases-loop-n
-decreases-loop-n l = l.count - l.n
+abbrev pub invariant-loop-k : goal.invariant-loop-k
+invariant-loop-k l =
+    (length l.out ≡ length l.initial.out)
+    × (2 * l.k ≤ length l.s)
+    × (3 * l.k + length (text_of (read_c40 (drop (2 * l.k) l.s))) ≡ length l.out)
+    × (sets l.out (3 * l.k) (text_of (read_c40 (drop (2 * l.k) l.s))) ≡ sets l.initial.out 0 (text_of (read_c40 l.s)))

@@ -1,7 +1,7 @@
--- The three values.
+-- The code is the definition.
 use borrow.Author.Rules.{rules}
 use Rattle.c40.specs.Image.{packed}
-use Rattle.c40.proofs.image.three_packed.Goals as goal
+use Rattle.c40.proofs.image.packed.Goals as goal
 
 pub returns : goal.returns
 unfolding packed
