@@ -1,14 +1,13 @@
 -- The laws of a weighted sum: its parts are small, its weights repeat, and pieces are joined.
-use Prim.Native.Nat.{ℕ, zero, suc, ◌+◌, ◌*◌, ◌-◌, ◌%◌, ◌^◌, ◌≤◌, ◌<◌}
+use Prim.Native.Nat.{ℕ, zero, suc, ◌+◌, ◌*◌, ◌-◌, ◌%◌, ◌^◌, ◌≤◌, ◌<◌, min}
 use Prim.Native.Char.{code}
-use mathlib.Core.Path.{◌≡◌, refl, ap}
+use mathlib.Core.Path.{◌≡◌, refl}
 use mathlib.Core.Bool.{Bool, true, false, cond}
-use mathlib.Core.List.{List, [], ◌∷◌, ◌++◌}
+use mathlib.Core.List.{List, [], ◌∷◌, ◌++◌, append-nil}
 use native.Mathlib.Nat.{mod-mod, mod-lt, mul-le-mul, mul_comm, le_of_lt, zero-add, add-zero}
 use native.Mathlib.Omega.{arith}
 use lib.Dec.{lit≤, lit<}
-use lib.ListN.{length, take, drop, get_or, length-take, length-drop, take-append-drop}
-use lib.Seq.{take_all, drop-drop}
+use lib.ListN.{length, get_or, length-append}
 use Rattle.zone.specs.Alphabet.{is_digit, is_letter}
 use Rattle.zone.proofs.Classes.{digit_range, letter_range}
 use Rattle.digit.specs.Check.{value, weight, sum_from}
@@ -70,16 +69,20 @@ sum_append i (c ∷ a) b =
     let k : i + suc (length a) ≡ suc i + length a = omega arith in
     rw (k, sum_append (suc i) a b) (omega arith)
 
--- The loop over a long field: its next 255 characters, whose sum moves into the sum so far,
-pub sum_more : (sum at : ℕ) (s : List ℕ) → at + 255 ≤ length s
-    → ((sum + sum_from 0 (take 255 (drop at s))) % 10 + sum_from 0 (drop (at + 255) s)) % 10 ≡ (sum + sum_from 0 (drop at s)) % 10
-sum_more sum at s h =
-    let u = drop at s in
-    let long : length (take 255 u) ≡ 255 = rw (length-take, length-drop) (omega arith) in
-    let all = sum_append 0 (take 255 u) (drop 255 u) in
-    let parts = rw (take-append-drop 255 u, long, sum_mod (0 + 255) 0 (drop 255 u) refl, drop-drop 255 at s) at all in
-    rw parts (omega arith)
+-- The loop over a long field: its next characters, whose sum moves into the sum so far. Where less than 255 are next, none are
+-- left behind them.
+pub sum_more : (sum : ℕ) (part rest : List ℕ) → length part ≡ min 255 (length (part ++ rest))
+    → ((sum + sum_from 0 part) % 10 + sum_from 0 rest) % 10 ≡ (sum + sum_from 0 (part ++ rest)) % 10
+unfolding sum_from
+sum_more sum part [] h =
+    rw (append-nil part) (omega arith)
+sum_more sum part (x ∷ rest) h =
+    let long : length part ≡ 255 = omega (arith, length-append part (x ∷ rest)) in
+    let all = sum_append 0 part (x ∷ rest) in
+    let again = sum_mod (0 + length part) 0 (x ∷ rest) (rw long refl) in
+    rw (all, again) (omega arith)
 
--- and its end
-pub sum-rest : (at : ℕ) (s : List ℕ) → length s < at + 255 → sum_from 0 (take 255 (drop at s)) ≡ sum_from 0 (drop at s)
-sum-rest at s h = ap (sum_from 0) (take_all 255 (drop at s) (rw length-drop (omega arith)))
+pub sum_none : (s : List ℕ) → length s ≡ 0 → sum_from 0 s ≡ 0
+unfolding sum_from
+sum_none [] h = refl
+sum_none (c ∷ s) h = absurd (omega arith)

@@ -12,17 +12,15 @@ pub mod sum;
 pub mod thirds;
 
 // A multiple of three, and few enough to be counted in an octet.
-const AT_ONCE: u8 = 255;
+const AT_ONCE: usize = 255;
 
 // The check digit of a field. Of one that is longer than any, so many characters at a time that the weights start again.
 pub fn of(s: &[u8]) -> u8
     ensures { result ≡ digit_of s.now }
 {
     let mut sum = 0;
-    let mut at = 0;
-    while AT_ONCE as usize <= s.len() - at {
-        sum = (sum + Thirds::of(s, at, AT_ONCE).weighed(0)) % 10;
-        at += AT_ONCE as usize;
+    for part in s.chunks(AT_ONCE) {
+        sum = (sum + Thirds::whole(part).weighed(0)) % 10;
     }
-    as_digit(sum + Thirds::of(s, at, AT_ONCE).weighed(0))
+    as_digit(sum)
 }
