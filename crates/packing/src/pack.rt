@@ -2,19 +2,16 @@
 ghost use Rattle.std.specs.Prelude.{◌≡◌, map, ◌+◌, ◌*◌, ◌/◌, ◌%◌, ◌≤◌, ◌<◌, length, set};
 ghost use Rattle.lent.specs.Copied.{copied};
 ghost use Rattle.zone.specs.Codes.{code_of};
-ghost use Rattle.packing.specs.Packed.{on, four_at, four_on, packed, packed_over, packed_on_over};
+ghost use Rattle.packing.specs.Packed.{four_at, four_on, packed, packed_over, packed_on_over};
 
-use units::bits::wide;
 use zone::codes::code_of;
 
 // Every character becomes its code. Every octet is stored, so that the compiler takes many at a time.
 pub fn to_codes(s: &mut [u8])
     ensures { s.new ≡ map code_of s.old }
 {
-    let mut i = 0;
-    while i < s.len() {
-        s[i] = code_of(s[i]);
-        i += 1;
+    for c in s.iter_mut() {
+        *c = code_of(*c);
     }
 }
 
@@ -23,19 +20,20 @@ fn four_at(s: &[u8], at: usize) -> u32
     requires { at + 4 ≤ length s.now }
     ensures { (result ≡ four_at s.now at) × (result < 134217728) }
 {
-    let two = wide(s[at]) * 64 + wide(s[at + 1]);
-    (two * 64 + wide(s[at + 2])) * 64 + wide(s[at + 3])
+    let two = u32::from(s[at]) * 64 + u32::from(s[at + 1]);
+    (two * 64 + u32::from(s[at + 2])) * 64 + u32::from(s[at + 3])
 }
 
-// How many times what is some bits on is doubled: once for each bit.
-const DOUBLED: u32 = 2;
-
-// The number that they say some bits on, with the first bits of the next unit behind them.
-fn four_on(s: &[u8], at: usize) -> u32
-    requires { at + 5 ≤ length s.now }
-    ensures { result ≡ four_on on s.now at }
+// The number that they say ON bits on, one or none, with the first bits of the next unit behind them.
+fn four_on<const ON: usize>(s: &[u8], at: usize) -> u32
+    requires { (at + 4 + ON ≤ length s.now) × (ON ≤ 1) }
+    ensures { result ≡ four_on ON s.now at }
 {
-    four_at(s, at) * DOUBLED + wide(s[at + 4]) % 64 / (64 / DOUBLED)
+    let four = four_at(s, at);
+    if ON == 0 {
+        return four;
+    }
+    four * 2 + u32::from(s[at + 4]) % 64 / 32
 }
 
 // Three octets of a number.
@@ -49,15 +47,12 @@ fn put_three(out: &mut [u8], at: usize, number: u32)
     out[at + 2] = (number % 256) as u8;
 }
 
-fn pack_fours(out: &mut [u8], s: &[u8], fours: usize)
-    requires { (4 * fours ≤ length s.now) × (3 * fours ≤ length out.old) }
-    ensures { out.new ≡ copied out.old (packed 0 fours s.now) }
+fn pack_fours<const ON: usize>(out: &mut [u8], s: &[u8], fours: usize)
+    requires { (4 * fours + ON ≤ length s.now) × (3 * fours ≤ length out.old) × (ON ≤ 1) }
+    ensures { out.new ≡ copied out.old (packed ON fours s.now) }
 {
-    let mut i = 0;
-    while i < fours {
-        let number = four_at(s, 4 * i);
-        put_three(out, 3 * i, number);
-        i += 1;
+    for i in 0..fours {
+        put_three(out, 3 * i, four_on::<ON>(s, 4 * i));
     }
 }
 
@@ -65,22 +60,8 @@ fn pack_fours(out: &mut [u8], s: &[u8], fours: usize)
 pub fn pack(out: &mut [u8], s: &[u8], fours: usize)
     ensures { out.new ≡ packed_over fours out.old s.now }
 {
-    if fours <= s.len() / 4 {
-        if fours <= out.len() / 3 {
-            pack_fours(out, s, fours);
-        }
-    }
-}
-
-fn pack_fours_on(out: &mut [u8], s: &[u8], fours: usize)
-    requires { (4 * fours < length s.now) × (3 * fours ≤ length out.old) }
-    ensures { out.new ≡ copied out.old (packed on fours s.now) }
-{
-    let mut i = 0;
-    while i < fours {
-        let number = four_on(s, 4 * i);
-        put_three(out, 3 * i, number);
-        i += 1;
+    if fours <= s.len() / 4 && fours <= out.len() / 3 {
+        pack_fours::<0>(out, s, fours);
     }
 }
 
@@ -88,9 +69,7 @@ fn pack_fours_on(out: &mut [u8], s: &[u8], fours: usize)
 pub fn pack_on(out: &mut [u8], s: &[u8], fours: usize)
     ensures { out.new ≡ packed_on_over fours out.old s.now }
 {
-    if fours < s.len() / 4 {
-        if fours <= out.len() / 3 {
-            pack_fours_on(out, s, fours);
-        }
+    if fours < s.len() / 4 && fours <= out.len() / 3 {
+        pack_fours::<1>(out, s, fours);
     }
 }

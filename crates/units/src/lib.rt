@@ -2,5 +2,4 @@
 // room, nothing is.
 #![tactic(auto)]
 
-pub mod bits;
 pub mod unpack;

@@ -4,15 +4,14 @@ ghost use Rattle.lent.specs.Copied.{copied};
 ghost use Rattle.cells.specs.Bits.{bits_at};
 ghost use Rattle.units.specs.Unpacked.{bits_within, characters_at, unpacked_over};
 
-use crate::bits::wide;
 use zone::codes::characters;
 
 fn bits_of_two(s: &[u8], at: usize, width: usize) -> u32
     requires { at % 8 + width ≤ 16 }
     ensures { result ≡ bits_at s.now at width }
 {
-    let first = wide(lent::octet(s, at / 8));
-    let second = wide(lent::octet(s, at / 8 + 1));
+    let first = u32::from(lent::octet(s, at / 8));
+    let second = u32::from(lent::octet(s, at / 8 + 1));
     let field = (first * 256 + second) >> (16 - at % 8 - width);
     field % (1 << width)
 }
@@ -33,8 +32,8 @@ fn four_octets(s: &[u8], at: usize) -> u32
     requires { at + 4 ≤ length s.now }
     ensures { result ≡ bits_at s.now (8 * at) 32 }
 {
-    let two = wide(s[at]) * 256 + wide(s[at + 1]);
-    (two * 256 + wide(s[at + 2])) * 256 + wide(s[at + 3])
+    let two = u32::from(s[at]) * 256 + u32::from(s[at + 1]);
+    (two * 256 + u32::from(s[at + 2])) * 256 + u32::from(s[at + 3])
 }
 
 // The 24 bits from a bit of an octet on.
@@ -50,14 +49,12 @@ fn unpack_fours(to: &mut [u8], s: &[u8], at: usize, fours: usize)
     ensures { to.new ≡ copied to.old (characters_at s.now at (4 * fours)) }
 {
     let table = characters();
-    let mut i = 0;
-    while i < fours {
+    for i in 0..fours {
         let number = bits_of_four(s, at / 8 + 3 * i, at % 8);
         to[4 * i] = table[(number / 262144) as usize];
         to[4 * i + 1] = table[(number / 4096 % 64) as usize];
         to[4 * i + 2] = table[(number / 64 % 64) as usize];
         to[4 * i + 3] = table[(number % 64) as usize];
-        i += 1;
     }
 }
 
@@ -65,9 +62,7 @@ fn unpack_fours(to: &mut [u8], s: &[u8], at: usize, fours: usize)
 pub fn unpack(to: &mut [u8], s: &[u8], at: usize, fours: usize)
     ensures { to.new ≡ unpacked_over at fours to.old s.now }
 {
-    if fours <= to.len() / 4 {
-        if at / 8 + 3 * fours < s.len() {
-            unpack_fours(to, s, at, fours);
-        }
+    if fours <= to.len() / 4 && at / 8 + 3 * fours < s.len() {
+        unpack_fours(to, s, at, fours);
     }
 }

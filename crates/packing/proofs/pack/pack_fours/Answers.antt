@@ -1,26 +1,23 @@
 use borrow.Author.Rules.{rules}
-use Prim.Native.Nat.{◌<◌, ◌*◌}
-use mathlib.Core.Path.{◌≡◌, sym, ◌∙◌}
+use Prim.Native.Nat.{◌<◌}
+use mathlib.Core.Path.{◌≡◌, ◌∙◌}
 use native.Mathlib.Omega.{arith}
-use Rattle.packing.proofs.Packing.{none_on, pack_more, pack_ends}
+use Rattle.packing.proofs.Packing.{pack_more, pack_ends}
 use Rattle.packing.proofs.pack.pack_fours.Goals as goal
 
 pub loop-i-preserved : goal.loop-i-preserved
-loop-i-preserved c =
+loop-i-preserved g c =
     let l = c.loop-i in
     let a = c.args in
-    let four = c.four_at-number in
     let h : l.i < a.fours = omega arith in (
       search rules,
-      search rules,
-      rw (c.put_three.ensures, l.invariant.2)
-          (pack_more 0 a.out.now a.s.now a.fours l.i four.result (search rules) h
-          (four.ensures.0 ∙ sym (none_on a.s.now (4 * l.i)))),
+      rw (c.put_three.ensures, l.invariant.1)
+          (pack_more g.row.ON a.out.now a.s.now a.fours l.i c.four_on.result (search rules) h c.four_on.ensures),
     )
 
 pub returns : goal.returns
-returns c =
+returns g c =
     let l = c.loop-i in
     let a = c.args in
     let e : l.i ≡ a.fours = omega arith in
-    l.invariant.2 ∙ pack_ends 0 a.out.now a.s.now a.fours l.i (search rules) e
+    l.invariant.1 ∙ pack_ends g.row.ON a.out.now a.s.now a.fours l.i (search rules) e

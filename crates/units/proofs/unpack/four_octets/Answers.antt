@@ -1,13 +1,12 @@
 -- Four octets are thirty-two bits (`four-octets`).
+use Prim.Native.Nat.{◌+◌}
+use native.Mathlib.Omega.{arith}
 use Rattle.units.proofs.Reading.{four_octets}
 use Rattle.units.proofs.unpack.four_octets.Goals as goal
 
 pub returns : goal.returns
 returns c =
-    let u = c.wide-4 in
-    let z = c.wide-3 in
-    let y = c.wide-2 in
-    let x = c.wide in
     let a = c.args in
-    four_octets a.s.now a.at x.result y.result z.result u.result x.ensures.0 y.ensures.0
-    z.ensures.0 u.ensures.0 x.ensures.1 y.ensures.1 z.ensures.1 u.ensures.1
+    four_octets a.s.now a.at _ _ _ _ c.from.ensures c.from-2.ensures c.from-3.ensures c.from-4.ensures
+    (omega (arith, c.from.ensures, c.type_inv.s a.at)) (omega (arith, c.from-2.ensures, c.type_inv.s (a.at + 1)))
+    (omega (arith, c.from-3.ensures, c.type_inv.s (a.at + 2))) (omega (arith, c.from-4.ensures, c.type_inv.s (a.at + 3)))

@@ -16,14 +16,13 @@ loop-i-preserved c =
     let h : l.i < a.fours = omega arith in
     let e : 8 * (a.at / 8 + 3 * l.i) + a.at % 8 ≡ a.at + 24 * l.i = omega arith in
     let told-number = rw e at c.bits_of_four-number.ensures.0 in (
-      search rules,
       simp length-set (search rules),
       rw (
         told (number / 262144) (omega arith),
         told (number / 4096 % 64) (omega arith),
         told (number / 64 % 64) (omega arith),
         told (number % 64) (omega arith),
-        l.invariant.2,
+        l.invariant.1,
       )
           (unpack_more a.to.now a.s.now a.at a.fours l.i number (search rules) h
           (four_read a.s.now (a.at + 24 * l.i) number told-number)),
@@ -34,7 +33,7 @@ returns c =
     let l = c.loop-i in
     let a = c.args in
     let e : l.i ≡ a.fours = omega arith in
-    l.invariant.2 ∙ unpack_ends a.to.now a.s.now a.at a.fours l.i (search rules) e
+    l.invariant.1 ∙ unpack_ends a.to.now a.s.now a.at a.fours l.i (search rules) e
 
 pub bounds-to-i-in-loop-i : goal.bounds-to-i-in-loop-i
 bounds-to-i-in-loop-i c = simp length-set (search rules)

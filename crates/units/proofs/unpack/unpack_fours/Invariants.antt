@@ -1,5 +1,5 @@
 -- The characters before the i-th four stand in front; a turn puts four more behind them (`unpack-more`).
-use Prim.Native.Nat.{◌≤◌, ◌*◌, ◌-◌}
+use Prim.Native.Nat.{◌*◌}
 use mathlib.Core.Path.{◌≡◌}
 use mathlib.Core.List.{◌++◌}
 use lib.ListN.{length, take, drop}
@@ -8,8 +8,5 @@ use Rattle.units.proofs.unpack.unpack_fours.Given as goal
 
 abbrev pub invariant-loop-i : goal.invariant-loop-i
 invariant-loop-i l =
-    (l.i ≤ l.fours) × (length l.to ≡ length l.initial.to)
+    (length l.to ≡ length l.initial.to)
     × (l.to ≡ take (4 * l.i) (characters_at l.s l.at (4 * l.fours)) ++ drop (4 * l.i) l.initial.to)
-
-abbrev pub decreases-loop-i : goal.decreases-loop-i
-decreases-loop-i l = l.fours - l.i
