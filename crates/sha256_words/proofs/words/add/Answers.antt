@@ -1,7 +1,8 @@
--- The library's wrapping sum is the paper's.
+-- The wrapping sum is the paper's.
+use Rattle.std.proofs.Common.{rules}
 use Rattle.sha256_words.specs.Words.{◌⊞◌}
 use Rattle.sha256_words.proofs.words.add.Goals as goal
 
 pub returns : goal.returns
 unfolding ◌⊞◌
-returns c = c.wrapping_add_u32.ensures.value
+returns c = search rules
