@@ -1,10 +1,12 @@
 -- Laws on lists that the kit does not have: parts, runs of one element, and stores of several.
-use mathlib.Core.Path.{◌≡◌, ◌∙◌}
+use mathlib.Core.Path.{◌≡◌, ap, ◌∙◌}
 use mathlib.Core.List.{List, [], ◌++◌, append-nil}
-use Prim.Native.Nat.{ℕ, ◌+◌, ◌≤◌, ◌<◌}
+use Prim.Native.Nat.{ℕ, zero, suc, ◌+◌, ◌*◌, ◌≤◌, ◌<◌}
+use native.Mathlib.Nat.{mul-zero}
 use native.Mathlib.Omega.{arith}
 use lib.ListN.{length, take, drop, get_or, length-append, length-drop, drop_of_length-le, take-append-drop}
 use lib.Seq.{sets, sets-eq, take_all, drop-drop, length-take-le, get_or-take, get_or-drop}
+use Rattle.std.specs.Simd.{first_chunks}
 use Rattle.lent.proofs.Lists.{sets_append}
 
 -- 32 octets copied to the front of a longer range
@@ -30,3 +32,11 @@ sets_end a b l i e =
     let fits : i + length (a ++ b) ≤ length l = omega arith in
     let none : drop (i + length (a ++ b)) l ≡ [] = drop_of_length-le l {i = i + length (a ++ b)} (omega arith) in
     sets_append l i a b ∙ sets-eq (a ++ b) l i fits ∙ rw (none, append-nil)
+
+-- a chunk of a list
+pub chunk_at : (n k : ℕ) (l : List ℕ) (i : ℕ) → i < k → get_or (first_chunks n k l) i [] ≡ take n (drop (n * i) l)
+chunk_at n zero l i h = absurd (omega arith)
+chunk_at n (suc k) l zero h = rw mul-zero
+chunk_at n (suc k) l (suc i) h =
+    let e : n * suc i ≡ n + n * i = omega arith in
+    rw e (chunk_at n k (drop n l) i (omega arith) ∙ ap (take n) (drop-drop (n * i) n l))

@@ -5,10 +5,11 @@ use Prim.Native.Nat.{ℕ, zero, suc, ◌+◌, ◌-◌, ◌*◌, ◌/◌, ◌%◌
 use native.Mathlib.Nat.{zero-add, suc-add, mul_comm, div-one, mul-div-mul_left}
 use native.Mathlib.Numerals.{add-one}
 use native.Mathlib.Omega.{arith}
-use lib.ListN.{length, take, drop, get_or, set, length-drop, length-append, drop_of_length-le}
+use lib.ListN.{length, take, drop, get_or, length-drop, length-append, drop_of_length-le}
 use lib.Dec.{lit<}
 use lib.Pow.{shr-shr, field, mod-mod-pow}
 use lib.Seq.{sets, sets-eq, take-suc, take_at, drop-append-add, drop-drop, length-take-le, take_all}
+use Rattle.std.specs.Int.{to_be_bytes, w32}
 use Rattle.sha256.specs.Padding.{octets}
 use Rattle.sha256.specs.Parsing.{joined}
 use Rattle.sha256.proofs.ListLaws.{sets_end}
@@ -18,16 +19,15 @@ unfolding octets
 length-octets zero v = refl
 length-octets (suc k) v = ap suc (length-octets k v)
 
--- four stores, one place after the other, are those of a word's octets
-pub put_four : (l : List ℕ) (at x : ℕ)
-    → set (set (set (set l at (x / 2 ^ 24 % 256)) (at + 1) (x / 2 ^ 16 % 256)) (at + 2) (x / 2 ^ 8 % 256)) (at + 3) (x % 256)
-    ≡ sets l at (octets 4 x)
+-- a word's octets as the library gives them
+pub four_octets : (x : ℕ) → octets 4 x ≡ to_be_bytes w32 x
 unfolding octets
-put_four l at x =
-    let e1 : at + 1 ≡ suc at = omega arith in
-    let e2 : at + 2 ≡ suc (suc at) = omega arith in
-    let e3 : at + 3 ≡ suc (suc (suc at)) = omega arith in
-    rw (e1, e2, e3, div-one)
+four_octets x = rw div-one
+
+-- a part of a list that became another
+pub part_put : (l : List ℕ) (at n : ℕ) (t : List ℕ) → n ≡ length t → at + length t ≤ length l
+    → take at l ++ (t ++ drop n (drop at l)) ≡ sets l at t
+part_put l at n t e fits = let q = rw append_assoc at (sets-eq t l at fits) in rw (e, drop-drop) (sym q)
 
 pub joined_append : (a b : List ℕ) → joined (a ++ b) ≡ joined a ++ joined b
 unfolding joined

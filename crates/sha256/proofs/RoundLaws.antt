@@ -52,7 +52,3 @@ rounds_turn block w n t i s p a b e h k =
     let hk : t + 8 ≤ length K = rw length_K k in
     let hw : t + 8 ≤ length (schedule block) = rw (length-schedule block) k in
     rw (holds_part block w n t i 8 p a b e (omega arith) k) (rounds_part K (schedule block) t 8 s hk hw)
-
--- eight constants
-pub length_eight : (t : ℕ) → t + 8 ≤ 64 → length (take 8 (drop t K)) ≡ 8
-length_eight t h = length_part K t 8 (rw length_K h)

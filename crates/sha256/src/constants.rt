@@ -1,6 +1,6 @@
 // The constants of SHA-256: FIPS 180-4, 4.2.2 and 5.3.3. They are handed out by value, so that who uses them reads them from
 // one place.
-ghost use Rattle.std.specs.Prelude.{◌≡◌, ◌%◌, ◌<◌, take, drop};
+ghost use Rattle.std.specs.Prelude.{◌≡◌, ◌*◌, ◌<◌, take, drop};
 ghost use Rattle.sha256.specs.Constants as C;
 
 const K_0: [u32; 8] = [
@@ -102,12 +102,12 @@ const H0: [u32; 8] = [
     0x5be0_cd19,
 ];
 
-// K_t to K_(t + 7) of the rounds. An array that is indexed stands on the stack, so only the next eight rounds' are handed out.
-pub(crate) fn eight_constants(t: usize) -> [u32; 8]
-    requires { (t < 64) × (t % 8 ≡ 0) }
-    ensures { result ≡ take 8 (drop t C.K) }
+// K_t to K_(t + 7) of the rounds, t eight times what is asked for. An array that is indexed stands on the stack, so only the next
+// eight rounds' are handed out.
+pub(crate) fn eight_constants(eighth: usize) -> [u32; 8]
+    requires { eighth < 8 }
+    ensures { result ≡ take 8 (drop (8 * eighth) C.K) }
 {
-    let eighth = t / 8;
     match eighth {
         0 => K_0,
         1 => K_8,

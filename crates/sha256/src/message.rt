@@ -46,12 +46,11 @@ fn finish(hash: [u32; 8], rest: &[u8], n: usize) -> [u32; 8]
 pub(crate) fn hash(message: &[u8]) -> [u32; 8]
     ensures { result ≡ S.chained C.H0 (P.padded message.now) }
 {
+    let (blocks, rest) = message.as_chunks::<64>();
     let mut hash = constants::initial_hash();
-    let mut at = 0;
-    while 64 <= message.len() - at {
-        let next = rounds::compress(hash, &message[at..at + 64]);
+    for block in blocks {
+        let next = rounds::compress(hash, block);
         hash = next;
-        at += 64;
     }
-    finish(hash, &message[at..], message.len())
+    finish(hash, rest, message.len())
 }

@@ -1,5 +1,5 @@
 // The rounds of a block and the hash value after it: FIPS 180-4, 6.2.2, steps 2 to 4.
-ghost use Rattle.std.specs.Prelude.{◌≡◌, ◌≤◌, length, take, drop};
+ghost use Rattle.std.specs.Prelude.{◌≡◌, ◌≤◌, take, drop};
 ghost use Rattle.sha256.specs.Constants as C;
 ghost use Rattle.sha256.specs.Hash as S;
 ghost use Rattle.sha256.specs.Inner.Ring as R;
@@ -24,15 +24,16 @@ pub struct Working {
 fn started(hash: [u32; 8]) -> Working
     ensures { result ≡ S.started hash }
 {
+    let [a, b, c, d, e, f, g, h] = hash;
     Working {
-        a: hash[0],
-        b: hash[1],
-        c: hash[2],
-        d: hash[3],
-        e: hash[4],
-        f: hash[5],
-        g: hash[6],
-        h: hash[7],
+        a,
+        b,
+        c,
+        d,
+        e,
+        f,
+        g,
+        h,
     }
 }
 
@@ -68,62 +69,46 @@ fn round(k: u32, w: u32, s: Working) -> Working
     }
 }
 
-// Eight of them: then each working variable is back in its place, so that no word was moved from one to the next.
-fn eight(k: &[u32], w: &[u32], start: Working) -> Working
-    requires { (length k.now ≡ 8) × (length w.now ≡ 8) }
-    ensures { result ≡ S.rounds k.now w.now start }
+// Eight of them on the ring from a place on: then each working variable is back in its place, so that no word was moved from one
+// to the next.
+fn eight(k: &[u32; 8], w: &[u32; 16], at: usize, start: Working) -> Working
+    requires { at ≤ 8 }
+    ensures { result ≡ S.rounds k.now (take 8 (drop at w.now)) start }
 {
     let mut s = start;
-    let mut i = 0;
-    while i < 8 {
-        let next = round(k[i], w[i], s);
-        s = next;
-        i += 1;
+    for i in 0..8 {
+        s = round(k[i], w[at + i], s);
     }
     s
 }
 
-// Eight of them on the ring from a place on, and beside each the word sixteen after its own, which takes its place: so neither
-// waits for the other.
-fn eight_rolling(k: &[u32], w: &mut [u32], at: usize, start: Working) -> Working
-    requires { (length k.now ≡ 8) × (at ≤ 8) × (length w.old ≡ 16) }
+// The same, and beside each the word sixteen after its own, which takes its place: so neither waits for the other.
+fn eight_rolling(k: &[u32; 8], w: &mut [u32; 16], at: usize, start: Working) -> Working
+    requires { at ≤ 8 }
     ensures { (result ≡ S.rounds k.now (take 8 (drop at w.old)) start)
         × (w.new ≡ R.rolled 8 at w.old) }
 {
     let mut s = start;
-    let mut i = 0;
-    while i < 8 {
-        let next = round(k[i], w[at + i], s);
-        let x = schedule::follower(w, at + i);
-        w[at + i] = x;
-        s = next;
-        i += 1;
+    for i in 0..8 {
+        s = round(k[i], w[at + i], s);
+        w[at + i] = schedule::follower(w, at + i);
     }
     s
 }
 
 // Step 3, from the working variables of step 2: the ring goes round for as long as a word is missing. Its halves have rounds of
 // their own, so that each place is a constant.
-fn rounds(block: &[u8], start: Working) -> Working
-    requires { length block.now ≡ 64 }
+fn rounds(block: &[u8; 64], start: Working) -> Working
     ensures { result ≡ S.rounds C.K (S.schedule block.now) start }
 {
     let mut w = schedule::first_words(block);
     let mut s = start;
-    let mut t = 0;
-    while t < 48 {
-        let k = constants::eight_constants(t);
-        let half = eight_rolling(&k, &mut w, 0, s);
-        let k = constants::eight_constants(t + 8);
-        let next = eight_rolling(&k, &mut w, 8, half);
-        s = next;
-        t += 16;
+    for turn in 0..3 {
+        let half = eight_rolling(&constants::eight_constants(2 * turn), &mut w, 0, s);
+        s = eight_rolling(&constants::eight_constants(2 * turn + 1), &mut w, 8, half);
     }
-    while t < 64 {
-        let k = constants::eight_constants(t);
-        let next = eight(&k, &w[t - 48..t - 40], s);
-        s = next;
-        t += 8;
+    for eighth in 6..8 {
+        s = eight(&constants::eight_constants(eighth), &w, 8 * eighth - 48, s);
     }
     s
 }
@@ -144,9 +129,8 @@ fn added(s: Working, hash: [u32; 8]) -> [u32; 8]
     ]
 }
 
-// The hash value after a block of 64 octets.
-pub(crate) fn compress(hash: [u32; 8], block: &[u8]) -> [u32; 8]
-    requires { length block.now ≡ 64 }
+// The hash value after a block.
+pub(crate) fn compress(hash: [u32; 8], block: &[u8; 64]) -> [u32; 8]
     ensures { result ≡ S.compressed hash block.now }
 {
     let s = rounds(block, started(hash));

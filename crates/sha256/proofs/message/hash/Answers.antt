@@ -1,44 +1,35 @@
-use lib.ListN.{length, drop, length-drop}
-use lib.Seq.{length-take-le}
-use borrow.Author.Rules.{rules}
 use native.Mathlib.Omega.{arith}
-use mathlib.Core.Path.{◌∙◌, ap, sym}
-use Prim.Native.Nat.{◌+◌, ◌≤◌}
-use native.Mathlib.Nat.{add-sub_cancel_left}
+use mathlib.Core.Path.{◌≡◌, ap, sym, ◌∙◌}
+use Prim.Native.Nat.{◌+◌, ◌*◌, ◌/◌, ◌≤◌}
+use lib.ListN.{length}
 use Rattle.sha256.specs.Hash.{chained}
+use Rattle.sha256.proofs.ListLaws.{chunk_at}
 use Rattle.sha256.proofs.PaddingLaws.{padded_after}
 use Rattle.sha256.proofs.ChainLaws.{chained_block}
-use Rattle.lent.proofs.Lists.{rest_all}
 use Rattle.sha256.proofs.message.hash.Goals as goal
 
-pub loop-at-init : goal.loop-at-init
-loop-at-init c = (search rules, search rules, rw c.initial_hash-hash.ensures)
+pub loop-block-init : goal.loop-block-init
+loop-block-init c = rw c.initial_hash-hash.ensures
 
-pub compress-next-requires : goal.compress-next-requires
-compress-next-requires c =
+pub loop-block-preserved : goal.loop-block-preserved
+loop-block-preserved c =
     let m = c.args.message.now in
-    let l = c.loop-at in
-    rw add-sub_cancel_left (length-take-le 64 (drop l.at m) (rw length-drop (omega arith)))
-
-pub loop-at-preserved : goal.loop-at-preserved
-loop-at-preserved c =
-    let m = c.args.message.now in
-    let l = c.loop-at in
-    let h : l.at + 64 ≤ length m = omega arith in (
-      search rules,
-      omega arith,
-      rw (c.compress-next.ensures, add-sub_cancel_left) (chained_block l.hash m l.at h) ∙ l.invariant.2,
-    )
+    let l = c.loop-block in
+    let i = l.block-index in
+    let fits : 64 * i + 64 ≤ length m = omega (arith, c.as_chunks.ensures.front_len) in
+    let next : 64 * (i + 1) ≡ 64 * i + 64 = omega arith in
+    let block = chunk_at 64 (length m / 64) m i (omega (arith, c.as_chunks.ensures.front_len)) in
+    rw (next, c.compress-next.ensures, c.as_chunks.ensures.front, block) (chained_block l.hash m (64 * i) fits) ∙ l.invariant
 
 pub finish-requires : goal.finish-requires
-finish-requires c =
-    let m = c.args.message.now in
-    rw (rest_all m c.loop-at.at, length-drop) (omega arith)
+finish-requires c = sym c.as_chunks.ensures.back_len
 
 pub returns : goal.returns
 returns c =
     let m = c.args.message.now in
-    let l = c.loop-at in
+    let l = c.loop-block in
+    let end : length m / 64 * 64 ≡ 64 * l.block-index = omega (arith, c.as_chunks.ensures.front_len) in
+    let whole : 64 * l.block-index ≤ length m = omega (arith, c.as_chunks.ensures.front_len) in
     c.finish.ensures
-    ∙ rw (rest_all m l.at) (ap (chained l.hash) (sym (padded_after m l.at l.invariant.0)))
-    ∙ l.invariant.2
+    ∙ rw (c.as_chunks.ensures.back, end) (ap (chained l.hash) (sym (padded_after m (64 * l.block-index) whole)))
+    ∙ l.invariant

@@ -13,13 +13,12 @@ loop-i-preserved c =
     let a = c.args in
     let l = c.loop-i in (
       search rules,
-      search rules,
-      c.put.auto.out ∙ l.invariant.2,
-      c.put.ensures ∙ rw l.invariant.3 (joined_more a.hash _ l.i (search rules) (search rules)),
+      c.put.auto.out ∙ l.invariant.1,
+      c.put.ensures ∙ rw l.invariant.2 (joined_more a.hash _ l.i (search rules) (search rules)),
     )
 
 pub returns : goal.returns
 returns c =
     let a = c.args in
     let l = c.loop-i in
-    l.invariant.3 ∙ joined_all a.hash _ l.i (search rules) (search rules)
+    l.invariant.2 ∙ joined_all a.hash _ l.i (search rules) (search rules)

@@ -1,12 +1,8 @@
--- Each octet is below 256, so the sum fits, and it is the definition's.
+-- The word of four octets is the definition's.
+use native.Mathlib.Omega.{arith}
 use Rattle.sha256.specs.Parsing.{word}
 use Rattle.sha256.proofs.octets.word.Goals as goal
 
 pub returns : goal.returns
 unfolding word
-returns c = rw (
-  c.wide-4.ensures.0,
-  c.wide-3.ensures.0,
-  c.wide-2.ensures.0,
-  c.wide.ensures.0,
-)
+returns c = omega (arith, c.from_be_bytes.ensures)

@@ -18,12 +18,11 @@ loop-t-preserved c =
     let l = c.loop-t in
     let h : l.t < length l.w = omega arith in (
       search rules,
-      search rules,
-      rw c.word.ensures (up_to_more (word c.args.block.now) l.w l.t h l.invariant.2),
+      rw c.word.ensures (up_to_more (word c.args.block.now) l.w l.t h l.invariant.1),
     )
 
 pub returns : goal.returns
 returns c =
     let l = c.loop-t in
     let e : l.t ≡ 16 = omega arith in
-    sym (take_all 16 l.w (omega (arith, l.invariant.1))) ∙ rw e at l.invariant.2
+    sym (take_all 16 l.w (omega (arith, l.invariant.0))) ∙ rw e at l.invariant.1
