@@ -3,8 +3,6 @@
 // nothing with the library.
 #![tactic(auto)]
 
-ghost use Rattle.std.specs.Prelude.{◌<◌};
-
 mod list;
 
 use lent::octet;
@@ -13,20 +11,21 @@ use std::io;
 use zone::codes::characters;
 
 fn main(rt: HostRuntime) -> io::Result<()> {
-    slips(&rt, "One character for another, in one place", 10)?;
+    let alloc = rt.alloc();
+    slips(
+        &rt,
+        "One character for another, in one place",
+        &undetected(alloc, 10)?,
+    )?;
     println!(rt)?;
-    slips(&rt, "Two neighbours exchanged", 5)
+    slips(&rt, "Two neighbours exchanged", &undetected(alloc, 5)?)
 }
 
-// The pairs whose values agree modulo a number.
-fn slips(rt: &impl Print, slip: &str, modulus: usize) -> io::Result<()>
-    requires { 0 < modulus }
-{
-    let pairs = undetected(modulus);
-    let count = pairs.count;
-    let numbers = pairs.numbers;
+// The pairs that one slip leaves undetected.
+fn slips(rt: &impl Print, slip: &str, numbers: &[usize]) -> io::Result<()> {
+    let count = numbers.len();
     print!(rt; "{slip}: not found of {count} pairs.")?;
-    lines(rt, &numbers[..count])
+    lines(rt, numbers)
 }
 
 fn lines(rt: &impl Print, numbers: &[usize]) -> io::Result<()> {
