@@ -6,6 +6,7 @@ ghost use Rattle.entry.specs.Codes.{sex_by};
 
 use zone::alphabet::FILLER;
 use zone::form::Form;
+use zone::taken::padded;
 
 // 0 for 3: no sex, so that no sound record holds it.
 pub(crate) fn sex_by(code: u32) -> u8
@@ -23,23 +24,17 @@ pub(crate) fn sex_by(code: u32) -> u8
 pub(crate) fn number_at(units: &[u8], at: usize) -> [u8; Form::NUMBER]
     ensures { result ≡ padded number_room (take number_room (drop at units.now)) }
 {
-    let mut room = [FILLER; Form::NUMBER];
-    lent::copy(&mut room, lent::part(units, at, Form::NUMBER));
-    room
+    padded(lent::part(units, at, Form::NUMBER))
 }
 
 pub(crate) fn name_at(units: &[u8], at: usize) -> [u8; Form::NAME]
     ensures { result ≡ padded name_room (take name_room (drop at units.now)) }
 {
-    let mut room = [FILLER; Form::NAME];
-    lent::copy(&mut room, lent::part(units, at, Form::NAME));
-    room
+    padded(lent::part(units, at, Form::NAME))
 }
 
 pub(crate) fn own_at(units: &[u8], at: usize, n: usize) -> [u8; Form::OWN]
     ensures { result ≡ padded own_room (take n (drop at units.now)) }
 {
-    let mut room = [FILLER; Form::OWN];
-    lent::copy(&mut room, lent::part(units, at, n));
-    room
+    padded(lent::part(units, at, n))
 }

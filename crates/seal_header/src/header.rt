@@ -11,6 +11,7 @@ use seal_fields::day::{Day, day_at, is_day};
 use seal_fields::spaces::to_fillers;
 use zone::alphabet::FILLER;
 use zone::form::Form;
+use zone::taken::padded;
 
 // What a header says. Places past the reference's length are fillers.
 #[derive(Clone, Copy)]
@@ -120,8 +121,8 @@ fn header_by(
     Header {
         version: lent::octet(s, 1),
         country,
-        signer: reference::signer_in(text),
-        reference: reference::certificate_in(behind),
+        signer: padded(lent::part(text, 0, 4)),
+        reference: padded(behind),
         reference_len: behind.len() as u8,
         issued,
         signed_on: signed,

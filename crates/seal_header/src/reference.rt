@@ -1,11 +1,10 @@
 // The signer and the certificate reference, one field: how long it is, its characters, and what they must be.
 ghost use Rattle.std.specs.Prelude.{◌≡◌, ◌+◌, ◌≤◌, length, take};
-ghost use Rattle.zone.specs.Record.{padded};
 ghost use Rattle.c40.specs.Field.{field_at};
 ghost use Rattle.seal_header.specs.Reference.{more_by, reference_length, before, is_letter_or_digit, is_reference};
 
 use seal_fields::hex::{all_hex, hex_of};
-use zone::alphabet::{FILLER, is_digit, is_letter};
+use zone::alphabet::{is_digit, is_letter};
 
 // How many more characters the first six say.
 fn more(s: &[u8]) -> usize
@@ -63,22 +62,4 @@ pub(crate) fn is_reference(t: &[u8]) -> bool
     let letters = is_letter(lent::octet(t, 0)) & is_letter(lent::octet(t, 1));
     let others = is_letter_or_digit(lent::octet(t, 2)) & is_letter_or_digit(lent::octet(t, 3));
     letters & (others & all_hex(lent::part(t, 4, t.len())))
-}
-
-// The signer's four characters.
-pub(crate) fn signer_in(t: &[u8]) -> [u8; 4]
-    ensures { result ≡ padded 4 (take 4 t.now) }
-{
-    let mut room = [FILLER; 4];
-    lent::copy(&mut room, lent::part(t, 0, 4));
-    room
-}
-
-// The certificate reference, with fillers behind it.
-pub(crate) fn certificate_in(t: &[u8]) -> [u8; 255]
-    ensures { result ≡ padded 255 t.now }
-{
-    let mut room = [FILLER; 255];
-    lent::copy(&mut room, t);
-    room
 }

@@ -9,26 +9,22 @@ ghost use Rattle.text_digits.specs.Inner.Spans.{further_in};
 ghost use Rattle.text.specs.Read.{own_in, record_by};
 
 use text_digits::number::Span;
-use zone::alphabet::FILLER;
 use zone::form::Form;
 use zone::record::{Record, trimmed_length};
-use zone::taken::{code_at, date_at, sex_at, state_at};
+use zone::taken::{code_at, date_at, padded, sex_at, state_at};
 
 fn name_chars(form: Form, text: &[u8]) -> [u8; Form::NAME]
     ensures { result ≡ padded name_room (trimmed (field form name text.now)) }
 {
     let at = form.places();
-    let mut room = [FILLER; Form::NAME];
-    lent::copy(&mut room, lent::part(text, at.name, form.name_width()));
-    room
+    padded(lent::part(text, at.name, form.name_width()))
 }
 
 // The nine and the further characters, joined.
 fn joined<'a>(nine: &'a [u8], further: &'a [u8]) -> [u8; Form::NUMBER]
     ensures { result ≡ padded number_room (nine.now ++ further.now) }
 {
-    let mut room = [FILLER; Form::NUMBER];
-    lent::copy(&mut room, nine);
+    let mut room = padded(nine);
     lent::copy_at(&mut room, nine.len(), further);
     room
 }
@@ -75,9 +71,7 @@ fn own_chars(form: Form, text: &[u8], n: usize) -> [u8; Form::OWN]
 {
     let at = form.places();
     let field = lent::part(text, at.own, at.own_width);
-    let mut room = [FILLER; Form::OWN];
-    lent::copy(&mut room, lent::part(field, form.before_own(n), Form::OWN));
-    room
+    padded(lent::part(field, form.before_own(n), Form::OWN))
 }
 
 pub fn record_by(form: Form, text: &[u8], span: Span) -> Record

@@ -14,6 +14,15 @@ fn or_filler(s: &[u8], i: usize) -> u8
     if i < s.len() { s[i] } else { FILLER }
 }
 
+// Characters with fillers behind them, in a room of any size.
+pub fn padded<const N: usize>(s: &[u8]) -> [u8; N]
+    ensures { result ≡ padded N s.now }
+{
+    let mut room = [FILLER; N];
+    lent::copy(&mut room, s);
+    room
+}
+
 pub fn sex_at(s: &[u8], at: usize) -> u8
     ensures { result ≡ get_or (take 1 (drop at s.now)) 0 filler }
 {
@@ -37,7 +46,5 @@ pub fn state_at(s: &[u8], at: usize) -> [u8; Form::STATE]
 pub fn date_at(s: &[u8], at: usize) -> [u8; Form::DATE]
     ensures { result ≡ padded date_room (take date_room (drop at s.now)) }
 {
-    let mut room = [FILLER; Form::DATE];
-    lent::copy(&mut room, lent::part(s, at, Form::DATE));
-    room
+    padded(lent::part(s, at, Form::DATE))
 }

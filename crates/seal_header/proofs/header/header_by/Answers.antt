@@ -24,8 +24,9 @@ returns c = let a = c.args in
     rw (
       c.octet-3.ensures,
       c.octet-2.ensures,
-      c.certificate_in.ensures,
-      c.signer_in.ensures,
+      c.padded-2.ensures,
+      c.padded.ensures,
+      c.part.ensures,
       c.octet.ensures,
       c.part-behind.ensures,
       c.before-from.ensures,

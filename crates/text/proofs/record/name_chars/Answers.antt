@@ -1,7 +1,7 @@
--- A copy over fillers, among which trailing fillers make no difference.
-use mathlib.Core.Path.{sym, ◌∙◌}
+-- Before fillers trailing fillers make no difference.
+use mathlib.Core.Path.{sym}
 use Rattle.zone.specs.Part.{name}
-use Rattle.zone.proofs.Padded.{copied_padded, padded_trimmed}
+use Rattle.zone.proofs.Padded.{padded_trimmed}
 use Rattle.zone.specs.Form.{field}
 use Rattle.zone.specs.Inner.Places.{places_of}
 use Rattle.text.proofs.record.name_chars.Goals as goal
@@ -12,9 +12,9 @@ returns c =
     let a = c.args in
     let s = field a.form name a.text.now in
     rw (
-      c.copy.ensures,
+      c.padded.ensures,
       c.part.ensures,
       c.name_width.ensures,
       c.places-at.ensures,
     )
-    (copied_padded 39 s ∙ sym (padded_trimmed 39 s))
+    (sym (padded_trimmed 39 s))

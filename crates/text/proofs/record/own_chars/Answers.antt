@@ -1,7 +1,7 @@
--- A copy over fillers, among which trailing fillers make no difference.
-use mathlib.Core.Path.{sym, ◌∙◌}
+-- Before fillers trailing fillers make no difference.
+use mathlib.Core.Path.{sym}
 use lib.Seq.{take_all}
-use Rattle.zone.proofs.Padded.{copied_padded, padded_trimmed}
+use Rattle.zone.proofs.Padded.{padded_trimmed}
 use Rattle.zone.specs.Form.{field}
 use Rattle.zone.specs.Inner.Places.{places_of}
 use Rattle.text.specs.Read.{own_in}
@@ -14,11 +14,11 @@ returns c =
     let a = c.args in
     let s = own_in a.form a.text.now a.n in
     rw (
-      c.copy.ensures,
+      c.padded.ensures,
       c.part.ensures,
       c.before_own.ensures,
       c.part-field.ensures,
       c.places-at.ensures,
       take_all 16 s (own_within a.form a.text.now a.n),
     )
-    (copied_padded 16 s ∙ sym (padded_trimmed 16 s))
+    (sym (padded_trimmed 16 s))
