@@ -31,10 +31,6 @@ rest_all s at = take_all (length s - at) (drop at s) (le_of_eq (length-drop at s
 pub take_rest : (n at : ℕ) (s : List ℕ) → length s - at ≤ n → take (length s - at) (drop at s) ≡ take n (drop at s)
 take_rest n at s h = rest_all s at ∙ sym (take_all n (drop at s) (rw length-drop h))
 
-pub take_none : (n at : ℕ) (s : List ℕ) → length s ≤ at → [] ≡ take n (drop at s)
-take_none zero at s h = refl
-take_none (suc n) at s h = rw (drop_of_length-le s h)
-
 -- a copy that has come to the end of either list is the whole copy
 pub copy_ends : (to from : List ℕ) (i : ℕ) → i ≤ length to → i ≤ length from → (length from ≤ i) ⊎ (length to ≤ i)
     → take i from ++ drop i to ≡ take (length to) from ++ drop (length from) to
@@ -60,12 +56,6 @@ pub copy_into : (to : List ℕ) (at : ℕ) (from back : List ℕ)
     → take at to ++ (back ++ drop (length to - at) (drop at to)) ≡ copied_at to at from
 copy_into to at from back e =
     rw (e, rest_all to at, drop_of_length-le (drop at to) (le_of_eq (length-drop at to)), append-nil)
-
--- a range filled to its end
-pub fill_ends : (to : List ℕ) (c i : ℕ) → length to ≤ i → i ≤ length to → replicate i c ++ drop i to ≡ replicate (length to) c
-fill_ends to c i h k =
-    let e : i ≡ length to = omega arith in
-    rw (e, drop-length to, append-nil)
 
 -- what is left of a run of one octet
 pub drop_replicate : (k n c : ℕ) → drop k (replicate n c) ≡ replicate (n - k) c

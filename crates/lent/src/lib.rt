@@ -9,67 +9,37 @@ ghost use Rattle.lent.specs.Octets as Octets;
 pub fn octet(s: &[u8], at: usize) -> u8
     ensures { result ≡ get_or s.now at 0 }
 {
-    if at < s.len() { s[at] } else { 0 }
+    s.get(at).copied().unwrap_or(0)
 }
 
 // The n octets from a place on, as a part of what was lent: fewer where it ends before.
 pub fn part(s: &[u8], at: usize, n: usize) -> &[u8]
     ensures { result.now ≡ take n (drop at s.now) }
 {
-    if s.len() <= at {
-        return &s[..0];
-    }
-    if n <= s.len() - at {
-        &s[at..at + n]
-    } else {
-        &s[at..]
-    }
+    let behind = s.get(at..).unwrap_or(&[]);
+    behind.get(..n).unwrap_or(behind)
 }
 
 // The same octets.
 pub fn alike(a: &[u8], b: &[u8]) -> bool
     ensures { result ≡ Octets.alike a.now b.now }
 {
-    if a.len() != b.len() {
-        return false;
-    }
-    let mut i = 0;
-    while i < a.len() {
-        if a[i] == b[i] {
-            i += 1;
-        } else {
-            return false;
-        }
-    }
-    true
+    a == b
 }
 
 // Whether an octet stands among others.
 pub fn stands(c: u8, s: &[u8]) -> bool
     ensures { result ≡ Octets.stands c s.now }
 {
-    let mut i = 0;
-    while i < s.len() {
-        if c == s[i] {
-            return true;
-        }
-        i += 1;
-    }
-    false
+    s.contains(&c)
 }
 
 // The first octets of a range become those of another, as many as both have.
 pub fn copy(to: &mut [u8], from: &[u8])
     ensures { to.new ≡ copied to.old from.now }
 {
-    let mut i = 0;
-    while i < to.len() {
-        if from.len() <= i {
-            return;
-        }
-        to[i] = from[i];
-        i += 1;
-    }
+    let n = to.len().min(from.len());
+    to[..n].copy_from_slice(&from[..n]);
 }
 
 // The same from a place on. Past the end there is nothing to change.
@@ -94,9 +64,5 @@ pub fn put(to: &mut [u8], at: usize, c: u8)
 pub fn fill(to: &mut [u8], c: u8)
     ensures { to.new ≡ replicate (length to.old) c }
 {
-    let mut i = 0;
-    while i < to.len() {
-        to[i] = c;
-        i += 1;
-    }
+    to.fill(c);
 }
