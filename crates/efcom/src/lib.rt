@@ -3,8 +3,6 @@
 
 ghost use Rattle.std.specs.Prelude.{◌≡◌, ◌&&◌};
 ghost use Rattle.refusal.specs.Numbers.{by};
-ghost use Rattle.zone.specs.Alphabet.{is_digit};
-ghost use Rattle.zone.specs.Alphabet.{every};
 ghost use Rattle.lent.specs.Octets as Octets;
 ghost use Rattle.tlv.specs.Read.{value, refusal, and_then, checked};
 ghost use Rattle.tlv.specs.Element.{taken_of};
@@ -20,7 +18,7 @@ use lent::alike;
 use refusal::{Cause, Refusal, Verdict};
 use tlv::cut::{cut, end_check, has_octets};
 use tlv::{Stretch, Taken, tags};
-use zone::alphabet::is_digit;
+use zone::alphabet::{every, is_digit};
 
 // What EF.COM says: whether its version is `0108` and not `0107`, where the digits of the Unicode version stand, and where the
 // tag list.
@@ -66,26 +64,11 @@ fn from_tag_list(s: &[u8], at: usize) -> Taken
     }
 }
 
-fn all_digits(s: &[u8]) -> bool
-    ensures { result ≡ every is_digit s.now }
-{
-    let mut i = 0;
-    while i < s.len() {
-        let c = s[i];
-        if is_digit(c) {
-            i += 1;
-        } else {
-            return false;
-        }
-    }
-    true
-}
-
 // Six digits.
 fn is_unicode(s: &[u8], v: Stretch) -> bool
     ensures { result ≡ C.is_unicode s.now v }
 {
-    has_octets(6, v) & all_digits(cut(s, v))
+    has_octets(6, v) & every(cut(s, v), is_digit)
 }
 
 // The tag list, and what was read before it.

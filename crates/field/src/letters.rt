@@ -1,9 +1,9 @@
 // The fields of letters and fillers: state and nationality, sex, name.
 ghost use Rattle.std.specs.Prelude.{◌≡◌, ◌||◌};
-ghost use Rattle.field.specs.Letters.{state_rule, letters_then_fillers, sex_rule, name_rule, is_name_character};
-ghost use Rattle.zone.specs.Alphabet.{is_letter, is_filler, every};
+ghost use Rattle.field.specs.Letters.{state_rule, letters_then_fillers, sex_rule, name_rule};
+ghost use Rattle.zone.specs.Alphabet.{is_letter, is_filler};
 
-use zone::alphabet::{FILLER, is_letter};
+use zone::alphabet::{FILLER, every_by_sixteens, is_letter};
 
 pub(crate) fn is_letter_or_filler(c: u8) -> bool
     ensures { result ≡ is_letter c || is_filler c }
@@ -34,40 +34,9 @@ pub fn is_sex(c: u8) -> bool
     (c == b'M') | (c == b'F') | (c == FILLER)
 }
 
-// One by one; as of characters in zone.
-fn are_name_characters(s: &[u8]) -> bool
-    ensures { result ≡ every is_name_character s.now }
-{
-    let mut fine = true;
-    let mut i = 0;
-    while i < s.len() {
-        fine = fine & is_letter_or_filler(s[i]);
-        i += 1;
-    }
-    fine
-}
-
-// The last sixteen first, and then by sixteens up to them.
-fn all_name_characters(s: &[u8]) -> bool
-    ensures { result ≡ every is_name_character s.now }
-{
-    if s.len() < 16 {
-        return are_name_characters(s);
-    }
-    let from = s.len() - 16;
-    let mut fine = are_name_characters(&s[from..]);
-    let mut i = 0;
-    while i <= from {
-        let to = i + 16;
-        fine = fine & are_name_characters(&s[i..to]);
-        i = to;
-    }
-    fine
-}
-
 // Letters and fillers, the first a letter.
 pub fn is_name(s: &[u8]) -> bool
     ensures { result ≡ name_rule s.now }
 {
-    is_letter(lent::octet(s, 0)) & all_name_characters(s)
+    is_letter(lent::octet(s, 0)) & every_by_sixteens(s, is_letter_or_filler)
 }

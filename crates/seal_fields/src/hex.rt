@@ -3,7 +3,7 @@ ghost use Rattle.std.specs.Prelude.{◌≡◌, ◌<◌};
 ghost use Rattle.zone.specs.Alphabet.{every};
 ghost use Rattle.seal_fields.specs.Hex.{is_hex, hex_of, hex_digit, hexadecimal};
 
-use zone::alphabet::is_digit;
+use zone::alphabet::{every, is_digit};
 
 fn is_hex(c: u8) -> bool
     ensures { result ≡ is_hex c }
@@ -15,13 +15,7 @@ fn is_hex(c: u8) -> bool
 pub fn all_hex(s: &[u8]) -> bool
     ensures { result ≡ every is_hex s.now }
 {
-    let mut fine = true;
-    let mut i = 0;
-    while i < s.len() {
-        fine = fine & is_hex(s[i]);
-        i += 1;
-    }
-    fine
+    every(s, is_hex)
 }
 
 // What a character says, 0 where it is none of them.

@@ -10,22 +10,6 @@ use native.Mathlib.Omega.{arith}
 use Rattle.lent.proofs.Bools.{and_both}
 use Rattle.zone.specs.Alphabet.{every, first}
 
-module _ (p : ℕ → Bool) (s : List ℕ) (i : ℕ) (e : Bool) (left : every p (drop i s) ≡ e) where
-  -- a character that passes: the rest decides
-  pub every_more : i < length s → p (get_or s i 0) ≡ true → every p (drop (i + 1) s) ≡ e
-  unfolding every
-  every_more h t = rw (add-one i) (rw (drop-cons s i 0 h, t) at left)
-
-  -- one that does not
-  pub every_fails : i < length s → p (get_or s i 0) ≡ false → false ≡ e
-  unfolding every
-  every_fails h t = rw (drop-cons s i 0 h, t) at left
-
-  -- none is left
-  pub every_end : length s ≤ i → true ≡ e
-  unfolding every
-  every_end h = rw (drop_of_length-le s h) at left
-
 -- a loop that goes to the end: what was passed and what is left decide for the whole
 module _ (p : ℕ → Bool) (s : List ℕ) (i : ℕ) (fine : Bool) (left : fine && every p (drop i s) ≡ every p s) where
   pub every_step : i < length s → (fine && p (get_or s i 0)) && every p (drop (i + 1) s) ≡ every p s

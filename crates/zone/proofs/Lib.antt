@@ -2,7 +2,7 @@
 pub mod Classes  -- digits, letters and fillers by their numbers
 pub mod Coding  -- characters and their codes tell each other; the table by codes
 pub mod Every  -- `every`: the steps of a loop over all characters, and lists joined and cut
-pub mod First  -- `first`: the steps of a search, and where it finds none
+pub mod First  -- `first`: what the library's `position` says of it, and where it finds none
 pub mod AllForms  -- what holds of each form of the list of all forms holds of every form
 pub mod Parts  -- the parts of a text: each has its own rank, no two overlap, and what rows say of them
 pub mod Widths  -- the widths that every form shares, and that every part lies within the text

@@ -1,13 +1,14 @@
 -- The laws of `trimmed_length`: one character more at the end, and its bound.
-use mathlib.Core.Path.{◌≡◌, refl, sym}
+use mathlib.Core.Path.{◌≡◌, refl, ap, sym, ◌∙◌}
 use mathlib.Core.List.{List, [], ◌∷◌, ◌++◌}
-use mathlib.Core.Bool.{Bool, true, false, cond, ◌&&◌}
+use mathlib.Core.Bool.{Bool, true, false, cond, ◌&&◌, and-true, false≢true}
 use Prim.Native.Nat.{ℕ, suc, ◌+◌, ◌≤◌, ◌<◌, zero, ◌-◌}
 use native.Mathlib.Numerals.{add-one}
 use native.Mathlib.Omega.{arith}
-use lib.ListN.{length, take, drop, get_or, replicate}
+use lib.ListN.{length, take, drop, get_or, replicate, take-append-drop, drop_of_length-le}
 use lib.Dec.{eqb, eqb-suc-zero}
-use lib.Seq.{take-suc, length-take-le, take-take, take-add}
+use lib.Pointwise.{pointwise}
+use lib.Seq.{take-suc, length-take-le, take-take, take_all, drop-cons}
 use borrow.Author.Tests.{eqb-true}
 use Rattle.zone.specs.Alphabet.{is_filler, filler, every}
 use Rattle.zone.specs.Record.{trimmed_length, trimmed}
@@ -30,15 +31,11 @@ trimmed_snoc (x ∷ s) c = rw (trimmed_snoc s c) (step (is_filler c) (is_filler 
     step false true = rw (eqb-suc-zero (length s))
     step false false = refl
 
--- one turn of the loop
-module _ (s : List ℕ) (i : ℕ) (h : i < length s) where
-  pub trimmed_filler : is_filler (get_or s i 0) ≡ true → trimmed_length (take (i + 1) s) ≡ trimmed_length (take i s)
-  trimmed_filler e = rw (add-one i, take-suc s i 0 h, trimmed_snoc, e)
-
-  pub trimmed_other : is_filler (get_or s i 0) ≡ false → trimmed_length (take (i + 1) s) ≡ i + 1
-  trimmed_other e =
-      let k : i ≤ length s = omega arith in
-      rw (add-one i, take-suc s i 0 h, trimmed_snoc, e, length-take-le i s k)
+-- another character than a filler
+trimmed_other : (s : List ℕ) (i : ℕ) → i < length s → is_filler (get_or s i 0) ≡ false → trimmed_length (take (i + 1) s) ≡ i + 1
+trimmed_other s i h e =
+    let k : i ≤ length s = omega arith in
+    rw (add-one i, take-suc s i 0 h, trimmed_snoc, e, length-take-le i s k)
 
 fillers_none : (m : ℕ) → trimmed_length (replicate m filler) ≡ 0
 unfolding trimmed_length is_filler
@@ -63,13 +60,33 @@ unfolding trimmed_length
 trimmed_behind [] b e = fillers_gone b e
 trimmed_behind (c ∷ a) b e = rw (trimmed_behind a b e)
 
--- where the first n end in k fillers
-pub trimmed_fewer : (s : List ℕ) (n k : ℕ) → k ≤ n → every is_filler (take k (drop (n - k) s)) ≡ true
-    → trimmed_length (take (n - k) s) ≡ trimmed_length (take n s)
-trimmed_fewer s n k h e =
-    let parts : n - k + k ≡ n = omega arith in
-    let joined = rw parts at (take-add (n - k) k s) in
-    rw joined (sym (trimmed_behind (take (n - k) s) (take k (drop (n - k) s)) e))
+-- a list that ends in n fillers, as the library's `strip_suffix` says it, and one that ends in none
+fillers_same : (n : ℕ) (s : List ℕ) → pointwise eqb s (replicate n filler) ≡ true → every is_filler s ≡ true
+unfolding every is_filler
+fillers_same n [] e = refl
+fillers_same zero (c ∷ s) e = absurd (false≢true e)
+fillers_same (suc n) (c ∷ s) e =
+    let both = and_both (eqb c filler) (pointwise eqb s (replicate n filler)) e in
+    rw (both.0, fillers_same n s both.1)
+
+pub trimmed_suffix : (s : List ℕ) (n k : ℕ) → pointwise eqb (drop k s) (replicate n filler) ≡ true
+    → trimmed_length (take k s) ≡ trimmed_length s
+trimmed_suffix s n k e =
+    sym (trimmed_behind (take k s) (drop k s) (fillers_same n (drop k s) e)) ∙ ap trimmed_length (take-append-drop k s)
+
+pub trimmed_whole : (s : List ℕ) → pointwise eqb (drop (length s - 1) s) (filler ∷ []) ≡ false → length s ≡ trimmed_length s
+unfolding trimmed_length is_filler
+trimmed_whole [] e = refl
+trimmed_whole (c ∷ s) e =
+    let l = c ∷ s in
+    let i = length s in
+    let h : i < length l = omega arith in
+    let past : length l ≤ suc i = omega arith in
+    let end = drop-cons l i 0 h ∙ ap (λ t. get_or l i 0 ∷ t) (drop_of_length-le l past) in
+    let k : length l - 1 ≡ i = omega arith in
+    let other = rw (k, end, and-true) at e in
+    let all : take (i + 1) l ≡ l = take_all (i + 1) l (omega arith) in
+    omega (arith, rw all at (trimmed_other l i h other))
 
 pub trimmed_twice : (s : List ℕ) → trimmed_length (take (trimmed_length s) s) ≡ trimmed_length s
 unfolding trimmed_length

@@ -1,6 +1,7 @@
 // What a character of the zone is.
-ghost use Rattle.std.specs.Prelude.{◌≡◌};
+ghost use Rattle.std.specs.Prelude.{◌≡◌, ℕ, Bool};
 ghost use Rattle.zone.specs.Alphabet.{is_digit, is_letter, is_filler, is_character, every, first_foreign, first_filler};
+ghost use Rattle.zone.specs.Inner.Tests.{Answers};
 
 pub const FILLER: u8 = b'<';
 
@@ -22,48 +23,49 @@ pub fn is_character(c: u8) -> bool
     is_digit(c) | (is_letter(c) | (c == FILLER))
 }
 
-// One by one. The loop goes to the end in any case: so the compiler takes many characters at a time.
-fn are_characters(s: &[u8]) -> bool
-    ensures { result ≡ every is_character s.now }
+// Whether every octet passes a test. The loop goes to the end in any case: so the compiler takes many octets at a time.
+pub fn every<F: Fn(u8) -> bool>(s: &[u8], passes: F) -> bool
+    requires { F.IsAlwaysCallable passes }
+    ensures { (test : ℕ → Bool) → Answers F.Fn passes test → result ≡ every test s.now }
 {
     let mut fine = true;
-    let mut i = 0;
-    while i < s.len() {
-        fine = fine & is_character(s[i]);
-        i += 1;
+    for &c in s {
+        fine &= passes(c);
     }
     fine
 }
 
-// No octet outside the alphabet. The last sixteen first, and then by sixteens up to them: so none is left to be taken alone.
-pub fn all_characters(s: &[u8]) -> bool
-    ensures { result ≡ every is_character s.now }
+// The same, of many. The last sixteen first, and then by sixteens up to them: so none is left to be taken alone.
+pub fn every_by_sixteens<F: Fn(u8) -> bool + Copy>(s: &[u8], passes: F) -> bool
+    requires { F.IsAlwaysCallable passes }
+    ensures { (test : ℕ → Bool) → Answers F.Fn passes test → result ≡ every test s.now }
 {
     if s.len() < 16 {
-        return are_characters(s);
+        return every(s, passes);
     }
     let from = s.len() - 16;
-    let mut fine = are_characters(&s[from..]);
+    let mut fine = every(&s[from..], passes);
     let mut i = 0;
     while i <= from {
         let to = i + 16;
-        fine = fine & are_characters(&s[i..to]);
+        fine &= every(&s[i..to], passes);
         i = to;
     }
     fine
+}
+
+// No octet outside the alphabet.
+pub fn all_characters(s: &[u8]) -> bool
+    ensures { result ≡ every is_character s.now }
+{
+    every_by_sixteens(s, is_character)
 }
 
 // Nothing but fillers.
 pub fn all_fillers(s: &[u8]) -> bool
     ensures { result ≡ every is_filler s.now }
 {
-    let mut fine = true;
-    let mut i = 0;
-    while i < s.len() {
-        fine = fine & (s[i] == FILLER);
-        i += 1;
-    }
-    fine
+    every(s, |c| c == FILLER)
 }
 
 // The place of the first octet outside the alphabet, or the length where there is none, as nearly always.
@@ -73,31 +75,12 @@ pub fn first_foreign(s: &[u8]) -> usize
     if all_characters(s) {
         return s.len();
     }
-    let mut i = 0;
-    while i < s.len() {
-        let c = s[i];
-        if is_character(c) {
-            i += 1;
-        } else {
-            return i;
-        }
-    }
-    i
+    s.iter().position(|&c| !is_character(c)).unwrap_or(s.len())
 }
 
 // The place of the first filler, or the length where there is none.
 pub fn first_filler(s: &[u8]) -> usize
     ensures { result ≡ first_filler s.now }
 {
-    let mut i = 0;
-    let place = loop {
-        if s.len() <= i {
-            break i;
-        }
-        if s[i] == FILLER {
-            break i;
-        }
-        i += 1;
-    };
-    place
+    s.iter().position(|&c| c == FILLER).unwrap_or(s.len())
 }

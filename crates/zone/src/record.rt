@@ -1,9 +1,8 @@
 // What the library keeps of a document. Names, numbers and codes are characters; places past a length are fillers.
-ghost use Rattle.std.specs.Prelude.{◌≡◌, ◌&&◌, ◌-◌, ◌≤◌, leb, length, take, drop};
-ghost use Rattle.zone.specs.Alphabet.{is_filler, every};
+ghost use Rattle.std.specs.Prelude.{◌≡◌};
 ghost use Rattle.zone.specs.Record.{blank, trimmed_length};
 
-use crate::alphabet::{FILLER, all_fillers};
+use crate::alphabet::FILLER;
 use crate::form::Form;
 
 #[derive(Clone, Copy)]
@@ -47,33 +46,16 @@ impl Record {
     }
 }
 
-// Whether the first n octets end in eight fillers.
-fn ends_in_eight(s: &[u8], n: usize) -> bool
-    requires { n ≤ length s.now }
-    ensures { result ≡ leb 8 n && every is_filler (take 8 (drop (n - 8) s.now)) }
-{
-    if 8 <= n {
-        let from = n - 8;
-        all_fillers(&s[from..n])
-    } else {
-        false
-    }
-}
-
 // The length without trailing fillers, looked for from the end: eight at a time, and then one by one.
 pub fn trimmed_length(s: &[u8]) -> usize
     ensures { result ≡ trimmed_length s.now }
 {
-    let mut n = s.len();
-    while ends_in_eight(s, n) {
-        n -= 8;
+    let mut rest = s;
+    while let Some(shorter) = rest.strip_suffix(&[FILLER; 8]) {
+        rest = shorter;
     }
-    while 0 < n {
-        let last = n - 1;
-        if s[last] != FILLER {
-            return n;
-        }
-        n = last;
+    while let Some(shorter) = rest.strip_suffix(&[FILLER]) {
+        rest = shorter;
     }
-    0
+    rest.len()
 }

@@ -1,27 +1,16 @@
-use native.Mathlib.Nat.{zero-add}
+-- The closure's test is that of `is_filler`.
 use borrow.Author.Rules.{rules}
-use borrow.Author.Tests.{eq-eqb, ne_eqb}
-use Rattle.zone.proofs.First.{first_miss, first_hit, first_end}
+use borrow.Author.Tests.{tests}
+use Rattle.std.proofs.lemmas.Iterator.{YieldsList-from_slice}
+use Rattle.std.proofs.lemmas.Iterator.Search.{position_from_yields_List}
 use Rattle.zone.specs.Alphabet.{is_filler, first_filler}
+use Rattle.zone.proofs.First.{position_first}
 use Rattle.zone.proofs.alphabet.first_filler.Goals as goal
 
-pub loop-i-init : goal.loop-i-init
+pub returns : goal.returns
 unfolding is_filler first_filler
-loop-i-init c = (search rules, zero-add _)
-
-pub loop-i-preserved : goal.loop-i-preserved
-unfolding is_filler first_filler
-loop-i-preserved c = let s = c.args.s.now in
-    let l = c.loop-i in
-    (search rules, first_miss is_filler s l.i l.invariant.1 (search rules) (ne_eqb _ _ c.if-s-i-eq-FILLER.false))
-
-pub returns-then-s-i : goal.returns-then-s-i
-unfolding is_filler first_filler
-returns-then-s-i c = let l = c.loop-i in
-    first_end is_filler c.args.s.now l.i l.invariant.1 c.if-s-i.true
-
-pub returns-then-s-i-eq-FILLER : goal.returns-then-s-i-eq-FILLER
-unfolding is_filler first_filler
-returns-then-s-i-eq-FILLER c = let s = c.args.s.now in
-    let l = c.loop-i in
-    first_hit is_filler s l.i l.invariant.1 (search rules) (eq-eqb _ _ c.if-s-i-eq-FILLER.true)
+returns c = let s = c.args.s.now in
+    let ran = c.position.ensures.ran in
+    let found = position_from_yields_List is_filler _ _ c.position.result ran (YieldsList-from_slice s cc)
+    (λ x b q k. search (rules, tests)) in
+    rw (c.unwrap_or.ensures, found) (position_first is_filler s)

@@ -1,10 +1,12 @@
-use mathlib.Core.Path.{ap, sym, ◌∙◌}
-use mathlib.Core.Bool.{not}
-use native.Mathlib.Nat.{zero-add}
+-- Where every octet is a character there is none outside; else the closure's test is that of `is_foreign`.
 use borrow.Author.Rules.{rules}
+use borrow.Author.Tests.{tests}
+use mathlib.Core.Path.{sym, ◌∙◌}
+use Rattle.std.proofs.lemmas.Iterator.{YieldsList-from_slice}
+use Rattle.std.proofs.lemmas.Iterator.Search.{position_from_yields_List}
 use Rattle.zone.specs.Alphabet.{is_character, is_foreign, first_foreign}
 use Rattle.zone.proofs.Every.{every_first}
-use Rattle.zone.proofs.First.{first_miss, first_hit, first_end}
+use Rattle.zone.proofs.First.{position_first}
 use Rattle.zone.proofs.alphabet.first_foreign.Goals as goal
 
 pub returns-then-all_characters : goal.returns-then-all_characters
@@ -12,26 +14,10 @@ unfolding is_foreign first_foreign
 returns-then-all_characters c = let s = c.args.s.now in
     sym (every_first is_character s (sym c.all_characters.ensures ∙ c.if-all_characters.true))
 
-pub loop-i-init : goal.loop-i-init
-unfolding is_foreign first_foreign
-loop-i-init c = (search rules, zero-add _)
-
-pub loop-i-preserved : goal.loop-i-preserved
-unfolding is_foreign first_foreign
-loop-i-preserved c = let l = c.loop-i in
-    let s = c.args.s.now in
-    let fine = ap not (sym c.is_character.ensures ∙ c.if-is_character.true) in
-    (search rules, first_miss is_foreign s l.i l.invariant.1 (search rules) fine)
-
-pub returns-else-is_character : goal.returns-else-is_character
-unfolding is_foreign first_foreign
-returns-else-is_character c = let l = c.loop-i in
-    let s = c.args.s.now in
-    let foreign = ap not (sym c.is_character.ensures ∙ c.if-is_character.false) in
-    first_hit is_foreign s l.i l.invariant.1 (search rules) foreign
-
 pub returns : goal.returns
 unfolding is_foreign first_foreign
-returns c = let l = c.loop-i in
-    let s = c.args.s.now in
-    first_end is_foreign s l.i l.invariant.1 c.loop-i-test.false
+returns c = let s = c.args.s.now in
+    let ran = c.position.ensures.ran in
+    let found = position_from_yields_List is_foreign _ _ c.position.result ran (YieldsList-from_slice s cc)
+    (λ x b q k. search (rules, tests)) in
+    rw (c.unwrap_or.ensures, found) (position_first is_foreign s)
