@@ -16,9 +16,7 @@ fn filler_for_space(c: u8) -> u8
 pub fn to_fillers(text: &mut [u8])
     ensures { text.new ≡ filled text.old }
 {
-    let mut i = 0;
-    while i < text.len() {
-        text[i] = filler_for_space(text[i]);
-        i += 1;
+    for c in text.iter_mut() {
+        *c = filler_for_space(*c);
     }
 }

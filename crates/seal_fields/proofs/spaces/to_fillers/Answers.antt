@@ -1,24 +1,19 @@
-use Prim.Native.Nat.{◌<◌}
-use mathlib.Core.Path.{refl, ◌∙◌}
+use Prim.Native.Nat.{◌<◌, ◌≤◌}
+use mathlib.Core.Path.{◌∙◌}
 use native.Mathlib.Omega.{arith}
-use borrow.Author.Rules.{rules}
-use lib.ListN.{length, length-set}
+use lib.ListN.{length}
 use Rattle.lent.proofs.Changed.{map_step, map_done}
 use Rattle.seal_fields.specs.Spaces.{filled}
 use Rattle.seal_fields.proofs.spaces.to_fillers.Goals as goal
 
-pub loop-i-init : goal.loop-i-init
+pub loop-c-preserved : goal.loop-c-preserved
 unfolding filled
-loop-i-init c = (search rules, refl, refl)
-
-pub loop-i-preserved : goal.loop-i-preserved
-unfolding filled
-loop-i-preserved c = let l = c.loop-i in
-    let h : l.i < length l.text = omega arith in
-    let step = map_step _ l.text l.i h ∙ l.invariant.2 in
-    (search rules, simp length-set (search rules), rw c.filler_for_space.ensures step)
+loop-c-preserved c = let l = c.loop-c in
+    let h : l.c-index < length l.text = omega arith in
+    rw c.filler_for_space.ensures (map_step _ l.text l.c-index h ∙ l.invariant)
 
 pub returns : goal.returns
 unfolding filled
-returns c = let l = c.loop-i in
-    map_done _ l.text l.i (omega (arith, c.loop-i-test.false)) ∙ l.invariant.2
+returns c = let l = c.loop-c in
+    let h : length l.text ≤ l.c-index = omega arith in
+    map_done _ l.text l.c-index h ∙ l.invariant
