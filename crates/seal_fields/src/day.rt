@@ -75,9 +75,9 @@ pub fn octets_of(d: Day) -> [u8; 3]
     ensures { result ≡ reduced (day_octets d) }
 {
     let n = d.month as u32 * 1000000 + d.day as u32 * 10000 + d.year as u32;
-    let mut out = [0u8; 3];
-    out[0] = (n / 65536 % 256) as u8;
-    out[1] = (n / 256 % 256) as u8;
-    out[2] = (n % 256) as u8;
-    out
+    [
+        (n / 65536 % 256) as u8,
+        (n / 256 % 256) as u8,
+        (n % 256) as u8,
+    ]
 }

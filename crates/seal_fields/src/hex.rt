@@ -41,8 +41,5 @@ fn hex_digit(d: u8) -> u8
 pub fn two_of(n: u8) -> [u8; 2]
     ensures { result ≡ hexadecimal n }
 {
-    let mut out = [0u8; 2];
-    out[0] = hex_digit(n / 16);
-    out[1] = hex_digit(n % 16);
-    out
+    [hex_digit(n / 16), hex_digit(n % 16)]
 }
