@@ -39,7 +39,10 @@ pub fn copy(to: &mut [u8], from: &[u8])
     ensures { to.new ≡ copied to.old from.now }
 {
     let n = to.len().min(from.len());
-    to[..n].copy_from_slice(&from[..n]);
+    // Often there is nothing to copy, as of data that few documents have: so no call for nothing.
+    if 0 < n {
+        to[..n].copy_from_slice(&from[..n]);
+    }
 }
 
 // The same from a place on. Past the end there is nothing to change.

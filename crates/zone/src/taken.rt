@@ -29,6 +29,7 @@ pub fn sex_at(s: &[u8], at: usize) -> u8
     or_filler(lent::part(s, at, 1), 0)
 }
 
+// Two and three characters one by one: as copies they take twice as many instructions.
 pub fn code_at(s: &[u8], at: usize) -> [u8; Form::CODE]
     ensures { result ≡ padded code_room (take code_room (drop at s.now)) }
 {
