@@ -3,61 +3,48 @@
 
 ghost use Rattle.std.specs.Prelude.{◌≡◌};
 ghost use Rattle.refusal.specs.Length.{length_of};
-ghost use Rattle.runs.specs.Run.{onward_of};
-ghost use Rattle.as_entry.specs.Written.{is_only, written_answer, written_out};
+ghost use Rattle.as_entry.specs.Written.{IsOnly, written_answer, written_out};
 ghost use Rattle.as_entry.specs.Opened.{opened_in_c};
 
 use crate::received::RecordInC;
 use crate::record::record_in_c;
-use refusal::{Cause, Refusal, Written};
-use runs::run::Step;
+use refusal::{Cause, Refusal};
+use runs::run::Standing;
 use zone::record::Record;
 
 pub mod received;
 mod record;
 
-pub const NOT_ONE_ENTRY: Refusal = Refusal {
+const NOT_ONE_ENTRY: Refusal = Refusal {
     cause: Cause::Entry,
     place: 0,
 };
 
-// Whether a run of n octets is one entry: it goes on at its own end.
-pub fn is_only(step: Step, n: usize) -> bool
-    ensures { result ≡ is_only (onward_of step) n }
+// The entry that a range is, where it holds one and nothing else: then the run goes on at its own end.
+#[tactic(auto, unfolding(crate::specs::Written::is_only))]
+pub fn only(range: &[u8]) -> Result<Standing, Refusal>
+    ensures { IsOnly range.now result }
 {
-    match step {
-        Step::Next(offset) => offset == n,
-        Step::End => false,
-        Step::Refused(_) => false,
+    match runs::run::next(range, 0) {
+        Ok(Some(standing)) if standing.next == range.len() => Ok(standing),
+        _ => Err(NOT_ONE_ENTRY),
     }
 }
 
-pub fn write_one(only: &[u8], out: &mut [u8]) -> Written
-    ensures result_value { length_of result ≡ written_answer only.now out.old }
-    ensures out_after { out.new ≡ written_out only.now out.old }
+#[tactic(auto, unfolding(crate::specs::Written::written_answer, crate::specs::Written::written_out))]
+pub fn write_one(range: &[u8], out: &mut [u8]) -> Result<usize, Refusal>
+    ensures result_value { length_of result ≡ written_answer range.now out.old }
+    ensures out_after { out.new ≡ written_out range.now out.old }
 {
-    let standing = runs::run::next(only, 0);
-    let kept = standing.kept;
-    let step = standing.step;
-    if is_only(step, only.len()) {
-        writing::write::write(kept, out)
-    } else {
-        Written::Refused(NOT_ONE_ENTRY)
-    }
+    let standing = only(range)?;
+    writing::write::write(standing.kept, out)
 }
 
-pub fn open_one(only: &[u8]) -> RecordInC
-    ensures { result ≡ opened_in_c only.now }
+pub fn open_one(range: &[u8]) -> RecordInC
+    ensures { result ≡ opened_in_c range.now }
 {
-    let standing = runs::run::next(only, 0);
-    let kept = standing.kept;
-    let step = standing.step;
-    if is_only(step, only.len()) {
-        record_in_c(0, standing.house, kept)
-    } else {
-        let cause = NOT_ONE_ENTRY.cause;
-        let number = cause.number();
-        let blank = Record::blank();
-        record_in_c(number, 0, blank)
+    match only(range) {
+        Ok(standing) => record_in_c(0, standing.house, standing.kept),
+        Err(why) => record_in_c(why.cause.number(), 0, Record::blank()),
     }
 }

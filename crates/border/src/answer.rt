@@ -2,16 +2,14 @@
 ghost use Rattle.std.specs.Prelude.{◌≡◌};
 ghost use Rattle.refusal.specs.Length.{length_of, refused};
 ghost use Rattle.refusal.specs.Numbers.{why_of};
-ghost use Rattle.runs.specs.Run.{onward_of};
+ghost use Rattle.runs.specs.Run.{standing_of};
 ghost use Rattle.border.specs.Answer.{not_refused, in_c};
-ghost use Rattle.tree.specs.Reading.{counted_of};
-ghost use Rattle.nightly.specs.List as L;
+ghost use Rattle.tlv.specs.Read.{read_of};
 ghost use Rattle.border.specs.Calls.{next_in_c, stretch_in_c, count_in_c};
 
 use crate::received::{AnswerInC, StretchInC};
-use refusal::{NO_DIGIT, Refusal, Written};
-use runs::run::Step;
-use tree::Counted;
+use refusal::{NO_DIGIT, Refusal};
+use runs::run::Standing;
 
 pub(crate) fn not_refused(value: u64) -> AnswerInC
     ensures { result ≡ not_refused value }
@@ -23,53 +21,37 @@ pub(crate) fn not_refused(value: u64) -> AnswerInC
     }
 }
 
+#[tactic(auto, unfolding(crate::specs::Answer::in_c))]
 pub(crate) fn denied(refusal: Refusal) -> AnswerInC
     ensures { result ≡ in_c (refused (why_of refusal.cause) refusal.place) }
 {
-    let cause = refusal.cause;
-    let number = cause.number();
-    let expected = cause.expected();
     AnswerInC {
-        number,
-        expected,
+        number: refusal.cause.number(),
+        expected: refusal.cause.expected(),
         value: refusal.place as u64,
     }
 }
 
-pub fn in_c(answer: Written) -> AnswerInC
-    ensures { result ≡ in_c (length_of answer) }
+// How many octets were written, or how many elements a file or entries a list has.
+#[tactic(auto, unfolding(crate::specs::Answer::in_c, crate::specs::Calls::count_in_c))]
+pub fn in_c(answer: Result<usize, Refusal>) -> AnswerInC
+    ensures length { result ≡ in_c (length_of answer) }
+    ensures count { result ≡ count_in_c (read_of answer) }
 {
     match answer {
-        Written::Octets(n) => not_refused(n as u64),
-        Written::Refused(refusal) => denied(refusal),
+        Ok(n) => not_refused(n as u64),
+        Err(refusal) => denied(refusal),
     }
 }
 
-pub fn next_in_c(step: Step) -> AnswerInC
-    ensures { result ≡ next_in_c (onward_of step) }
+#[tactic(auto, unfolding(crate::specs::Answer::in_c, crate::specs::Calls::next_in_c))]
+pub fn next_in_c(found: Result<Option<Standing>, Refusal>) -> AnswerInC
+    ensures { result ≡ next_in_c (standing_of found).onward }
 {
-    match step {
-        Step::Next(offset) => not_refused(offset as u64),
-        Step::End => not_refused(0),
-        Step::Refused(refusal) => denied(refusal),
-    }
-}
-
-pub fn count_in_c(answer: Counted) -> AnswerInC
-    ensures { result ≡ count_in_c (counted_of answer) }
-{
-    match answer {
-        Counted::Elements(n) => not_refused(n as u64),
-        Counted::Refused(refusal) => denied(refusal),
-    }
-}
-
-pub fn entries_in_c(answer: nightly::Counted) -> AnswerInC
-    ensures { result ≡ count_in_c (L.counted_of answer) }
-{
-    match answer {
-        nightly::Counted::Entries(n) => not_refused(n as u64),
-        nightly::Counted::Refused(refusal) => denied(refusal),
+    match found {
+        Ok(Some(standing)) => not_refused(standing.next as u64),
+        Ok(None) => not_refused(0),
+        Err(refusal) => denied(refusal),
     }
 }
 

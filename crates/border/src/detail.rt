@@ -1,22 +1,24 @@
 // What C receives of group 11's details and of the full name.
 ghost use Rattle.std.specs.Prelude.{◌≡◌};
-ghost use Rattle.tlv.specs.Element.{taken_of};
+ghost use Rattle.tlv.specs.Read.{read_of};
 ghost use Rattle.border.specs.Details.{detail_in_c, source_in_c, name_in_c};
 
 use crate::answer::{denied, not_refused, stretch_in_c};
 use crate::received::{DetailInC, NameInC, StretchInC};
 use full_name::{From, Name};
-use tlv::Taken;
+use refusal::Refusal;
+use tlv::Stretch;
 
-pub fn detail_in_c(taken: Taken) -> DetailInC
-    ensures { result ≡ detail_in_c (taken_of taken) }
+#[tactic(auto, unfolding(crate::specs::Details::detail_in_c, crate::specs::Answer::in_c))]
+pub fn detail_in_c(detail: Result<Stretch, Refusal>) -> DetailInC
+    ensures { result ≡ detail_in_c (read_of detail) }
 {
-    match taken {
-        Taken::Value(v) => DetailInC {
+    match detail {
+        Ok(v) => DetailInC {
             answer: not_refused(0),
             stretch: stretch_in_c(v),
         },
-        Taken::Refused(refusal) => DetailInC {
+        Err(refusal) => DetailInC {
             answer: denied(refusal),
             stretch: StretchInC {
                 start: 0,
@@ -26,6 +28,7 @@ pub fn detail_in_c(taken: Taken) -> DetailInC
     }
 }
 
+#[tactic(auto, unfolding(crate::specs::Details::source_in_c))]
 fn source_in_c(from: From) -> u32
     ensures { result ≡ source_in_c from }
 {
@@ -36,13 +39,12 @@ fn source_in_c(from: From) -> u32
     }
 }
 
+#[tactic(auto, unfolding(crate::specs::Details::name_in_c))]
 pub fn name_in_c(name: Name) -> NameInC
     ensures { result ≡ name_in_c name }
 {
-    let from = name.from;
-    let stretch = name.stretch;
     NameInC {
-        from: source_in_c(from),
-        stretch: stretch_in_c(stretch),
+        from: source_in_c(name.from),
+        stretch: stretch_in_c(name.stretch),
     }
 }

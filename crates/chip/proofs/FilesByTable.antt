@@ -1,4 +1,5 @@
 -- Files that were walked to the end: each in turn, and what a table of digests says of them.
+use Rattle.outer.specs.declared.File.{File}
 use Prim.Native.Nat.{ℕ, zero, suc, ◌+◌, ◌-◌, ◌≤◌, ◌<◌}
 use mathlib.Core.Path.{◌≡◌, refl, ap, sym, ◌∙◌}
 use mathlib.Core.Bool.{Bool, true, false, cond, not, ◌&&◌, ◌||◌}
@@ -16,7 +17,7 @@ use Rattle.tlv.specs.Read.{Read, value, refusal, and_then, outcome_in}
 use Rattle.tlv.specs.Element.{element}
 use Rattle.lent.specs.Octets.{alike, stands}
 use Rattle.tlv.specs.Tags.{group_of, is_group}
-use Rattle.outer.specs.Outer.{File, file_at, files_from, files, size_check, outer, walked}
+use Rattle.outer.specs.Outer.{file_at, files_from, files, size_check, outer, walked}
 use Rattle.outer.specs.declared.Outer.{Outer}
 use Rattle.object.specs.Object.{GroupHash}
 use Rattle.sha256.specs.Hash.{sha256}

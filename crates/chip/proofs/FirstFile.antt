@@ -1,4 +1,5 @@
 -- The first file of a group, looked for from one file to the next; and with what was found kept while the others are walked.
+use Rattle.outer.specs.declared.File.{File}
 use Prim.Native.Nat.{ℕ, ◌≤◌, ◌<◌}
 use mathlib.Core.Path.{◌≡◌, refl, ap, sym, ◌∙◌}
 use mathlib.Core.Bool.{Bool, true, false, cond, ◌&&◌, false≢true}
@@ -13,7 +14,7 @@ use Rattle.refusal.specs.Outcome.{passed}
 use Rattle.tlv.specs.declared.Stretch.{Stretch}
 use Rattle.tlv.specs.Read.{Read, value, refusal, and_then, outcome_in}
 use Rattle.tlv.specs.Tags.{group_of}
-use Rattle.outer.specs.Outer.{File, file_at, files}
+use Rattle.outer.specs.Outer.{file_at, files}
 use Rattle.chip.specs.Inner.ByTable.{files_in}
 use Rattle.chip.specs.Presentation.{first_file, file_or_none}
 use Rattle.chip.specs.Inner.Found.{or_found}

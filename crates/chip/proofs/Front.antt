@@ -1,11 +1,12 @@
 -- Where a group's file stands is what stands before the files, and then these (`group-behind`, `group-without`).
+use Rattle.outer.specs.declared.File.{File}
 use Prim.Native.Nat.{ℕ}
 use mathlib.Core.Path.{◌≡◌, refl, ap, ◌∙◌}
 use mathlib.Core.List.{List}
 use Rattle.refusal.specs.Numbers.{Why}
 use Rattle.tlv.specs.Read.{Read, value, refusal, and_then}
 use Rattle.outer.specs.declared.Outer.{Outer}
-use Rattle.outer.specs.Outer.{File, files}
+use Rattle.outer.specs.Outer.{files}
 use Rattle.outer.specs.Inner.Onward.{front, behind_object}
 use Rattle.outer.proofs.BeforeFiles.{front_walked}
 use Rattle.chip.specs.Presentation.{first_file, file_or_none, group_stretch}

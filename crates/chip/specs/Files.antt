@@ -1,11 +1,11 @@
 -- Stage 5, per group file, in lent order: 14, then 15. The digest is over the whole file, tag and length included.
+use Rattle.outer.specs.declared.File.{File}
 use Rattle.std.specs.Prelude.{ℕ, Bool, not, ◌&&◌, List, [], ◌∷◌, ltb, take, drop, get_or}
 use Rattle.refusal.specs.Outcome.{Outcome, passed, unless, or_else}
 use Rattle.sha256.specs.Hash.{sha256}
 use Rattle.tlv.specs.Cut.{cut}
 use Rattle.lent.specs.Octets.{alike, stands}
 use Rattle.tlv.specs.Tags.{group_of}
-use Rattle.outer.specs.Outer.{File}
 use Rattle.object.specs.Object.{GroupHash, digest_for}
 
 -- the octets of a file

@@ -1,5 +1,6 @@
 -- A presentation, all stages in number order, and the file of a group: document 01, "Stages of a presentation"; 19 document 02,
 -- 2026-04.
+use Rattle.outer.specs.declared.File.{File}
 use Rattle.std.specs.Prelude.{ℕ, cond, List, [], ◌∷◌, eqb, length, take, get_or}
 use Rattle.refusal.specs.Numbers.{by}
 use Rattle.zone.specs.declared.record.Record.{Record}
@@ -10,7 +11,7 @@ use Rattle.outer.specs.declared.Outer.{Outer}
 use Rattle.tlv.specs.Cut.{cut}
 use Rattle.tlv.specs.Tags.{group_of}
 use Rattle.tlv.specs.Versions.{Known, both}
-use Rattle.outer.specs.Outer.{File, files, walked}
+use Rattle.outer.specs.Outer.{files, walked}
 use Rattle.efcom.specs.EfCom.{read_ef_com}
 use Rattle.object.specs.Object.{read_object}
 use Rattle.group_text.specs.Text.{text_at, answer_by}

@@ -9,10 +9,10 @@ ghost use Rattle.chip.specs.Inner.ByTable.{lent_from, file_by, files_by};
 
 use lent::{alike, stands};
 use outer::file_at;
-use refusal::{Cause, Refusal, Verdict};
+use refusal::{Cause, Refusal};
+use tlv::Stretch;
 use tlv::cut::cut;
 use tlv::tags::group_of;
-use tlv::{Stretch, Taken};
 
 // The digest is over the whole file, tag and length included.
 fn is_digested<'a>(file: &'a [u8], digest: &'a [u8]) -> bool
@@ -30,7 +30,7 @@ fn file_check<'a>(
     held: Stretch,
     tag: u8,
     place: usize,
-) -> Verdict
+) -> Result<(), Refusal>
     ensures { outcome_of result ≡ file_by w.now tags.now (record { start = at; held = held }) tag place }
 {
     if stands(tag, tags) & (0 < place) {
@@ -42,9 +42,9 @@ fn file_check<'a>(
             },
         );
         let same = is_digested(file, lent::part(w, place, 32));
-        return Verdict::judged(same, Cause::Digest, at);
+        return Refusal::unless(same, Cause::Digest, at);
     }
-    Verdict::Refused(Refusal::at(Cause::Group, at))
+    Err(Refusal::at(Cause::Group, at))
 }
 
 // Per file, in lent order. A group's place is taken from the table with its first file.
@@ -53,32 +53,19 @@ pub(crate) fn files_check<'a>(
     tags: &'a [u8],
     start: usize,
     digests: [usize; 17],
-) -> Verdict
+) -> Result<(), Refusal>
     requires { outcome_in (O.files w.now start) ≡ passed }
     ensures { outcome_of result ≡ files_by w.now tags.now digests (lent_from w.now start) }
 {
     let mut table = digests;
     let mut at = start;
     while at < w.len() {
-        match file_at(w, at) {
-            Taken::Value(held) => {
-                let tag = lent::octet(w, at);
-                let group = group_of(tag) as usize;
-                let place = table[group];
-                match file_check(w, tags, at, held, tag, place) {
-                    Verdict::Passed => {
-                        table[group] = 0;
-                        at = held.to;
-                    }
-                    Verdict::Refused(refusal) => {
-                        return Verdict::Refused(refusal);
-                    }
-                }
-            }
-            Taken::Refused(_) => {
-                return Verdict::Passed;
-            }
-        }
+        let held = file_at(w, at)?;
+        let tag = lent::octet(w, at);
+        let group = group_of(tag) as usize;
+        file_check(w, tags, at, held, tag, table[group])?;
+        table[group] = 0;
+        at = held.to;
     }
-    Verdict::Passed
+    Ok(())
 }

@@ -1,53 +1,33 @@
 // The file of a group, among the files that were walked.
-ghost use Rattle.std.specs.Prelude.{◌≡◌, length};
+ghost use Rattle.std.specs.Prelude.{◌≡◌};
 ghost use Rattle.refusal.specs.Outcome.{passed};
-ghost use Rattle.tlv.specs.Read.{outcome_in};
+ghost use Rattle.tlv.specs.Read.{outcome_in, read_of};
 ghost use Rattle.tlv.specs.Cut as C;
 ghost use Rattle.outer.specs.Outer as O;
 ghost use Rattle.chip.specs.Inner.ByTable.{lent_from};
 ghost use Rattle.chip.specs.Presentation.{first_file, group_stretch};
-ghost use Rattle.chip.specs.Inner.Found.{found_of, or_found};
+ghost use Rattle.chip.specs.Inner.Found.{or_found};
 
-use outer::{Walked, file_at, front};
+use outer::{File, file_at, front};
+use refusal::{Cause, Refusal};
+use tlv::Stretch;
 use tlv::cut::cut;
 use tlv::tags::group_of;
-use tlv::{Stretch, Taken};
 
-// Where a file starts, and where its value stands.
-#[derive(Clone, Copy)]
-pub struct Place {
-    pub start: usize,
-    pub held: Stretch,
-}
-
-#[derive(Clone, Copy)]
-pub enum Found {
-    Lent(Place),
-    Missing,
-}
-
-// The first file with that group's tag.
-pub(crate) fn first_file(w: &[u8], start: usize, group: u32) -> Found
+// The first file with that group's tag, or 14 at the presentation's length.
+pub(crate) fn first_file(w: &[u8], start: usize, group: u32) -> Result<File, Refusal>
     requires { outcome_in (O.files w.now start) ≡ passed }
-    ensures { found_of (length w.now) result ≡ first_file w.now group (lent_from w.now start) }
+    ensures { read_of result ≡ first_file w.now group (lent_from w.now start) }
 {
     let mut at = start;
     while at < w.len() {
-        match file_at(w, at) {
-            Taken::Value(held) => {
-                let tag = lent::octet(w, at);
-                let own = group_of(tag) as u32;
-                if own == group {
-                    return Found::Lent(Place { start: at, held });
-                }
-                at = held.to;
-            }
-            Taken::Refused(_) => {
-                return Found::Missing;
-            }
+        let held = file_at(w, at)?;
+        if group_of(lent::octet(w, at)) as u32 == group {
+            return Ok(File { start: at, held });
         }
+        at = held.to;
     }
-    Found::Missing
+    Err(Refusal::at(Cause::Group, w.len()))
 }
 
 // The whole first file with that group's tag, tag and length included, of the files from a place on: empty where there is none or
@@ -59,7 +39,7 @@ fn group_from(w: &[u8], start: usize, group: u32) -> Stretch
     let mut at = start;
     while at < w.len() {
         match file_at(w, at) {
-            Taken::Value(held) => {
+            Ok(held) => {
                 let tag = lent::octet(w, at);
                 let own = group_of(tag) as u32;
                 if (found.to == 0) & (own == group) {
@@ -70,7 +50,7 @@ fn group_from(w: &[u8], start: usize, group: u32) -> Stretch
                 }
                 at = held.to;
             }
-            Taken::Refused(_) => {
+            Err(_) => {
                 return Stretch { from: 0, to: 0 };
             }
         }
@@ -84,11 +64,8 @@ pub fn group_stretch(w: &[u8], group: u32) -> Stretch
     ensures { result ≡ group_stretch w.now group }
 {
     match front(w) {
-        Walked::Parts(parts) => {
-            let object = parts.object;
-            group_from(w, object.to, group)
-        }
-        Walked::Refused(_) => Stretch { from: 0, to: 0 },
+        Ok(parts) => group_from(w, parts.object.to, group),
+        Err(_) => Stretch { from: 0, to: 0 },
     }
 }
 

@@ -9,7 +9,7 @@ ghost use Rattle.chip.specs.Versions as S;
 use efcom::Common;
 use lent::alike;
 use object::strings::{Strings, Version};
-use refusal::{Cause, Verdict};
+use refusal::{Cause, Refusal};
 use tlv::Stretch;
 use tlv::cut::cut;
 
@@ -19,9 +19,7 @@ fn are_said(w: &[u8], unicode: Stretch, strings: Strings) -> bool
         && Octets.alike (Cut.cut w.now strings.unicode) (Cut.cut w.now unicode) }
 {
     let named = *b"0108";
-    let lds = strings.lds;
-    let other = strings.unicode;
-    alike(cut(w, lds), &named) & alike(cut(w, other), cut(w, unicode))
+    alike(cut(w, strings.lds), &named) & alike(cut(w, strings.unicode), cut(w, unicode))
 }
 
 // `0107` goes with version 0, `0108` with version 1 and its strings.
@@ -30,16 +28,18 @@ fn agrees(w: &[u8], common: Common, version: Version) -> bool
 {
     match version {
         Version::Zero => !common.newer,
-        Version::One(strings) => {
-            let unicode = common.unicode;
-            common.newer & are_said(w, unicode, strings)
-        }
+        Version::One(strings) => common.newer & are_said(w, common.unicode, strings),
     }
 }
 
 // Else 19, at the object's start.
-pub(crate) fn versions_check(w: &[u8], start: usize, common: Common, version: Version) -> Verdict
+pub(crate) fn versions_check(
+    w: &[u8],
+    start: usize,
+    common: Common,
+    version: Version,
+) -> Result<(), Refusal>
     ensures { outcome_of result ≡ S.versions_check w.now start common version }
 {
-    Verdict::judged(agrees(w, common, version), Cause::Versions, start)
+    Refusal::unless(agrees(w, common, version), Cause::Versions, start)
 }

@@ -1,5 +1,6 @@
 -- THE RECORD of an accepted presentation is that of an accepted text (`presentation_held`), and so sound (`presentation_sound`),
 -- whatever numbers it was read from.
+use Rattle.outer.specs.declared.File.{File}
 use Prim.Native.Nat.{ℕ}
 use mathlib.Core.Path.{◌≡◌, ap, sym, ◌∙◌}
 use mathlib.Core.Bool.{true}
@@ -16,7 +17,7 @@ use Rattle.tlv.specs.Element.{element}
 use Rattle.outer.specs.declared.Outer.{Outer}
 use Rattle.tlv.specs.Cut.{cut, end_check}
 use Rattle.tlv.specs.Versions.{both}
-use Rattle.outer.specs.Outer.{File, files, walked}
+use Rattle.outer.specs.Outer.{files, walked}
 use Rattle.efcom.specs.EfCom.{read_ef_com}
 use Rattle.object.specs.Object.{read_object}
 use Rattle.chip.specs.Versions.{versions_check}

@@ -1,45 +1,45 @@
 -- The tags of a list, two octets at a time, and which of them were named before: marked by their second octet.
-use Prim.Native.Nat.{ℕ, suc, ◌+◌, ◌*◌, ◌≤◌, ◌<◌}
-use mathlib.Core.Path.{◌≡◌, refl, ap, ◌∙◌}
+use Prim.Native.Nat.{ℕ, min, ◌+◌, ◌*◌, ◌≤◌, ◌<◌}
+use mathlib.Core.Path.{◌≡◌, refl, ◌∙◌}
 use mathlib.Core.Bool.{Bool, true, false, ◌&&◌, ◌||◌, false≢true}
-use mathlib.Core.List.{List, [], ◌∷◌}
+use mathlib.Core.List.{List, [], ◌∷◌, ◌++◌}
 use native.Mathlib.Nat.{add-zero}
 use native.Mathlib.Omega.{arith}
-use borrow.Author.Tests.{leb-true, leb-false, eqb-true, eqb-false, eq-eqb, ne_eqb}
+use borrow.Author.Tests.{leb-true, eqb-true, eqb-false, eq-eqb, ne_eqb}
 use lib.Dec.{eqb, leb}
-use lib.ListN.{length, drop, get_or, set, replicate, drop_of_length-le, get_or-eq_default}
-use lib.Seq.{drop-cons}
+use lib.ListN.{length, get_or, set, replicate}
+use Rattle.std.proofs.lemmas.List.{nil_from_length}
 use Rattle.lent.specs.Octets.{stands}
 use Rattle.lent.proofs.Bools.{and_both}
-use Rattle.lent.proofs.Lists.{pair_at_lem}
 use Rattle.lent.proofs.Marks.{Marks, none_marked, one_marked, unmarked, marked}
 use Rattle.details.specs.Tags.{is_named, tags_in}
 use Rattle.details.specs.Details.{are_named, is_list}
 
 -- ---- two octets at a time
 
-one_at : (s : List ℕ) (i : ℕ) → i < length s → length s ≤ i + 1 → drop i s ≡ get_or s i 0 ∷ []
-one_at s i h k =
-    let e : suc i ≡ i + 1 = omega arith in
-    drop-cons s i 0 h ∙ ap (λ l. get_or s i 0 ∷ l) (rw e (drop_of_length-le s k))
+-- what two octets are, or one
+abbrev pub tag_of : List ℕ → ℕ
+tag_of pair = get_or pair 0 0 * 256 + get_or pair 1 0
 
-pub tags_next : (s : List ℕ) (i : ℕ) → i < length s
-    → tags_in (drop i s) ≡ (get_or s i 0 * 256 + get_or s (i + 1) 0) ∷ tags_in (drop (i + 2) s)
+pub tags_next : (pair after : List ℕ) → length pair ≡ min 2 (length (pair ++ after)) → 0 < length (pair ++ after)
+    → tags_in (pair ++ after) ≡ tag_of pair ∷ tags_in after
 unfolding tags_in
-tags_next s i h = go (leb (i + 2) (length s)) refl
-  where
-    go : (b : Bool) → leb (i + 2) (length s) ≡ b
-        → tags_in (drop i s) ≡ (get_or s i 0 * 256 + get_or s (i + 1) 0) ∷ tags_in (drop (i + 2) s)
-    go true e = rw (pair_at_lem s i (leb-true (i + 2) (length s) e))
-    go false e =
-        let one = leb-false (i + 2) (length s) e in
-        let none : length s ≤ i + 1 = omega (arith, one) in
-        let past : length s ≤ i + 2 = omega (arith, one) in
-        rw (one_at s i h none, get_or-eq_default s 0 none, drop_of_length-le s past, add-zero (get_or s i 0 * 256))
+tags_next [] after e h = absurd (omega (arith, e, h))
+tags_next (a ∷ []) after e h =
+    let none : after ≡ [] = nil_from_length after (omega (arith, e)) in
+    rw (none, add-zero (a * 256))
+tags_next (a ∷ b ∷ []) after e h = refl
+tags_next (a ∷ b ∷ c ∷ pair) after e h = absurd (omega (arith, e))
 
-pub tags_done : (s : List ℕ) (i : ℕ) → length s ≤ i → tags_in (drop i s) ≡ []
+-- what a piece of the list says, by what `chunks` tells of it
+pub tags_step : (size : ℕ) (rest pair after : List ℕ) → size ≡ 2
+    → (rest ≡ pair ++ after) × (length pair ≡ min size (length rest)) × (0 < length rest)
+    → tags_in rest ≡ tag_of pair ∷ tags_in after
+tags_step size rest pair after two h = rw h.0 (tags_next pair after (rw (two, h.0) at h.1) (rw h.0 at h.2))
+
+pub tags_done : (rest : List ℕ) → length rest ≡ 0 → tags_in rest ≡ []
 unfolding tags_in
-tags_done s i h = rw (drop_of_length-le s h)
+tags_done rest h = rw (nil_from_length rest h)
 
 -- ---- named before
 
@@ -78,43 +78,44 @@ stands_tagged d (c ∷ l) = go (eqb d c) refl (stands_tagged d l)
 
 -- ---- what is left of a list decides, and the table marks what was named before
 
-pub record Listing (tags table : List ℕ) (i : ℕ) : Type 0 where
+pub record Listing (tags table rest : List ℕ) : Type 0 where
   pub lows : List ℕ
   pub marks : Marks 256 table lows
-  pub left : are_named (tagged lows) (tags_in (drop i tags)) ≡ is_list tags
+  pub left : are_named (tagged lows) (tags_in rest) ≡ is_list tags
 
-pub listing_start : (tags : List ℕ) → Listing tags (replicate 256 0) 0
+pub listing_start : (tags : List ℕ) → Listing tags (replicate 256 0) tags
 unfolding is_list tagged
 listing_start tags = record { lows = []; marks = none_marked 256; left = refl }
 
-module _ (tags table : List ℕ) (i : ℕ) (l : Listing tags table i) where
-  pub listing_end : length tags ≤ i → true ≡ is_list tags
+module _ (tags table rest : List ℕ) (l : Listing tags table rest) where
+  pub listing_end : tags_in rest ≡ [] → true ≡ is_list tags
   unfolding are_named
-  listing_end h = rw (tags_done tags i h) at l.left
+  listing_end h = rw h at l.left
 
-  pub listing_foreign : i < length tags → is_named (get_or tags i 0 * 256 + get_or tags (i + 1) 0) ≡ false → false ≡ is_list tags
-  unfolding are_named
-  listing_foreign h e = rw (tags_next tags i h, e) at l.left
-
-  module _ (h : i < length tags) (b : get_or tags (i + 1) 0 < 256)
-      (e : is_named (get_or tags i 0 * 256 + get_or tags (i + 1) 0) ≡ true) where
-    pub listing_twice : (get_or table (get_or tags (i + 1) 0) 0 ≡ 0 → ⊥) → false ≡ is_list tags
+  -- the next of them
+  module _ (pair after : List ℕ) (n : tags_in rest ≡ tag_of pair ∷ tags_in after) where
+    pub listing_foreign : is_named (tag_of pair) ≡ false → false ≡ is_list tags
     unfolding are_named
-    listing_twice m =
-        let low = get_or tags (i + 1) 0 in
-        let k = named_low (get_or tags i 0) low b e in
-        let t = stands_tagged low l.lows ∙ marked 256 table l.lows low l.marks b m in
-        rw (tags_next tags i h, e, k, t) at l.left
+    listing_foreign e = rw (n, e) at l.left
 
-    pub listing_more : length table ≡ 256 → get_or table (get_or tags (i + 1) 0) 0 ≡ 0
-        → Listing tags (set table (get_or tags (i + 1) 0) 1) (i + 2)
-    unfolding are_named tagged
-    listing_more len m =
-        let low = get_or tags (i + 1) 0 in
-        let k = named_low (get_or tags i 0) low b e in
-        let t = stands_tagged low l.lows ∙ unmarked 256 table l.lows low l.marks b m in
-        record {
-          lows = low ∷ l.lows;
-          marks = one_marked 256 table l.lows low 1 l.marks len b (omega arith);
-          left = rw (tags_next tags i h, e, k, t) at l.left;
-        }
+    module _ (b : get_or pair 1 0 < 256) (e : is_named (tag_of pair) ≡ true) where
+      pub listing_twice : (get_or table (get_or pair 1 0) 0 ≡ 0 → ⊥) → false ≡ is_list tags
+      unfolding are_named
+      listing_twice m =
+          let low = get_or pair 1 0 in
+          let k = named_low (get_or pair 0 0) low b e in
+          let t = stands_tagged low l.lows ∙ marked 256 table l.lows low l.marks b m in
+          rw (n, e, k, t) at l.left
+
+      pub listing_more : length table ≡ 256 → get_or table (get_or pair 1 0) 0 ≡ 0
+          → Listing tags (set table (get_or pair 1 0) 1) after
+      unfolding are_named tagged
+      listing_more len m =
+          let low = get_or pair 1 0 in
+          let k = named_low (get_or pair 0 0) low b e in
+          let t = stands_tagged low l.lows ∙ unmarked 256 table l.lows low l.marks b m in
+          record {
+            lows = low ∷ l.lows;
+            marks = one_marked 256 table l.lows low 1 l.marks len b (omega arith);
+            left = rw (n, e, k, t) at l.left;
+          }

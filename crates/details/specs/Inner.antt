@@ -1,5 +1,5 @@
 -- No words of the paper: what the code answers on its way.
 -- what the list and the elements say, from place to place
 pub mod Places
--- what is left to do from one step of the code on
+-- the reading as the code joins it
 pub mod Onward

@@ -1,14 +1,13 @@
 // The elements of group 11, whatever the list names.
 ghost use Rattle.std.specs.Prelude.{◌≡◌, ◌≤◌, length};
 ghost use Rattle.refusal.specs.Outcome.{outcome_of};
-ghost use Rattle.tlv.specs.Read.{outcome_in};
-ghost use Rattle.tlv.specs.Element.{taken_of};
+ghost use Rattle.tlv.specs.Read.{outcome_in, read_of};
 ghost use Rattle.details.specs.Tags.{is_named, tag_here};
 ghost use Rattle.details.specs.Details.{detail_at, details};
 ghost use Rattle.details.specs.Inner.Places.{held_at};
 
-use refusal::Verdict;
-use tlv::{Stretch, Taken};
+use refusal::Refusal;
+use tlv::Stretch;
 
 pub(crate) const TEMPLATE: u16 = 0xA0;
 
@@ -31,8 +30,8 @@ pub(crate) fn tag_here(s: &[u8], at: usize) -> u16
 }
 
 // The value of the element that stands at a place.
-fn detail_at(s: &[u8], at: usize) -> Taken
-    ensures { taken_of result ≡ detail_at s.now at }
+fn detail_at(s: &[u8], at: usize) -> Result<Stretch, Refusal>
+    ensures { read_of result ≡ detail_at s.now at }
 {
     if s.len() <= at {
         return tlv::refuse(at);
@@ -52,26 +51,16 @@ fn detail_at(s: &[u8], at: usize) -> Taken
 pub(crate) fn held_at(s: &[u8], at: usize) -> Stretch
     ensures { result ≡ held_at s.now at }
 {
-    match detail_at(s, at) {
-        Taken::Value(v) => v,
-        Taken::Refused(why) => Stretch { from: at, to: at },
-    }
+    detail_at(s, at).unwrap_or(Stretch { from: at, to: at })
 }
 
 // Those from a place up to the end, each rightly coded.
-pub(crate) fn all(s: &[u8], start: usize) -> Verdict
+pub(crate) fn all(s: &[u8], start: usize) -> Result<(), Refusal>
     ensures { outcome_of result ≡ outcome_in (details s.now start) }
 {
     let mut at = start;
     while at < s.len() {
-        match detail_at(s, at) {
-            Taken::Value(held) => {
-                at = held.to;
-            }
-            Taken::Refused(refusal) => {
-                return Verdict::Refused(refusal);
-            }
-        }
+        at = detail_at(s, at)?.to;
     }
-    Verdict::Passed
+    Ok(())
 }

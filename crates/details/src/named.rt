@@ -6,8 +6,8 @@ ghost use Rattle.details.specs.Details.{given};
 ghost use Rattle.details.specs.Inner.Places.{agrees_at, value_at, detail_here};
 
 use crate::element::{TEMPLATE, held_at, tag_here};
-use crate::list::tag_at;
-use refusal::{Cause, Refusal, Verdict};
+use crate::list::tag_of;
+use refusal::{Cause, Refusal};
 use tlv::Stretch;
 
 const OTHER_NAMES: u16 = 0x5F0F;
@@ -24,23 +24,20 @@ fn stands_for(named: u16) -> u16
 }
 
 // Whether the elements from a place on are those that are named, in their order.
-pub(crate) fn agree(s: &[u8], tags: &[u8], start: usize, end: usize) -> Verdict
+pub(crate) fn agree(s: &[u8], tags: &[u8], start: usize, end: usize) -> Result<(), Refusal>
     ensures { outcome_of result ≡ agrees_at end s.now (tags_in tags.now) start }
 {
     let mut at = start;
-    let mut i = 0;
-    while i < tags.len() {
+    for pair in tags.chunks(2) {
         if s.len() <= at {
-            return Verdict::Refused(Refusal::at(Cause::Details, end));
+            return Err(Refusal::at(Cause::Details, end));
         }
-        if tag_here(s, at) == stands_for(tag_at(tags, i)) {
-            at = held_at(s, at).to;
-            i += 2;
-        } else {
-            return Verdict::Refused(Refusal::at(Cause::Details, at));
+        if tag_here(s, at) != stands_for(tag_of(pair)) {
+            return Err(Refusal::at(Cause::Details, at));
         }
+        at = held_at(s, at).to;
     }
-    Verdict::judged(s.len() <= at, Cause::Details, at)
+    Refusal::unless(s.len() <= at, Cause::Details, at)
 }
 
 // What is given of an element: its value, of the template the whole.
@@ -66,13 +63,11 @@ pub(crate) fn value_for(s: &[u8], tags: &[u8], start: usize, asked: u32) -> Stre
     ensures { result ≡ value_at asked s.now (tags_in tags.now) start }
 {
     let mut at = start;
-    let mut i = 0;
-    while i < tags.len() {
-        if tag_at(tags, i) as u32 == asked {
+    for pair in tags.chunks(2) {
+        if tag_of(pair) as u32 == asked {
             return given(s, at);
         }
         at = held_at(s, at).to;
-        i += 2;
     }
     Stretch { from: 0, to: 0 }
 }

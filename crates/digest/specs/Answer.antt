@@ -1,6 +1,7 @@
 -- What the digest's call answers and leaves, in document 01's terms: "Refusal numbers", 1 and 16.
+use Rattle.std.specs.Prelude.{Result}
+use Rattle.refusal.specs.declared.Refusal.{Refusal}
 use Rattle.std.specs.Prelude.{List, ◌≡◌, ℕ, leb, length}
-use Rattle.refusal.specs.declared.Written.{Written}
 use Rattle.refusal.specs.Outcome.{unless}
 use Rattle.refusal.specs.Length.{Length, length_of}
 use Rattle.refusal.specs.Output.{write_answer, write_out}
@@ -15,6 +16,6 @@ unfoldable pub digest_out : List ℕ → List ℕ → List ℕ
 digest_out input out = write_out (unless (leb (length input) 65535) 1 0) 32 (sha256 input) out
 
 -- the whole promise: the answer, and what the output holds afterwards
-pub record Digests (input out after : List ℕ) (r : Written) : Type 0 where
+pub record Digests (input out after : List ℕ) (r : Result ℕ Refusal) : Type 0 where
   pub answer : length_of r ≡ digest_answer input out
   pub output : after ≡ digest_out input out

@@ -3,7 +3,7 @@
 
 ghost use Rattle.digest.specs.Answer.{Digests};
 
-use refusal::{Cause, Refusal, Written};
+use refusal::{Cause, Refusal};
 use sha256::digest_of;
 
 // 1: an input that is too long.
@@ -13,16 +13,16 @@ const TOO_LONG: Refusal = Refusal {
 };
 
 // The digest of at most 65,535 octets, written to the first 32 octets of the output.
-pub fn digest(input: &[u8], out: &mut [u8]) -> Written
+pub fn digest(input: &[u8], out: &mut [u8]) -> Result<usize, Refusal>
     ensures { Digests input.now out.old out.new result }
 {
     if 65535 < input.len() {
-        return Written::Refused(TOO_LONG);
+        return Err(TOO_LONG);
     }
     if out.len() < 32 {
-        return Written::Refused(Refusal::TOO_SHORT);
+        return Err(Refusal::TOO_SHORT);
     }
     let octets = digest_of(input);
     lent::copy(out, &octets);
-    Written::Octets(32)
+    Ok(32)
 }

@@ -1,8 +1,10 @@
 -- Which version EF.COM says: one of the two known, by what it is held against.
 use mathlib.Core.Path.{◌≡◌, refl, sym}
-use mathlib.Core.Bool.{Bool, true, false, not, ◌&&◌, ◌||◌, false≢true}
+use mathlib.Core.Bool.{Bool, true, false, not, ◌&&◌, ◌||◌}
 use mathlib.Core.List.{List}
 use Prim.Native.Nat.{ℕ}
+use Rattle.refusal.specs.Outcome.{passed, unless}
+use Rattle.refusal.proofs.Outcomes.{refused_not_passed}
 use Rattle.lent.specs.Octets.{alike}
 use Rattle.tlv.specs.declared.Stretch.{Stretch}
 use Rattle.tlv.specs.Cut.{cut, has_octets}
@@ -10,34 +12,22 @@ use Rattle.tlv.specs.Versions.{both, lds17, lds18}
 use Rattle.efcom.specs.EfCom.{is_version}
 
 -- a length, and either of two contents
-older : (four a b : Bool) → four && a ≡ true → (four && (a || b) ≡ true) × (not a ≡ false)
-older true true b e = (refl, refl)
-older true false b e = absurd (false≢true e)
-older false a b e = absurd (false≢true e)
+either : (four a b : Bool) → (four && a) || (four && b) ≡ four && (a || b)
+either true a b = refl
+either false a b = refl
 
-newer : (four a b : Bool) → four && a ≡ false → four && b ≡ true → (four && (a || b) ≡ true) × (not a ≡ true)
-newer true true b e f = absurd (false≢true (sym e))
-newer true false true e f = (refl, refl)
-newer true false false e f = absurd (false≢true f)
-newer false a b e f = absurd (false≢true f)
-
-neither : (four a b : Bool) → four && a ≡ false → four && b ≡ false → four && (a || b) ≡ false
-neither true true b e f = e
-neither true false b e f = f
-neither false a b e f = refl
+same_newer : (four a b : Bool) (at : ℕ) → passed ≡ unless ((four && a) || (four && b)) 11 at → not (four && a) ≡ not a
+same_newer true a b at e = refl
+same_newer false a b at e = absurd (refused_not_passed (sym e))
 
 module _ (s : List ℕ) (v : Stretch) where
-  pub older_told : has_octets 4 v && alike (cut s v) lds17 ≡ true
-      → (is_version both s v ≡ true) × (not (alike (cut s v) lds17) ≡ false)
+  pub either_version : (has_octets 4 v && alike (cut s v) lds17) || (has_octets 4 v && alike (cut s v) lds18)
+      ≡ is_version both s v
   unfolding is_version
-  older_told = older (has_octets 4 v) (alike (cut s v) lds17) (alike (cut s v) lds18)
+  either_version = either (has_octets 4 v) (alike (cut s v) lds17) (alike (cut s v) lds18)
 
-  pub newer_told : has_octets 4 v && alike (cut s v) lds17 ≡ false → has_octets 4 v && alike (cut s v) lds18 ≡ true
-      → (is_version both s v ≡ true) × (not (alike (cut s v) lds17) ≡ true)
-  unfolding is_version
-  newer_told = newer (has_octets 4 v) (alike (cut s v) lds17) (alike (cut s v) lds18)
-
-  pub neither_told : has_octets 4 v && alike (cut s v) lds17 ≡ false → has_octets 4 v && alike (cut s v) lds18 ≡ false
-      → is_version both s v ≡ false
-  unfolding is_version
-  neither_told = neither (has_octets 4 v) (alike (cut s v) lds17) (alike (cut s v) lds18)
+  -- one of the two is the newer where it is not the older
+  pub newer_told : (at : ℕ)
+      → passed ≡ unless ((has_octets 4 v && alike (cut s v) lds17) || (has_octets 4 v && alike (cut s v) lds18)) 11 at
+      → not (has_octets 4 v && alike (cut s v) lds17) ≡ not (alike (cut s v) lds17)
+  newer_told at e = same_newer (has_octets 4 v) (alike (cut s v) lds17) (alike (cut s v) lds18) at e

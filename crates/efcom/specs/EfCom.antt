@@ -1,11 +1,11 @@
 -- Stage 3, EF.COM: 5F01 of length 4, `0107` or (document 02, 2026-04) `0108`; 5F36 of length 6, six digits; 5C, the tag list. 11
 -- at the element's tag.
 use Rattle.std.specs.Prelude.{ℕ, suc, Bool, cond, not, ◌&&◌, ◌||◌, List, [], ◌∷◌, take}
-use Rattle.refusal.specs.Numbers.{by, why_of}
+use Rattle.refusal.specs.Numbers.{by}
 use Rattle.refusal.specs.Outcome.{Outcome, passed, refused, unless, or_else}
 use Rattle.zone.specs.Alphabet.{is_digit, every}
 use Rattle.tlv.specs.declared.Stretch.{Stretch}
-use Rattle.tlv.specs.Read.{Read, value, refusal, and_then, checked}
+use Rattle.tlv.specs.Read.{Read, value, and_then, checked}
 use Rattle.tlv.specs.Element.{element}
 use Rattle.tlv.specs.Cut.{cut, has_octets, end_check}
 use Rattle.lent.specs.Octets.{alike, stands}
@@ -13,8 +13,6 @@ use Rattle.tlv.specs.Tags.{is_group}
 use Rattle.tlv.specs.Tags as Tag
 use Rattle.tlv.specs.Versions.{Known, former, both, lds17, lds18}
 use Rattle.efcom.specs.declared.Common.{Common}
-use Rattle.efcom.specs.declared.CommonRead.{CommonRead}
-use Rattle.efcom.specs.declared.CommonRead.TheVariants.{Value, Refused}
 
 -- in the list, first an unknown tag, at its octet
 unfoldable pub known_from : ℕ → List ℕ → Outcome
@@ -57,8 +55,3 @@ from_version known s at =
 -- the EF.COM whose value stands here
 unfoldable pub read_ef_com : Known → List ℕ → Stretch → Read Common
 read_ef_com known w efcom = from_version known (take efcom.to w) efcom.from
-
--- the paper's number and values of each case
-abbrev pub common_of : CommonRead → Read Common
-common_of (Value c) = value c
-common_of (Refused r) = refusal (why_of r.cause) r.place

@@ -1,6 +1,7 @@
 -- The entry: document 01, "The entry, most significant bit first", and what writing one answers and leaves.
+use Rattle.std.specs.Prelude.{Result}
+use Rattle.refusal.specs.declared.Refusal.{Refusal}
 use Rattle.std.specs.Prelude.{ℕ, Bool, ◌&&◌, List, [], ◌∷◌, map, ◌≡◌, leb}
-use Rattle.refusal.specs.declared.Written.{Written}
 use Rattle.refusal.specs.Outcome.{unless}
 use Rattle.refusal.specs.Length.{Length, length_of}
 use Rattle.refusal.specs.Output.{write_answer, write_out}
@@ -49,6 +50,6 @@ unfoldable pub entry_out : ℕ → Record → List ℕ → List ℕ
 entry_out h r out = write_out (unless (is_house h && is_sound r) 17 0) (size r) (entry_of h r) out
 
 -- the whole promise: the answer, and what the output holds afterwards
-pub record Writes (h : ℕ) (r : Record) (out after : List ℕ) (w : Written) : Type 0 where
+pub record Writes (h : ℕ) (r : Record) (out after : List ℕ) (w : Result ℕ Refusal) : Type 0 where
   pub answer : length_of w ≡ entry_answer h r out
   pub output : after ≡ entry_out h r out

@@ -10,7 +10,7 @@ ghost use Rattle.entry.specs.Inner.Units.{placed_after_key, placed_rest, rest_fo
 
 use crate::{codes, places};
 use packing::pack::{pack, pack_on, to_codes};
-use refusal::{Refusal, Written};
+use refusal::Refusal;
 use zone::alphabet::FILLER;
 use zone::record::Record;
 
@@ -114,18 +114,18 @@ fn write_octets(house: u32, r: Record, out: &mut [u8])
 }
 
 // The entry of a record: 17 for a house or a record that is not sound, then 16 for an output that is too short.
-pub fn write(house: u32, r: Record, out: &mut [u8]) -> Written
+pub fn write(house: u32, r: Record, out: &mut [u8]) -> Result<usize, Refusal>
     ensures { E.Writes house r out.old out.new result }
 {
     if is_house(house) & sound::is_sound(r) {
         let octets = size(r.own_len + r.name_len);
         if octets <= out.len() {
             write_octets(house, r, out);
-            Written::Octets(octets)
+            Ok(octets)
         } else {
-            Written::Refused(Refusal::TOO_SHORT)
+            Err(Refusal::TOO_SHORT)
         }
     } else {
-        Written::Refused(Refusal::UNSOUND)
+        Err(Refusal::UNSOUND)
     }
 }

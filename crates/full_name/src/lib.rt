@@ -5,16 +5,16 @@ ghost use Rattle.std.specs.Prelude.{◌≡◌, ◌≤◌};
 ghost use Rattle.zone.specs.Rooms.{name_room};
 ghost use Rattle.full_name.specs.FullName.{is_empty, in_file, name_at, in_text, full_name, full_name_part};
 
-use refusal::Verdict;
+use tlv::Stretch;
 use tlv::cut::cut;
-use tlv::{Stretch, Taken};
 use zone::form::{Form, Source};
 
 const FULL_NAME: u32 = 0x5F0E;
 
 const NOTHING: Stretch = Stretch { from: 0, to: 0 };
 
-// Which of the two holds it.
+// Which of the two holds it. Kept beside the stretch, and not around it: C has both, and `full_name_within` speaks of the stretch
+// of every answer.
 #[derive(Clone, Copy)]
 pub enum From {
     Nowhere,
@@ -38,10 +38,7 @@ fn is_empty(v: Stretch) -> bool
 fn in_file(file: &[u8]) -> Stretch
     ensures { result ≡ in_file file.now }
 {
-    match details::read(file, FULL_NAME) {
-        Taken::Value(v) => v,
-        Taken::Refused(_) => NOTHING,
-    }
+    details::read(file, FULL_NAME).unwrap_or(NOTHING)
 }
 
 fn name_at(form: Form, n: usize) -> Stretch
@@ -59,19 +56,12 @@ fn name_at(form: Form, n: usize) -> Stretch
 fn in_text(text: &[u8]) -> Name
     ensures { result ≡ in_text text.now }
 {
-    let reading = text::read::read(Source::Alone, text);
-    let verdict = reading.verdict;
-    let kept = reading.kept;
-    match verdict {
-        Verdict::Passed => {
-            let form = kept.form;
-            let stretch = name_at(form, kept.name_len);
-            Name {
-                from: From::Text,
-                stretch,
-            }
-        }
-        Verdict::Refused(_) => Name {
+    match text::read::read(Source::Alone, text) {
+        Ok(kept) => Name {
+            from: From::Text,
+            stretch: name_at(kept.form, kept.name_len),
+        },
+        Err(_) => Name {
             from: From::Nowhere,
             stretch: NOTHING,
         },
@@ -98,11 +88,9 @@ pub fn part<'a>(file: &'a [u8], text: &'a [u8]) -> &'a [u8]
     ensures { result.now ≡ full_name_part file.now text.now }
 {
     let name = find(file, text);
-    let stretch = name.stretch;
-    let from = name.from;
-    match from {
-        From::File => cut(file, stretch),
-        From::Text => cut(text, stretch),
+    match name.from {
+        From::File => cut(file, name.stretch),
+        From::Text => cut(text, name.stretch),
         From::Nowhere => lent::part(text, 0, 0),
     }
 }

@@ -16,6 +16,7 @@ use Rattle.tlv.specs.Element.{behind_tag, element}
 use Rattle.tlv.specs.Cut.{cut, end_check}
 use Rattle.tlv.specs.Tags.{group_of, is_group}
 use Rattle.tlv.proofs.Joined.{same_value}
+use Rattle.tlv.proofs.Past.{value_within}
 use Rattle.tlv.proofs.Whatever.{behind_one}
 use Rattle.tlv.proofs.Onward.{stretch_read}
 use Rattle.tree.specs.Tag.{is_constructed, tag_here}
@@ -27,7 +28,7 @@ use Rattle.tree.proofs.Walking.{counting_bound, counting_done}
 use Rattle.inside.specs.Templates.{value_here, count_check}
 use Rattle.inside.specs.Inside.{group_here, as_one, file_tree, behind_file, look_inside}
 use Rattle.inside.specs.Inside as file
-use Rattle.inside.specs.Inner.Behind.{behind_all, behind_head}
+use Rattle.inside.specs.Inner.Behind.{elements_in, behind_all, behind_head}
 use Rattle.inside.proofs.Tags.{tag_one}
 
 -- ---- the tags of groups
@@ -106,6 +107,9 @@ module _ (s : List ℕ) where
         go false = rw (sym group_here_lem ∙ e)
 
     module _ (v : Stretch) (e : behind_tag s 0 1 ≡ value v) where
+      pub group_within : 0 < v.from
+      group_within = (value_within s 0 tag v (sym group_element ∙ e)).0
+
       value_there : value_here s 0 ≡ v
       unfolding value_here
       value_there = rw (tag_one s 0 (group_one_lem tag group)) (stretch_read s 0 tag v (sym group_element ∙ e))
@@ -132,22 +136,23 @@ module _ (s : List ℕ) where
       tree_read = rw (sym group_here_lem ∙ e, group_constructed tag group)
 
       pub group_head : look_inside s ≡ behind_head (group_here s) s v
-      unfolding look_inside file.inside file_tree behind_head counting elements and_then
+      unfolding look_inside file.inside file_tree behind_head elements_in counting elements and_then
       group_head = rw is_group_lem (go (eqb (group_here s) 13))
         where
           held : (m : Read Forest)
               → and_then (and_then (and_then m (λ (f : Forest). value (record { tree = holds (tag_here s 0) f; to = v.to })))
               (λ (t : Found). checked (behind_file s t.to) (value t.tree))) (λ (t : Tree). value (elements t))
-              ≡ and_then (and_then m (λ (f : Forest). value (all_elements f))) (λ (n : ℕ). behind_all (group_here s) s v (suc n))
+              ≡ and_then (and_then (and_then m (λ (f : Forest). value (all_elements f))) (λ (n : ℕ). value (suc n)))
+              (behind_all (group_here s) s v)
           held (value f) = after (holds (tag_here s 0) f)
           held (refusal n p) = refl
 
           go : (b : Bool)
               → and_then (and_then (cond b (as_one s) (tree_at 8 s 0))
               (λ (t : Found). checked (behind_file s t.to) (value t.tree))) (λ (t : Tree). value (elements t))
-              ≡ cond b (behind_all (group_here s) s v 1)
+              ≡ and_then (cond b (value 1)
               (and_then (and_then (forest (tree_at 7) (take v.to s) v.from) (λ (f : Forest). value (all_elements f)))
-              (λ (n : ℕ). behind_all (group_here s) s v (suc n)))
+              (λ (n : ℕ). value (suc n)))) (behind_all (group_here s) s v)
           go true = rw one_read (after (one tag (cut s v)))
           go false = rw tree_read (held (forest (tree_at 7) (take v.to s) v.from))
 

@@ -2,52 +2,39 @@
 #![tactic(auto)]
 
 ghost use Rattle.std.specs.Prelude.{◌≡◌};
-ghost use Rattle.tree.specs.Reading.{counted_of};
+ghost use Rattle.tlv.specs.Read.{read_of};
 ghost use Rattle.inside.specs.Inside.{look_inside};
-ghost use Rattle.inside.specs.Inner.Behind.{behind_all, behind_head};
+ghost use Rattle.inside.specs.Inner.Behind.{elements_in};
 
 mod templates;
 
-use refusal::{Cause, Refusal, Verdict};
+use refusal::{Cause, Refusal};
+use tlv::Stretch;
 use tlv::cut::end_check;
 use tlv::tags::group_of;
-use tlv::{Stretch, Taken};
-use tree::Counted;
 
-// The last checks: nothing stands behind the file, and its templates are counted right.
-fn behind_all(s: &[u8], v: Stretch, group: u8, elements: usize) -> Counted
-    ensures { counted_of result ≡ behind_all group s.now v elements }
-{
-    let checked = end_check(s, v.to).or_else(templates::count_check(s, v.from, group));
-    match checked {
-        Verdict::Passed => Counted::Elements(elements),
-        Verdict::Refused(refusal) => Counted::Refused(refusal),
-    }
-}
-
-// What the file holds, and the last checks. It is itself one level of the eight.
-fn behind_head(s: &[u8], v: Stretch, group: u8) -> Counted
-    ensures { counted_of result ≡ behind_head group s.now v }
+// How many elements a file has, itself among them. It is itself one level of the eight.
+fn elements_in(s: &[u8], v: Stretch, group: u8) -> Result<usize, Refusal>
+    ensures { read_of result ≡ elements_in group s.now v }
 {
     if group == 13 {
-        return behind_all(s, v, group, 1);
+        return Ok(1);
     }
-    match tree::list(lent::part(s, 0, v.to), v.from, 7) {
-        Counted::Elements(n) => behind_all(s, v, group, n + 1),
-        Counted::Refused(refusal) => Counted::Refused(refusal),
-    }
+    let held = tree::list(lent::part(s, 0, v.to), v.from, 7)?;
+    Ok(held + 1)
 }
 
 // How many elements a group's file has, itself among them, or why it is not whole.
-pub fn look(s: &[u8]) -> Counted
-    ensures { counted_of result ≡ look_inside s.now }
+pub fn look(s: &[u8]) -> Result<usize, Refusal>
+    ensures { read_of result ≡ look_inside s.now }
 {
     let group = group_of(lent::octet(s, 0));
     if group == 0 {
-        return Counted::Refused(Refusal::at(Cause::Encoding, 0));
+        return Err(Refusal::at(Cause::Encoding, 0));
     }
-    match tlv::behind_tag(s, 0, false) {
-        Taken::Value(v) => behind_head(s, v, group),
-        Taken::Refused(refusal) => Counted::Refused(refusal),
-    }
+    let v = tlv::behind_tag(s, 0, false)?;
+    let elements = elements_in(s, v, group)?;
+    end_check(s, v.to)?;
+    templates::count_check(s, v.from, group)?;
+    Ok(elements)
 }

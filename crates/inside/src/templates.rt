@@ -1,6 +1,6 @@
 // The count of templates in a file whose elements are rightly coded: one pass over those directly in it, and one over those in
 // its first 7F61.
-ghost use Rattle.std.specs.Prelude.{◌≡◌, ◌+◌, ◌<◌, ◌≤◌, ◌^◌, cond, eqb, length};
+ghost use Rattle.std.specs.Prelude.{◌≡◌, ◌+◌, ◌<◌, ◌≤◌, ◌^◌, length};
 ghost use Rattle.refusal.specs.Outcome.{outcome_of};
 ghost use Rattle.tlv.specs.Element.{size_at, tag_width};
 ghost use Rattle.tlv.specs.Places.{stretch_by};
@@ -8,18 +8,18 @@ ghost use Rattle.tree.specs.Tag.{tag_here};
 ghost use Rattle.inside.specs.Templates.{value_here, count_holds, templates_check, count_check};
 ghost use Rattle.inside.specs.Inner.Tally.{tallied};
 
-use refusal::{Cause, Refusal, Verdict};
-use tlv::{Size, Stretch};
+use refusal::{Cause, Refusal};
+use tlv::Stretch;
 
 const TEMPLATE_GROUP: u16 = 0x7F61;
 
 const TEMPLATE: u16 = 0x7F60;
 
-// The first place of elements with a tag, 0 where there are none, and how many they are.
-#[derive(Clone, Copy)]
-pub struct Tally {
-    pub first: usize,
-    pub times: usize,
+// The first place of elements with a tag, and how many they are.
+#[derive(Clone, Copy, Debug, PartialEq, Eq)]
+struct Tally {
+    first: Option<usize>,
+    times: usize,
 }
 
 // The tag that stands at a place within what was lent.
@@ -63,14 +63,14 @@ fn value_by(s: &[u8], place: usize) -> Stretch
     let b = lent::octet(s, place + 1);
     let c = lent::octet(s, place + 2);
     match tlv::size_of(a, b, c) {
-        Size::Of(z) => {
+        Some(z) => {
             let from = place + z.told;
             Stretch {
                 from,
                 to: from + z.count,
             }
         }
-        Size::Unknown => Stretch {
+        None => Stretch {
             from: place,
             to: place,
         },
@@ -85,23 +85,17 @@ fn value_here(s: &[u8], at: usize) -> Stretch
     value_by(s, tag_end(s, at))
 }
 
-fn first_of(times: usize, first: usize, at: usize) -> usize
-    ensures { result ≡ cond (eqb times 0) at first }
-{
-    if times == 0 { at } else { first }
-}
-
 // The elements with a tag that stand directly in what was lent, from a place on.
 fn tally_of(s: &[u8], start: usize, tag: u16) -> Tally
     ensures { result ≡ tallied s.now tag start }
 {
     let mut at = start;
-    let mut first = 0;
+    let mut first = None;
     let mut times = 0;
     while at < s.len() {
         let value = value_here(s, at);
         if tag_here(s, at) == tag {
-            first = first_of(times, first, at);
+            first = first.or(Some(at));
             times += 1;
         }
         at = value.to;
@@ -121,25 +115,22 @@ fn count_holds(s: &[u8], at: usize, group: u8) -> bool
             & ((n as usize == held.times) & ((3 <= group) | (n != 0))))
 }
 
-// At the first 7F61, or at the file's start where it is missing.
-fn templates_check(s: &[u8], at: usize, group: u8) -> Verdict
+// At the first 7F61, or at the file's start where it is missing: none stands there, since the file's own head does.
+fn templates_check(s: &[u8], at: usize, group: u8) -> Result<(), Refusal>
     ensures { outcome_of result ≡ templates_check group s.now at }
 {
-    let first = tally_of(s, at, TEMPLATE_GROUP).first;
-    if first == 0 {
-        return Verdict::Refused(Refusal::at(Cause::Templates, 0));
-    }
+    let first = tally_of(s, at, TEMPLATE_GROUP).first.unwrap_or(0);
     let v = value_here(s, first);
-    let holds = count_holds(lent::part(s, 0, v.to), v.from, group);
-    Verdict::judged(holds, Cause::Templates, first)
+    let holds = (first != 0) & count_holds(lent::part(s, 0, v.to), v.from, group);
+    Refusal::unless(holds, Cause::Templates, first)
 }
 
-pub(crate) fn count_check(s: &[u8], at: usize, group: u8) -> Verdict
+pub(crate) fn count_check(s: &[u8], at: usize, group: u8) -> Result<(), Refusal>
     ensures { outcome_of result ≡ count_check group s.now at }
 {
     if (2 <= group) & (group <= 4) {
         templates_check(s, at, group)
     } else {
-        Verdict::Passed
+        Ok(())
     }
 }

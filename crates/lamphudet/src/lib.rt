@@ -23,7 +23,7 @@ ghost use Rattle.lamphudet.specs.Calls.{read_answer, read_out};
 ghost use Rattle.as_entry.specs.Opened.{opened_in_c};
 
 use as_entry::received::RecordInC;
-use border::answer::{count_in_c, entries_in_c, in_c, next_in_c, stretch_in_c};
+use border::answer::{in_c, next_in_c, stretch_in_c};
 use border::detail::{detail_in_c, name_in_c};
 use border::received::{AnswerInC, DetailInC, NameInC, StretchInC};
 use zone::form::Source;
@@ -34,10 +34,7 @@ pub fn lamphudet_read_text(house: u32, text: &[u8], entry: &mut [u8]) -> AnswerI
     ensures after { entry.new ≡ read_out house (read_text Alone text.now) entry.old }
     ensures are_octets { AreOctets text.now }
 {
-    let reading = text::read::read(Source::Alone, text);
-    let verdict = reading.verdict;
-    let record = reading.kept;
-    in_c(entry::enter::enter(verdict, record, house, entry))
+    in_c(entry::enter::enter(text::read::read(Source::Alone, text), house, entry))
 }
 
 // A presentation is read, and its record entered under a house.
@@ -46,10 +43,7 @@ pub fn lamphudet_read_presentation(house: u32, presentation: &[u8], entry: &mut 
     ensures after { entry.new ≡ read_out house (read_presentation presentation.now) entry.old }
     ensures are_octets { AreOctets presentation.now }
 {
-    let reading = chip::presentation::read(presentation);
-    let verdict = reading.verdict;
-    let record = reading.kept;
-    in_c(entry::enter::enter(verdict, record, house, entry))
+    in_c(entry::enter::enter(chip::presentation::read(presentation), house, entry))
 }
 
 // The record of exactly one entry is written as a text.
@@ -74,9 +68,7 @@ pub fn lamphudet_next_entry(run: &[u8], offset: u64) -> AnswerInC
     ensures value { result ≡ next_in_c (read_entry run.now offset).onward }
     ensures are_octets { AreOctets run.now }
 {
-    let standing = runs::run::next(run, offset as usize);
-    let step = standing.step;
-    next_in_c(step)
+    next_in_c(runs::run::next(run, offset as usize))
 }
 
 // The SHA-256 digest of the input, into the first 32 octets of the output.
@@ -101,7 +93,7 @@ pub fn lamphudet_look_inside(file: &[u8]) -> AnswerInC
     ensures value { result ≡ count_in_c (look_inside file.now) }
     ensures are_octets { AreOctets file.now }
 {
-    count_in_c(inside::look(file))
+    in_c(inside::look(file))
 }
 
 // Where a detail of group 11 stands in its file, asked for by the tag that the file's list names it by.
@@ -126,7 +118,7 @@ pub fn lamphudet_look_over(list: &[u8]) -> AnswerInC
     ensures value { result ≡ count_in_c (look_over list.now) }
     ensures are_octets { AreOctets list.now }
 {
-    entries_in_c(nightly::look_over(list))
+    in_c(nightly::look_over(list))
 }
 
 // Where the entries of a house stand in the list.

@@ -1,6 +1,6 @@
 -- What C receives of a seal: document 02, 2026-08, "The answer is header fields, record and signature". The record passes as its
 -- entry (document 01, "What the server lends and gets"); after the seal's own refusals come 17 and 16, as for a text.
-use Rattle.std.specs.Prelude.{ℕ, ◌-◌, List}
+use Rattle.std.specs.Prelude.{ℕ, List}
 use Rattle.refusal.specs.Numbers.{no_digit, number_of, expected_of}
 use Rattle.refusal.specs.Length.{Length, written, refused}
 use Rattle.tlv.specs.declared.Stretch.{Stretch}
@@ -9,16 +9,12 @@ use Rattle.seal_fields.specs.declared.day.Day.{Day}
 use Rattle.seal_header.specs.declared.header.Header.{Header}
 use Rattle.seal_header.specs.Header.{blank_header}
 use Rattle.seal.specs.Seal.{read_seal}
+use Rattle.border.specs.Calls.{stretch_in_c}
 use Rattle.lamphudet_seals.specs.declared.received.DayInC.{DayInC}
-use Rattle.lamphudet_seals.specs.declared.received.StretchInC.{StretchInC}
 use Rattle.lamphudet_seals.specs.declared.received.SealInC.{SealInC}
 
 unfoldable pub day_in_c : Day → DayInC
 day_in_c d = record { year = d.year; month = d.month; day = d.day }
-
--- in C a stretch is a start and a length
-unfoldable pub stretch_in_c : Stretch → StretchInC
-stretch_in_c v = record { start = v.from; length = v.to - v.from }
 
 -- a number, an expected digit, a value and what a seal says
 unfoldable pub fields_in_c : (number expected value : ℕ) → Header → Stretch → SealInC

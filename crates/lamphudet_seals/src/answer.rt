@@ -1,14 +1,18 @@
 // An answer as it passes to C: a number, an expected digit, a value and the seal's own fields.
 ghost use Rattle.std.specs.Prelude.{◌≡◌};
+ghost use Rattle.refusal.specs.Numbers.{why_of, number_of, expected_of};
 ghost use Rattle.refusal.specs.Length.{length_of};
-ghost use Rattle.lamphudet_seals.specs.Answer.{day_in_c, stretch_in_c, fields_in_c, seal_in_c};
+ghost use Rattle.seal_header.specs.Header.{blank_header};
+ghost use Rattle.lamphudet_seals.specs.Answer.{day_in_c, fields_in_c, seal_in_c};
 
-use crate::received::{DayInC, SealInC, StretchInC};
-use refusal::{NO_DIGIT, Written};
+use crate::received::{DayInC, SealInC};
+use border::answer::stretch_in_c;
+use refusal::{NO_DIGIT, Refusal};
 use seal_fields::day::Day;
 use seal_header::header::Header;
 use tlv::Stretch;
 
+#[tactic(auto, unfolding(crate::specs::Answer::day_in_c))]
 fn day_in_c(d: Day) -> DayInC
     ensures { result ≡ day_in_c d }
 {
@@ -19,17 +23,7 @@ fn day_in_c(d: Day) -> DayInC
     }
 }
 
-// A stretch ends where it starts, or behind it.
-fn stretch_in_c(v: Stretch) -> StretchInC
-    ensures { result ≡ stretch_in_c v }
-{
-    let length = if v.from <= v.to { v.to - v.from } else { 0 };
-    StretchInC {
-        start: v.from as u64,
-        length: length as u64,
-    }
-}
-
+#[tactic(auto, unfolding(crate::specs::Answer::fields_in_c))]
 fn fields_in_c(
     number: u32,
     expected: u32,
@@ -39,8 +33,6 @@ fn fields_in_c(
 ) -> SealInC
     ensures { result ≡ fields_in_c number expected value header signature }
 {
-    let issued = header.issued;
-    let signed_on = header.signed_on;
     let country = header.country;
     let signer = header.signer;
     let reference = header.reference;
@@ -49,8 +41,8 @@ fn fields_in_c(
         expected,
         value,
         signature: stretch_in_c(signature),
-        issued: day_in_c(issued),
-        signed_on: day_in_c(signed_on),
+        issued: day_in_c(header.issued),
+        signed_on: day_in_c(header.signed_on),
         version: header.version,
         definition: header.definition,
         category: header.category,
@@ -62,17 +54,30 @@ fn fields_in_c(
 }
 
 // Every refusal, also of the house or of the range for the entry, comes over blank fields.
-pub(crate) fn seal_in_c(written: Written, header: Header, signature: Stretch) -> SealInC
+#[tactic(auto, unfolding(crate::specs::Answer::seal_in_c))]
+pub(crate) fn seal_in_c(
+    written: Result<usize, Refusal>,
+    header: Header,
+    signature: Stretch,
+) -> SealInC
     ensures { result ≡ seal_in_c (length_of written) header signature }
 {
     match written {
-        Written::Octets(n) => fields_in_c(0, NO_DIGIT, n as u64, header, signature),
-        Written::Refused(refusal) => {
-            let cause = refusal.cause;
-            let none = Stretch { from: 0, to: 0 };
-            let blank = Header::blank();
-            let expected = cause.expected();
-            fields_in_c(cause.number(), expected, refusal.place as u64, blank, none)
-        }
+        Ok(n) => fields_in_c(0, NO_DIGIT, n as u64, header, signature),
+        Err(why) => refused_in_c(why),
     }
+}
+
+pub(crate) fn refused_in_c(why: Refusal) -> SealInC
+    ensures { result ≡ fields_in_c (number_of (why_of why.cause)) (expected_of (why_of why.cause)) why.place blank_header
+        (record { from = 0; to = 0 }) }
+{
+    let none = Stretch { from: 0, to: 0 };
+    fields_in_c(
+        why.cause.number(),
+        why.cause.expected(),
+        why.place as u64,
+        Header::blank(),
+        none,
+    )
 }

@@ -4,11 +4,12 @@ ghost use Rattle.refusal.specs.Length.{length_of};
 ghost use Rattle.lamphudet_seals.specs.Given.{day_given, header_given, written_answer, written_out};
 
 use crate::received::{DayInC, HeaderInC};
-use as_entry::{NOT_ONE_ENTRY, is_only};
-use refusal::Written;
+use as_entry::only;
+use refusal::Refusal;
 use seal_fields::day::Day;
 use seal_header::header::Header;
 
+#[tactic(auto, unfolding(crate::specs::Given::day_given))]
 fn day_given(d: DayInC) -> Day
     ensures { result ≡ day_given d }
 {
@@ -19,11 +20,10 @@ fn day_given(d: DayInC) -> Day
     }
 }
 
+#[tactic(auto, unfolding(crate::specs::Given::header_given))]
 fn header_given(header: HeaderInC) -> Header
     ensures { result ≡ header_given header }
 {
-    let issued = header.issued;
-    let signed_on = header.signed_on;
     let country = header.country;
     let signer = header.signer;
     let reference = header.reference;
@@ -33,24 +33,23 @@ fn header_given(header: HeaderInC) -> Header
         signer,
         reference,
         reference_len: header.reference_len,
-        issued: day_given(issued),
-        signed_on: day_given(signed_on),
+        issued: day_given(header.issued),
+        signed_on: day_given(header.signed_on),
         definition: header.definition,
         category: header.category,
     }
 }
 
-pub(crate) fn write_one(only: &[u8], header: HeaderInC, signature: &[u8], out: &mut [u8]) -> Written
-    ensures result_value { length_of result ≡ written_answer only.now header signature.now out.old }
-    ensures out_after { out.new ≡ written_out only.now header signature.now out.old }
+#[tactic(auto, unfolding(crate::specs::Given::written_answer, crate::specs::Given::written_out))]
+pub(crate) fn write_one(
+    range: &[u8],
+    header: HeaderInC,
+    signature: &[u8],
+    out: &mut [u8],
+) -> Result<usize, Refusal>
+    ensures result_value { length_of result ≡ written_answer range.now header signature.now out.old }
+    ensures out_after { out.new ≡ written_out range.now header signature.now out.old }
 {
-    let standing = runs::run::next(only, 0);
-    let kept = standing.kept;
-    let step = standing.step;
-    if is_only(step, only.len()) {
-        let given = header_given(header);
-        seal_writing::write::write(given, kept, signature, out)
-    } else {
-        Written::Refused(NOT_ONE_ENTRY)
-    }
+    let standing = only(range)?;
+    seal_writing::write::write(header_given(header), standing.kept, signature, out)
 }

@@ -8,7 +8,7 @@ ghost use Rattle.version.specs.Version.{version_number};
 ghost use Rattle.lamphudet_seals.specs.Answer.{read_seal_in_c, read_seal_out};
 ghost use Rattle.lamphudet_seals.specs.Given.{written_out, write_seal_in_c};
 
-use crate::answer::seal_in_c;
+use crate::answer::{refused_in_c, seal_in_c};
 use crate::given::write_one;
 use crate::received::{HeaderInC, SealInC};
 use border::received::AnswerInC;
@@ -23,13 +23,13 @@ pub fn lamphudet_read_seal(house: u32, seal: &[u8], entry: &mut [u8]) -> SealInC
     ensures after { entry.new ≡ read_seal_out house seal.now entry.old }
     ensures are_octets { AreOctets seal.now }
 {
-    let read = seal::read::read(seal);
-    let verdict = read.verdict;
-    let header = read.header;
-    let record = read.kept;
-    let signature = read.signature;
-    let written = entry::enter::enter(verdict, record, house, entry);
-    seal_in_c(written, header, signature)
+    match seal::read::read(seal) {
+        Ok(said) => {
+            let written = entry::enter::enter(Ok(said.kept), house, entry);
+            seal_in_c(written, said.header, said.signature)
+        }
+        Err(why) => refused_in_c(why),
+    }
 }
 
 // The seal of one entry's record, of a header and a signature.

@@ -1,4 +1,5 @@
 // What C receives, laid out as include/lamphudet_seals.h declares it.
+use border::received::StretchInC;
 use zone::form::Form;
 
 #[repr(C)]
@@ -7,14 +8,6 @@ pub struct DayInC {
     pub year: u16,
     pub month: u8,
     pub day: u8,
-}
-
-// A part of what was lent: empty where both are 0.
-#[repr(C)]
-#[derive(Clone, Copy)]
-pub struct StretchInC {
-    pub start: u64,
-    pub length: u64,
 }
 
 // Number 0, how many octets of entry were written, and what the seal says; or the refusal's number and its place, over blank

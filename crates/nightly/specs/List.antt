@@ -1,16 +1,12 @@
 -- The store's nightly list: document 02, request 2026-14, whose words are those in quotes. What an entry is says document 01,
 -- "The entry".
 use Rattle.std.specs.Prelude.{ℕ, zero, suc, cond, List, [], ◌∷◌, eqb, leb, length}
-use Rattle.refusal.specs.Numbers.{by, why_of}
+use Rattle.refusal.specs.Numbers.{by}
 use Rattle.refusal.specs.Outcome.{unless}
 use Rattle.tlv.specs.declared.Stretch.{Stretch}
 use Rattle.tlv.specs.Read.{Read, value, refusal, and_then, checked}
 use Rattle.runs.specs.Run.{Onward, next, none, refused, read_entry}
-use Rattle.nightly.specs.declared.Counted.{Counted}
-use Rattle.nightly.specs.declared.Counted.TheVariants as counted
 use Rattle.nightly.specs.declared.place.Place.{Place}
-use Rattle.nightly.specs.declared.place.Entered.{Entered}
-use Rattle.nightly.specs.declared.place.Entered.TheVariants as entered
 use Rattle.nightly.specs.Key.{key_at, is_below}
 
 -- ---- its entries
@@ -67,13 +63,3 @@ stretch_in house (refusal why place) = record { from = 0; to = 0 }
 
 unfoldable pub house_stretch : List ℕ → (house : ℕ) → Stretch
 house_stretch w house = stretch_in house (entries w)
-
--- ---- the paper's number and values of each case
-
-abbrev pub entered_of : Entered → Read Place
-entered_of (entered.Stands p) = value p
-entered_of (entered.Refused r) = refusal (why_of r.cause) r.place
-
-abbrev pub counted_of : Counted → Read ℕ
-counted_of (counted.Entries n) = value n
-counted_of (counted.Refused r) = refusal (why_of r.cause) r.place

@@ -3,7 +3,8 @@
 
 ghost use Rattle.std.specs.Prelude.{◌≡◌};
 ghost use Rattle.tlv.specs.Cut as C;
-ghost use Rattle.nightly.specs.List.{counted_of, look_over, house_stretch};
+ghost use Rattle.tlv.specs.Read.{read_of};
+ghost use Rattle.nightly.specs.List.{look_over, house_stretch};
 
 mod key;
 mod place;
@@ -12,23 +13,14 @@ mod walk;
 use refusal::Refusal;
 use tlv::Stretch;
 use tlv::cut::cut;
-use walk::{Walked, walk};
+use walk::walk;
 
-// How many entries a list has, or why it is refused.
-#[derive(Clone, Copy)]
-pub enum Counted {
-    Entries(usize),
-    Refused(Refusal),
-}
-
-// Looks for no house: 0 is none.
-pub fn look_over(list: &[u8]) -> Counted
-    ensures { counted_of result ≡ look_over list.now }
+// How many entries a list has, or why it is refused. Looks for no house: 0 is none.
+pub fn look_over(list: &[u8]) -> Result<usize, Refusal>
+    ensures { read_of result ≡ look_over list.now }
 {
-    match walk(list, 0) {
-        Walked::Whole(seen) => Counted::Entries(seen.entries),
-        Walked::Refused(refusal) => Counted::Refused(refusal),
-    }
+    let seen = walk(list, 0)?;
+    Ok(seen.entries)
 }
 
 // Where the entries of a house stand: empty where it has none or the list is refused.
@@ -36,8 +28,8 @@ pub fn house_stretch(list: &[u8], house: u32) -> Stretch
     ensures { result ≡ house_stretch list.now house }
 {
     match walk(list, house) {
-        Walked::Whole(seen) => seen.own,
-        Walked::Refused(_) => Stretch { from: 0, to: 0 },
+        Ok(seen) => seen.own,
+        Err(_) => Stretch { from: 0, to: 0 },
     }
 }
 

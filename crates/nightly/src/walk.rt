@@ -1,8 +1,9 @@
 // One pass over a list: how many entries it has, and where those of a house stand.
 ghost use Rattle.std.specs.Prelude.{◌≡◌};
-ghost use Rattle.nightly.specs.Inner.Seen.{grown, walked_of, walked};
+ghost use Rattle.tlv.specs.Read.{read_of};
+ghost use Rattle.nightly.specs.Inner.Seen.{grown, walked};
 
-use crate::place::{Entered, Place, entry_at};
+use crate::place::{Place, entry_at};
 use refusal::Refusal;
 use tlv::Stretch;
 
@@ -10,12 +11,6 @@ use tlv::Stretch;
 pub struct Seen {
     pub entries: usize,
     pub own: Stretch,
-}
-
-#[derive(Clone, Copy)]
-pub enum Walked {
-    Whole(Seen),
-    Refused(Refusal),
 }
 
 // What was seen of a house grows by an entry that is its own. No entry ends at 0: there nothing was seen yet.
@@ -33,27 +28,19 @@ fn grown(own: Stretch, place: Place, house: u32) -> Stretch
     }
 }
 
-pub(crate) fn walk(list: &[u8], house: u32) -> Walked
-    ensures { walked_of result ≡ walked list.now house }
+pub(crate) fn walk(list: &[u8], house: u32) -> Result<Seen, Refusal>
+    ensures { read_of result ≡ walked list.now house }
 {
     let mut own = Stretch { from: 0, to: 0 };
     let mut entries = 0;
     let mut before = list.len();
     let mut at = 0;
     while at < list.len() {
-        match entry_at(list, before, at) {
-            Entered::Stands(place) => {
-                let end = place.end;
-                let next = grown(own, place, house);
-                own = next;
-                entries += 1;
-                before = at;
-                at = end;
-            }
-            Entered::Refused(refusal) => {
-                return Walked::Refused(refusal);
-            }
-        }
+        let place = entry_at(list, before, at)?;
+        own = grown(own, place, house);
+        entries += 1;
+        before = at;
+        at = place.end;
     }
-    Walked::Whole(Seen { entries, own })
+    Ok(Seen { entries, own })
 }

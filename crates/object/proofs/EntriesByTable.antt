@@ -1,27 +1,28 @@
 -- What was seen of the entries decides as the list of entries does: the first repeated number, how many there are, and each
 -- group's digest.
 use Prim.Native.Nat.{ℕ, zero, suc, ◌+◌, ◌<◌}
+use Rattle.std.specs.Prelude.{Some, None}
+use Rattle.std.specs.Option.{option_or}
 use mathlib.Core.Path.{◌≡◌, refl, ap, sym, ◌∙◌, subst}
 use mathlib.Core.Bool.{Bool, true, false, cond, not}
 use mathlib.Core.List.{List, [], ◌∷◌}
 use native.Mathlib.Nat.{zero-add, add-zero}
 use native.Mathlib.Numerals.{add-one}
 use native.Mathlib.Omega.{arith}
-use borrow.Author.Tests.{eq-eqb, ne_eqb, eqb-true, eqb-false}
+use borrow.Author.Tests.{ne_eqb, eqb-true, eqb-false}
 use lib.Dec.{eqb, leb}
 use lib.ListN.{length, take, get_or, set, length-set, length-replicate, get_or-replicate}
 use lib.Seq.{get_or-set_same, get_or-set_other, ext_get_or}
-use Rattle.refusal.specs.Numbers.{by}
-use Rattle.refusal.specs.Outcome.{Outcome, passed, refused, unless, or_else}
-use Rattle.tlv.specs.Read.{Read, value, refusal, and_then, checked, outcome_in}
+use Rattle.refusal.specs.Outcome.{Outcome, passed, refused}
+use Rattle.tlv.specs.Read.{Read, value, refusal, and_then, checked}
 use Rattle.object.specs.declared.entries.Seen.{Seen}
 use Rattle.object.specs.declared.strings.Version.{Version}
 use Rattle.lent.specs.Octets.{stands}
 use Rattle.object.specs.Object.{GroupHash, Said, entry_at, entries_from, entries, numbers_once, entries_check}
 use Rattle.object.specs.Object.{digest_for}
-use Rattle.object.specs.Inner.Seen.{none, is_new, counted, tallied, tally_from, seen_in, seen_check, digests_from, table_of}
-use Rattle.object.specs.Inner.Seen.{ObjectAnswer, version_in, said_version}
-use Rattle.object.specs.Inner.Seen.{object_answer, settled}
+use Rattle.object.specs.declared.Object.{Object}
+use Rattle.object.specs.Inner.Seen.{none, is_new, counted, tallied, tally_from, once_of, seen_check, digests_from, table_of}
+use Rattle.object.specs.Inner.Seen.{kept_of, kept}
 use Rattle.lent.proofs.Marks.{Marks, none_marked, one_marked}
 use Rattle.tlv.proofs.Joined.{never_value, same_value, first_value}
 use Rattle.object.proofs.EntryPlaces.{EntrySound, entry_stands}
@@ -57,12 +58,7 @@ module _ (t : Seen) (e : GroupHash) where
   counted_new h = rw h
 
   counted_old : is_new t e.group ≡ false
-      → counted t e ≡ record {
-        count = t.count + 1;
-        repeated = cond (eqb t.repeated 0) e.place t.repeated;
-        digests =
-            t.digests;
-      }
+      → counted t e ≡ record { count = t.count + 1; repeated = option_or t.repeated (Some e.place); digests = t.digests }
   unfolding counted
   counted_old h = rw h
 
@@ -81,13 +77,12 @@ module _ (t : Seen) (e : GroupHash) where
       go false h = ap (λ (x : Seen). length x.digests) (counted_old h)
 
   -- the first integer that repeats another stays
-  counted_repeated : (t.repeated ≡ 0 → ⊥) → (counted t e).repeated ≡ t.repeated
-  counted_repeated some = go (is_new t e.group) refl
+  counted_repeated : (p : ℕ) → t.repeated ≡ Some p → (counted t e).repeated ≡ Some p
+  counted_repeated p k = go (is_new t e.group) refl
     where
-      go : (b : Bool) → is_new t e.group ≡ b → (counted t e).repeated ≡ t.repeated
-      go true h = ap (λ (x : Seen). x.repeated) (counted_new h)
-      go false h = ap (λ (x : Seen). x.repeated) (counted_old h)
-          ∙ ap (λ b. cond b e.place t.repeated) (ne_eqb t.repeated 0 some)
+      go : (b : Bool) → is_new t e.group ≡ b → (counted t e).repeated ≡ Some p
+      go true h = ap (λ (x : Seen). x.repeated) (counted_new h) ∙ k
+      go false h = ap (λ (x : Seen). x.repeated) (counted_old h) ∙ ap (λ o. option_or o (Some e.place)) k
 
 -- ---- how many
 
@@ -102,20 +97,10 @@ tallied_count (e ∷ es) t =
 
 -- ---- the first repeated number
 
-tallied_kept : (es : List GroupHash) (t : Seen) → (t.repeated ≡ 0 → ⊥) → (tallied t es).repeated ≡ t.repeated
+tallied_kept : (es : List GroupHash) (t : Seen) (p : ℕ) → t.repeated ≡ Some p → (tallied t es).repeated ≡ Some p
 unfolding tallied
-tallied_kept [] t some = refl
-tallied_kept (e ∷ es) t some =
-    let k = counted_repeated t e some in
-    tallied_kept es (counted t e) (λ z. some (sym k ∙ z)) ∙ k
-
--- what the place of the first repeated integer says
-unfoldable repeated_at : ℕ → Outcome
-repeated_at p = unless (eqb p 0) 12 p
-
-repeated_some : (p : ℕ) → 0 < p → repeated_at p ≡ refused (by 12) p
-unfolding repeated_at
-repeated_some p h = rw (ne_eqb p 0 (λ z. omega arith))
+tallied_kept [] t p k = k
+tallied_kept (e ∷ es) t p k = tallied_kept es (counted t e) p (counted_repeated t e p k)
 
 -- an entry whose number stands before, or not
 module _ (t : Seen) (e : GroupHash) (es : List GroupHash) (before : List ℕ) (sound : EntrySound e)
@@ -124,21 +109,19 @@ module _ (t : Seen) (e : GroupHash) (es : List GroupHash) (before : List ℕ) (s
   unfolding Marks is_new
   stands_old = marks e.group (omega (arith, sound.numbered.1))
 
-  repeated_here : is_new t e.group ≡ false → t.repeated ≡ 0
-      → repeated_at (tallied (counted t e) es).repeated ≡ numbers_once before (e ∷ es)
-  unfolding numbers_once
+  repeated_here : is_new t e.group ≡ false → t.repeated ≡ None
+      → once_of (tallied (counted t e) es).repeated ≡ numbers_once before (e ∷ es)
+  unfolding numbers_once once_of
   repeated_here old z =
-      let r : (counted t e).repeated ≡ e.place =
-      ap (λ (x : Seen). x.repeated) (counted_old t e old)
-      ∙ ap (λ b. cond b e.place t.repeated) (eq-eqb t.repeated 0 z) in
-      let some : (counted t e).repeated ≡ 0 → ⊥ = λ q. omega (arith, sound.placed) in
-      let k : (tallied (counted t e) es).repeated ≡ e.place = tallied_kept es (counted t e) some ∙ r in
+      let r : (counted t e).repeated ≡ Some e.place =
+      ap (λ (x : Seen). x.repeated) (counted_old t e old) ∙ ap (λ o. option_or o (Some e.place)) z in
+      let k : (tallied (counted t e) es).repeated ≡ Some e.place = tallied_kept es (counted t e) e.place r in
       let st : stands e.group before ≡ true = stands_old ∙ ap not old in
-      rw (k, st) (repeated_some e.place sound.placed)
+      rw (k, st)
 
   repeated_later : is_new t e.group ≡ true
-      → repeated_at (tallied (counted t e) es).repeated ≡ numbers_once (e.group ∷ before) es
-      → repeated_at (tallied (counted t e) es).repeated ≡ numbers_once before (e ∷ es)
+      → once_of (tallied (counted t e) es).repeated ≡ numbers_once (e.group ∷ before) es
+      → once_of (tallied (counted t e) es).repeated ≡ numbers_once before (e ∷ es)
   unfolding numbers_once
   repeated_later new below =
       let st : stands e.group before ≡ false = stands_old ∙ ap not new in
@@ -153,20 +136,20 @@ module _ (t : Seen) (e : GroupHash) (es : List GroupHash) (before : List ℕ) (s
 
 tallied_repeated : (es : List GroupHash) (t : Seen) (before : List ℕ) → AllSound es → Marks 17 t.digests before
     → length t.digests ≡ 17
-    → t.repeated ≡ 0 → repeated_at (tallied t es).repeated ≡ numbers_once before es
-unfolding AllSound tallied numbers_once repeated_at
+    → t.repeated ≡ None → once_of (tallied t es).repeated ≡ numbers_once before es
+unfolding AllSound tallied numbers_once once_of
 tallied_repeated [] t before sound marks len z = rw z
 tallied_repeated (e ∷ es) t before sound marks len z =
     go (is_new t e.group) refl (tallied_repeated es (counted t e) (e.group ∷ before) sound.1)
   where
     go : (b : Bool) → is_new t e.group ≡ b
-        → (Marks 17 (counted t e).digests (e.group ∷ before) → length (counted t e).digests ≡ 17 → (counted t e).repeated ≡ 0
-        → repeated_at (tallied (counted t e) es).repeated ≡ numbers_once (e.group ∷ before) es)
-        → repeated_at (tallied (counted t e) es).repeated ≡ numbers_once before (e ∷ es)
+        → (Marks 17 (counted t e).digests (e.group ∷ before) → length (counted t e).digests ≡ 17 → (counted t e).repeated ≡ None
+        → once_of (tallied (counted t e) es).repeated ≡ numbers_once (e.group ∷ before) es)
+        → once_of (tallied (counted t e) es).repeated ≡ numbers_once before (e ∷ es)
     go true new below =
-        let zero_still : (counted t e).repeated ≡ 0 = ap (λ (x : Seen). x.repeated) (counted_new t e new) ∙ z in
+        let none_still : (counted t e).repeated ≡ None = ap (λ (x : Seen). x.repeated) (counted_new t e new) ∙ z in
         repeated_later t e es before sound.0 marks new
-        (below (marks_new t e es before sound.0 marks new len) (counted_length t e ∙ len) zero_still)
+        (below (marks_new t e es before sound.0 marks new len) (counted_length t e ∙ len) none_still)
     go false old below = repeated_here t e es before sound.0 marks old z
 
 -- ---- each group's digest
@@ -245,14 +228,13 @@ digests_at (suc n) g es (suc i) h =
     digests_at n (suc g) es i (omega arith) ∙ ap (λ x. digest_for x es) k
 
 -- where the digest of a group begins, out of the table
-pub table_has : (o : Said) (g : ℕ) → g < 17 → get_or (table_of (value o)) g 0 ≡ digest_for g o.entries
+pub table_has : (o : Said) (g : ℕ) → g < 17 → get_or (table_of o) g 0 ≡ digest_for g o.entries
 unfolding table_of
 table_has o g h = digests_at 17 0 o.entries g h ∙ ap (λ x. digest_for x o.entries) (zero-add g)
 
-pub table_length : (x : Read Said) → length (table_of x) ≡ 17
+pub table_length : (o : Said) → length (table_of o) ≡ 17
 unfolding table_of
-table_length (value o) = digests_length 17 0 o.entries
-table_length (refusal n p) = length-replicate {A = ℕ} 17 0
+table_length o = digests_length 17 0 o.entries
 
 new_digest : (g d : ℕ) → g < 17 → cond (is_new none g) d (get_or none.digests g 0) ≡ d
 unfolding is_new
@@ -271,61 +253,46 @@ seen_table es sound =
 -- ---- the tests after all entries, and what follows
 
 seen_check_lem : (es : List GroupHash) (at : ℕ) → AllSound es → seen_check (tallied none es) at ≡ entries_check es at
-unfolding seen_check entries_check repeated_at
+unfolding seen_check entries_check
 seen_check_lem es at sound =
-    let r : repeated_at (tallied none es).repeated
+    let r : once_of (tallied none es).repeated
     ≡ numbers_once [] es = tallied_repeated es none [] sound (none_marked 17) (length-replicate {A = ℕ} 17 0) refl in
     let k : (tallied none es).count ≡ length es = tallied_count es none ∙ zero-add (length es) in
     rw (r, k)
 
--- the version behind them
-said_with : List GroupHash → Version → Read Said
-said_with es x = value (record { entries = es; version = x })
+-- what is kept of the entries and of the version behind them
+kept_with : List ℕ → Version → Read Object
+kept_with table x = value (record { digests = table; version = x })
 
 told_checked : (a : Outcome) (b : Read Version) (es : List GroupHash)
-    → object_answer (checked a (and_then b (said_with es)))
-    ≡ settled (or_else a (outcome_in b)) (digests_from 17 0 es) (version_in b)
-unfolding object_answer checked and_then settled table_of said_version outcome_in version_in said_with
+    → checked a (and_then b (kept_with (digests_from 17 0 es)))
+    ≡ kept (checked a (and_then b (λ x. value (record { entries = es; version = x }))))
+unfolding kept kept_of checked and_then table_of kept_with
 told_checked passed (value x) es = refl
 told_checked passed (refusal n p) es = refl
 told_checked (refused n p) b es = refl
 
-else_else : (a b c : Outcome) → or_else (or_else a b) c ≡ or_else a (or_else b c)
-else_else passed b c = refl
-else_else (refused n p) b c = refl
-
-list_told : (x : Read (List GroupHash)) (at : ℕ) (rest : Read Version) (y : Read Seen)
-    → ((es : List GroupHash) → x ≡ value es → AllSound es)
-    → and_then x (λ es. value (tallied none es)) ≡ y
-    → settled (or_else (outcome_in y) (or_else (seen_check (seen_in y) at) (outcome_in rest))) (seen_in y).digests
-    (version_in rest)
-    ≡ object_answer (and_then x (λ es. checked (entries_check es at) (and_then rest (said_with es))))
-unfolding and_then outcome_in seen_in settled object_answer table_of said_version
-list_told (value es) at rest y sound e =
+list_told : (x : Read (List GroupHash)) (at : ℕ) (rest : Read Version) → ((es : List GroupHash) → x ≡ value es → AllSound es)
+    → and_then (and_then x (λ es. value (tallied none es))) (λ t.
+    checked (seen_check t at) (and_then rest (kept_with t.digests)))
+    ≡ kept (and_then x (λ es. checked (entries_check es at)
+    (and_then rest (λ x. value (record { entries = es; version = x })))))
+unfolding kept and_then
+list_told (value es) at rest sound =
     let all = sound es refl in
-    rw (← e, seen_check_lem es at all, seen_table es all) (sym (told_checked (entries_check es at) rest es))
-list_told (refusal n p) at rest y sound e = rw (← e)
+    let t = tallied none es in
+    ap (λ (d : List ℕ). checked (seen_check t at) (and_then rest (kept_with d))) (seen_table es all)
+    ∙ ap (λ (o : Outcome). checked o (and_then rest (kept_with (digests_from 17 0 es)))) (seen_check_lem es at all)
+    ∙ told_checked (entries_check es at) rest es
+list_told (refusal n p) at rest sound = refl
 
 -- the same of the entries in a stretch
 pub walk_told : (s : List ℕ) (at from to : ℕ) (rest : Read Version)
-    → settled (or_else (or_else (outcome_in (tally_from (take to s) from none))
-    (seen_check (seen_in (tally_from (take to s) from none)) at)) (outcome_in rest))
-    (seen_in (tally_from (take to s) from none)).digests (version_in rest)
-    ≡ object_answer (and_then (entries (take to s) from) (λ es.
+    → and_then (tally_from (take to s) from none) (λ t.
+    checked (seen_check t at) (and_then rest (λ x. value (record { digests = t.digests; version = x }))))
+    ≡ kept (and_then (entries (take to s) from) (λ es.
     checked (entries_check es at) (and_then rest (λ x. value (record { entries = es; version = x })))))
-unfolding tally_from entries said_with
+unfolding tally_from entries kept_with
 walk_told s at from to rest =
     let t = take to s in
-    let y = tally_from t from none in
-    ap (λ (o : Outcome). settled o (seen_in y).digests (version_in rest))
-    (else_else (outcome_in y) (seen_check (seen_in y) at) (outcome_in rest))
-    ∙ list_told (entries t from) at rest y (all_sound (suc (length t)) t from) refl
-
--- the three things that are object_answer
-pub told_all : (r : ObjectAnswer) (x : Read Said) → r ≡ object_answer x
-    → (r.outcome ≡ outcome_in x) × ((r.digests ≡ table_of x) × (r.version ≡ said_version x))
-unfolding object_answer
-told_all r x e = (
-  ap (λ (y : ObjectAnswer). y.outcome) e,
-  (ap (λ (y : ObjectAnswer). y.digests) e, ap (λ (y : ObjectAnswer). y.version) e),
-)
+    list_told (entries t from) at rest (all_sound (suc (length t)) t from)

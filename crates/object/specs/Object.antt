@@ -12,16 +12,14 @@ use Rattle.tlv.specs.Cut.{cut, has_octets, end_check}
 use Rattle.tlv.specs.Tags as Tag
 use Rattle.tlv.specs.Versions.{Known, former, both}
 use Rattle.lent.specs.Octets.{alike, stands}
+use Rattle.object.specs.declared.entries.GroupHash as entry
 use Rattle.object.specs.declared.strings.Strings.{Strings}
 use Rattle.object.specs.declared.strings.Version.{Version}
 use Rattle.object.specs.declared.strings.Version.TheVariants.{Zero, One}
 
 -- an entry: its group's number, where its integer stands, and where its digest begins and it ends
-pub record GroupHash : Type 0 where
-  pub group : ℕ
-  pub place : ℕ
-  pub digest : ℕ
-  pub end : ℕ
+abbrev pub GroupHash : Type 0
+GroupHash = entry.GroupHash
 
 -- a one-octet integer 1-16
 unfoldable pub is_group_number : List ℕ → Stretch → Bool

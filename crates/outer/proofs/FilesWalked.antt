@@ -1,4 +1,5 @@
 -- A walk over files goes on from the end of each, whatever number of steps is allowed, as long as it is enough.
+use Rattle.outer.specs.declared.File.{File}
 use Prim.Native.Nat.{ℕ, suc, ◌+◌, ◌≤◌, ◌<◌}
 use mathlib.Core.Path.{◌≡◌, ap, sym, ◌∙◌}
 use mathlib.Core.Bool.{true, false}
@@ -15,7 +16,7 @@ use Rattle.tlv.proofs.Steps.{steps_enough}
 use Rattle.tlv.proofs.Joined.{kept_value, told_then}
 use Rattle.tlv.proofs.Past.{value_within}
 use Rattle.tlv.specs.Tags.{is_group}
-use Rattle.outer.specs.Outer.{File, file_at, files_from, files}
+use Rattle.outer.specs.Outer.{file_at, files_from, files}
 
 -- the element that a file is, and its group
 file_there : (w : List ℕ) (at : ℕ) (v : Stretch) → file_at w at ≡ value v

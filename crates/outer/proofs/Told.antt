@@ -1,15 +1,10 @@
--- What was answered is told by what the papers say of it: `walked_of` gives one reading to no two answers.
-use mathlib.Core.Path.{◌≡◌, ap, sym}
-use Rattle.refusal.proofs.Numbers.{refused_tells}
-use Rattle.tlv.specs.Read.{outcome_in}
-use Rattle.tlv.proofs.Joined.{same_value, never_value}
-use Rattle.outer.specs.declared.Walked.{Walked}
-use Rattle.outer.specs.declared.Walked.TheVariants.{Parts, Refused}
-use Rattle.outer.specs.Outer.{walked_of}
+-- What was answered is told by what the papers say of it: `read_of` gives one reading to no two answers.
+use mathlib.Core.Path.{◌≡◌}
+use Rattle.std.specs.Prelude.{Result}
+use Rattle.refusal.specs.declared.Refusal.{Refusal}
+use Rattle.tlv.specs.Read.{read_of}
+use Rattle.tlv.proofs.Told.{read_tells}
+use Rattle.outer.specs.declared.Outer.{Outer}
 
-pub walked_tells : (r s : Walked) → walked_of r ≡ walked_of s → r ≡ s
-unfolding outcome_in
-walked_tells (Parts v) (Parts u) e = ap Parts (same_value e)
-walked_tells (Parts v) (Refused s) e = absurd (never_value _ _ v (sym e))
-walked_tells (Refused r) (Parts u) e = absurd (never_value _ _ u e)
-walked_tells (Refused r) (Refused s) e = ap Refused (refused_tells r s (ap outcome_in e))
+pub walked_tells : (r s : Result Outer Refusal) → read_of r ≡ read_of s → r ≡ s
+walked_tells r s e = read_tells r s e

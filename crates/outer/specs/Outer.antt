@@ -1,25 +1,19 @@
 -- Stages 1 and 2 of a presentation: size, and the outer walk over EF.COM, the content of the security object, then group files,
 -- joined.
 use Rattle.std.specs.Prelude.{ℕ, zero, suc, cond, List, [], ◌∷◌, leb, length, get_or}
-use Rattle.refusal.specs.Numbers.{by, why_of}
+use Rattle.refusal.specs.Numbers.{by}
 use Rattle.refusal.specs.Outcome.{Outcome, unless}
 use Rattle.tlv.specs.declared.Stretch.{Stretch}
 use Rattle.tlv.specs.Read.{Read, value, refusal, and_then, checked}
 use Rattle.tlv.specs.Element.{element}
 use Rattle.outer.specs.declared.Outer.{Outer}
-use Rattle.outer.specs.declared.Walked.{Walked}
-use Rattle.outer.specs.declared.Walked.TheVariants.{Parts, Refused}
+use Rattle.outer.specs.declared.File.{File}
 use Rattle.tlv.specs.Tags.{is_group}
 use Rattle.tlv.specs.Tags as Tag
 
 -- 1: a presentation over 65,535, at 0
 unfoldable pub size_check : List ℕ → Outcome
 size_check w = unless (leb (length w) 65535) 1 0
-
--- a group file: where it starts, and where its value stands and it ends
-pub record File : Type 0 where
-  pub start : ℕ
-  pub held : Stretch
 
 -- the file that stands at a place: a group's tag, and a value that ends within the bytes
 unfoldable pub file_at : List ℕ → ℕ → Read Stretch
@@ -47,8 +41,3 @@ outer w =
 -- both stages
 unfoldable pub walked : List ℕ → Read Outer
 walked w = checked (size_check w) (outer w)
-
--- the paper's number and values of each case
-abbrev pub walked_of : Walked → Read Outer
-walked_of (Parts o) = value o
-walked_of (Refused r) = refusal (why_of r.cause) r.place

@@ -14,10 +14,11 @@ use Rattle.zone.specs.Record.{blank}
 use Rattle.text.specs.Read.{Answer, read_text}
 use Rattle.tlv.specs.Read.{Read, value, refusal, and_then, checked}
 use Rattle.tlv.specs.Element.{tlv}
+use Rattle.outer.specs.declared.File.{File}
 use Rattle.outer.specs.declared.Outer.{Outer}
 use Rattle.tlv.specs.Cut.{cut}
 use Rattle.tlv.specs.Versions.{both}
-use Rattle.outer.specs.Outer.{File, files, walked}
+use Rattle.outer.specs.Outer.{files, walked}
 use Rattle.efcom.specs.EfCom.{read_ef_com}
 use Rattle.efcom.specs.declared.Common.{Common}
 use Rattle.object.specs.Object.{Said, read_object}

@@ -14,7 +14,7 @@ use Rattle.refusal.specs.Outcome.{Outcome, passed, unless}
 use Rattle.sha256.specs.Hash.{sha256}
 use Rattle.lent.specs.Octets.{stands}
 use Rattle.tlv.specs.Tags.{group_of}
-use Rattle.outer.specs.Outer.{File}
+use Rattle.outer.specs.declared.File.{File}
 use Rattle.object.specs.Object.{GroupHash, digest_for}
 use Rattle.chip.specs.Files.{file_octets, is_expected, is_digested, file_check, files_check}
 use Rattle.presentation_theorems.specs.Presented.{Signed, Lent, file_of, IsIn, is_once, numbers, tags_of}

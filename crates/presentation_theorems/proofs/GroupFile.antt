@@ -17,10 +17,11 @@ use Rattle.tlv.specs.declared.Stretch.{Stretch}
 use Rattle.tlv.specs.Read.{Read, value, refusal, and_then}
 use Rattle.tlv.specs.Element.{tlv}
 use Rattle.tlv.proofs.Joined.{never_value, same_value, first_value, then_known, value_then}
+use Rattle.outer.specs.declared.File.{File}
 use Rattle.outer.specs.declared.Outer.{Outer}
 use Rattle.tlv.specs.Cut.{cut}
 use Rattle.tlv.specs.Tags.{group_of, is_group}
-use Rattle.outer.specs.Outer.{File, file_at, files_from, files, walked}
+use Rattle.outer.specs.Outer.{file_at, files_from, files, walked}
 use Rattle.chip.specs.Presentation.{first_file, file_or_none, group_stretch}
 use Rattle.zone.specs.Octets.{AreOctets}
 use Rattle.presentation_theorems.specs.Presented.{Lent, file_of, all_lent, IsIn, Outside, NoFile, FirstFile, place_of}

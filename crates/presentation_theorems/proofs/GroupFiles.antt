@@ -15,7 +15,8 @@ use Rattle.tlv.proofs.Joined.{never_value, same_value, kept_value, first_value, 
 use Rattle.tlv.proofs.Encoded.{Stands, length-tlv, some_head, tag_first}
 use Rattle.tlv.specs.Cut.{cut}
 use Rattle.tlv.specs.Tags.{group_of, is_group}
-use Rattle.outer.specs.Outer.{File, file_at, files_from}
+use Rattle.outer.specs.declared.File.{File}
+use Rattle.outer.specs.Outer.{file_at, files_from}
 use Rattle.chip.specs.Files.{file_octets}
 use Rattle.zone.specs.Octets.{AreOctets}
 use Rattle.presentation_theorems.specs.Presented.{Lent, file_of, all_lent, IsIn}

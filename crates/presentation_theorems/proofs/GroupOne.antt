@@ -22,7 +22,7 @@ use Rattle.tlv.proofs.Encoded.{inside}
 use Rattle.tlv.specs.Cut.{cut, end_check}
 use Rattle.lent.specs.Octets.{stands}
 use Rattle.tlv.specs.Tags.{group_of}
-use Rattle.outer.specs.Outer.{File}
+use Rattle.outer.specs.declared.File.{File}
 use Rattle.group_text.specs.Text.{moved, text_at}
 use Rattle.chip.specs.Presentation.{first_file, group_one}
 use Rattle.zone.specs.Octets.{AreOctets}

@@ -13,9 +13,10 @@ use Rattle.tlv.specs.Read.{Read, value, and_then}
 use Rattle.tlv.specs.Element.{tlv, element}
 use Rattle.tlv.proofs.Joined.{same_value, first_value, value_then, checked_value, value_checked}
 use Rattle.tlv.proofs.Encoded.{Stands}
+use Rattle.outer.specs.declared.File.{File}
 use Rattle.outer.specs.declared.Outer.{Outer}
 use Rattle.tlv.specs.Cut.{cut}
-use Rattle.outer.specs.Outer.{size_check, File, files, outer, walked}
+use Rattle.outer.specs.Outer.{size_check, files, outer, walked}
 use Rattle.zone.specs.Octets.{AreOctets}
 use Rattle.presentation_theorems.specs.Presented.{Lent, all_lent}
 use Rattle.refusal.proofs.Outcomes.{unless_kept, kept_unless}

@@ -27,8 +27,9 @@ use Rattle.tlv.specs.Versions.{both}
 use Rattle.efcom.specs.EfCom as efcom
 use Rattle.object.specs.Object as object
 use Rattle.object.proofs.EntryPlaces.{entry_stands}
+use Rattle.outer.specs.declared.File.{File}
 use Rattle.outer.specs.declared.Outer.{Outer}
-use Rattle.outer.specs.Outer.{File, size_check, file_at, files_from, files, outer, walked}
+use Rattle.outer.specs.Outer.{size_check, file_at, files_from, files, outer, walked}
 use Rattle.chip.specs.Versions.{agrees, versions_check}
 use Rattle.chip.specs.Files.{is_expected, is_digested, file_check, files_check}
 use Rattle.chip.specs.Presentation.{first_file}

@@ -10,11 +10,11 @@ use Rattle.tlv.specs.Cut.{cut, end_check}
 use Rattle.tlv.specs.Tags.{is_group, group_of}
 use Rattle.tlv.specs.Tags as Tag
 use Rattle.tlv.specs.Versions.{lds18}
+use Rattle.outer.specs.declared.File.{File}
 use Rattle.efcom.specs.declared.Common.{Common}
 use Rattle.object.specs.declared.strings.Version.{Version}
 use Rattle.object.specs.declared.strings.Version.TheVariants.{Zero, One}
 use Rattle.object.specs.Object.{GroupHash}
-use Rattle.outer.specs.Outer.{File}
 use Rattle.chip.specs.Files.{is_digested}
 use Rattle.group_text.specs.Text.{moved_to}
 use Rattle.text_theorems.specs.Ordered.{checks_of}

@@ -1,6 +1,7 @@
 -- Why and where tell the refusal: no two causes share a number, and of 9 the digit tells.
 use Prim.Native.Nat.{ℕ}
 use mathlib.Core.Path.{◌≡◌, refl, ap, sym, ◌∙◌}
+use Rattle.std.specs.Prelude.{⊤, Result, Ok, Err}
 use mathlib.Core.List.{List, [], ◌∷◌}
 use lib.ListN.{get_or}
 use native.Mathlib.Omega.{arith}
@@ -10,10 +11,6 @@ use Rattle.refusal.specs.declared.Cause.TheVariants.{Encoding, EfCom, SecurityOb
 use Rattle.refusal.specs.declared.Cause.TheVariants.{Unsound, Entry, Versions, Details, Depth, Templates, Order}
 use Rattle.refusal.specs.declared.Cause.TheVariants.{SealHeader, SealFeature, SealText, SealSignature, SealInput}
 use Rattle.refusal.specs.declared.Refusal.{Refusal}
-use Rattle.refusal.specs.declared.Verdict.{Verdict}
-use Rattle.refusal.specs.declared.Verdict.TheVariants.{Passed, Refused}
-use Rattle.refusal.specs.declared.Written.{Written}
-use Rattle.refusal.specs.declared.Written.TheVariants.{Octets, Refused as Denied}
 use Rattle.refusal.specs.Numbers.{Why, by, expecting, why_of}
 use Rattle.refusal.specs.Outcome.{Outcome, passed, refused, outcome_of}
 use Rattle.refusal.specs.Length.{Length as Answered, written, refused as denied, length_of}
@@ -70,20 +67,20 @@ refused_tells r s e =
     let q : r.place ≡ s.place = cc in
     λ i. record { cause = p i; place = q i }
 
-pub outcome_tells : (v w : Verdict) → outcome_of v ≡ outcome_of w → v ≡ w
-outcome_tells Passed Passed e = refl
-outcome_tells Passed (Refused s) e = absurd (let z : ◌≡◌ {A = ℕ} 0 1 = cc in omega arith)
-outcome_tells (Refused r) Passed e = absurd (let z : ◌≡◌ {A = ℕ} 0 1 = cc in omega arith)
-outcome_tells (Refused r) (Refused s) e = ap Refused (refused_tells r s e)
+pub outcome_tells : (v w : Result ⊤ Refusal) → outcome_of v ≡ outcome_of w → v ≡ w
+outcome_tells (Ok a) (Ok b) e = refl
+outcome_tells (Ok a) (Err s) e = absurd (let z : ◌≡◌ {A = ℕ} 0 1 = cc in omega arith)
+outcome_tells (Err r) (Ok b) e = absurd (let z : ◌≡◌ {A = ℕ} 0 1 = cc in omega arith)
+outcome_tells (Err r) (Err s) e = ap Err (refused_tells r s e)
 
 -- a length or a refusal
 refusal_of : Answered → Outcome
 refusal_of (written n) = passed
 refusal_of (denied why p) = refused why p
 
-pub length-tells : (v w : Written) → length_of v ≡ length_of w → v ≡ w
+pub length-tells : (v w : Result ℕ Refusal) → length_of v ≡ length_of w → v ≡ w
 unfolding refusal_of
-length-tells (Octets n) (Octets m) e = ap Octets (cc)
-length-tells (Octets n) (Denied s) e = absurd (let z : ◌≡◌ {A = ℕ} 0 1 = cc in omega arith)
-length-tells (Denied r) (Octets m) e = absurd (let z : ◌≡◌ {A = ℕ} 0 1 = cc in omega arith)
-length-tells (Denied r) (Denied s) e = ap Denied (refused_tells r s (ap refusal_of e))
+length-tells (Ok n) (Ok m) e = ap Ok (cc)
+length-tells (Ok n) (Err s) e = absurd (let z : ◌≡◌ {A = ℕ} 0 1 = cc in omega arith)
+length-tells (Err r) (Ok m) e = absurd (let z : ◌≡◌ {A = ℕ} 0 1 = cc in omega arith)
+length-tells (Err r) (Err s) e = ap Err (refused_tells r s (ap refusal_of e))

@@ -4,8 +4,17 @@ use mathlib.Core.Path.{◌≡◌, refl}
 use mathlib.Core.Bool.{Bool, true, false}
 use native.Mathlib.Omega.{arith}
 use Rattle.refusal.specs.Numbers.{Why, by}
-use Rattle.refusal.specs.Outcome.{Outcome, passed, refused, or_else, refused_unless, unless}
+use Rattle.std.specs.Prelude.{Result, Ok, Err}
+use Rattle.std.specs.Result.{result_and}
+use Rattle.refusal.specs.declared.Refusal.{Refusal}
+use Rattle.refusal.specs.Outcome.{Outcome, passed, refused, or_else, refused_unless, unless, outcome_of}
 use Rattle.refusal.specs.Length as told
+
+-- the library's `and` names the first of two refusals
+pub and_else : {A B : Type 0} (r : Result A Refusal) (q : Result B Refusal) → outcome_of (result_and r q)
+    ≡ or_else (outcome_of r) (outcome_of q)
+and_else (Ok a) q = refl
+and_else (Err e) q = refl
 
 pub or_else_assoc : (a b c : Outcome) → or_else (or_else a b) c ≡ or_else a (or_else b c)
 or_else_assoc passed b c = refl

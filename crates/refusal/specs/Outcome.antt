@@ -1,18 +1,17 @@
 -- What a check says in the paper's terms: that it passed, or why it refuses and at which place (document 01,
 -- "Refusal numbers").
-use Rattle.std.specs.Prelude.{ℕ, Bool, true, false}
-use Rattle.refusal.specs.declared.Verdict.{Verdict}
-use Rattle.refusal.specs.declared.Verdict.TheVariants.{Passed, Refused}
+use Rattle.std.specs.Prelude.{ℕ, Bool, true, false, Result, Ok, Err}
+use Rattle.refusal.specs.declared.Refusal.{Refusal}
 use Rattle.refusal.specs.Numbers.{Why, by, why_of}
 
 pub data Outcome : Type 0 where
   passed : Outcome
   refused : (why : Why) (place : ℕ) → Outcome
 
--- the paper's terms of each case of a verdict
-abbrev pub outcome_of : Verdict → Outcome
-outcome_of Passed = passed
-outcome_of (Refused r) = refused (why_of r.cause) r.place
+-- the paper's terms of each case of a result, whatever it gives where it passes
+abbrev pub outcome_of : {A : Type 0} → Result A Refusal → Outcome
+outcome_of (Ok a) = passed
+outcome_of (Err r) = refused (why_of r.cause) r.place
 
 -- the first of two that is a refusal
 abbrev pub or_else : Outcome → Outcome → Outcome

@@ -3,7 +3,10 @@
 
 ghost use Rattle.std.specs.Prelude.{◌≡◌};
 ghost use Rattle.refusal.specs.Numbers.{no_digit, why_of, number_of, expected_of};
-ghost use Rattle.refusal.specs.Outcome.{outcome_of, or_else, refused_unless};
+ghost use Rattle.refusal.specs.Outcome.{outcome_of, refused_unless};
+
+use std::error::Error;
+use std::fmt;
 
 // What stands where no digit is expected.
 pub const NO_DIGIT: u32 = 255;
@@ -11,7 +14,7 @@ pub const NO_DIGIT: u32 = 255;
 // The causes in the order of their numbers: 1 to 18 of document 01, "Refusal numbers"; 19 of document 02, 2026-04, 20 of its
 // 2026-01, 21 and 22 of its 2026-10, 23 of its 2026-14, 24 to 27 of its 2026-08 and 28 of its 2026-13. A check digit holds the
 // one that was expected, 0 to 9.
-#[derive(Clone, Copy)]
+#[derive(Clone, Copy, Debug, PartialEq, Eq)]
 pub enum Cause {
     Length,
     Character,
@@ -91,8 +94,27 @@ impl Cause {
     }
 }
 
-// A refusal holds its cause and its place, an offset from 0 in what was lent.
-#[derive(Clone, Copy)]
+// The cause in the words of document 01, "Refusal numbers", as far as a text has it. Of a check digit also the one that was
+// expected (document 02, 2026-07).
+impl fmt::Display for Cause {
+    fn fmt<W: fmt::Write>(&self, f: &mut fmt::Formatter<W>) -> fmt::Result {
+        match *self {
+            Cause::Length => write!(f, "text not 72, 88 or 90"),
+            Cause::Character => write!(f, "character not A-Z, 0-9, <"),
+            Cause::Code => write!(f, "document code"),
+            Cause::State => write!(f, "state or nationality"),
+            Cause::Number => write!(f, "document number"),
+            Cause::Date => write!(f, "date"),
+            Cause::Sex => write!(f, "sex"),
+            Cause::Name => write!(f, "name"),
+            Cause::Digit(expected) => write!(f, "check digit, expected {expected}"),
+            _ => write!(f, "none of a text's causes"),
+        }
+    }
+}
+
+// A refusal holds its cause and its place, an offset from 0 in what was lent. It is the error of every reader and writer.
+#[derive(Clone, Copy, Debug, PartialEq, Eq)]
 pub struct Refusal {
     pub cause: Cause,
     pub place: usize,
@@ -115,41 +137,28 @@ impl Refusal {
     {
         Refusal { cause, place }
     }
-}
 
-// What one check, or several in their order, found.
-#[derive(Clone, Copy)]
-pub enum Verdict {
-    Passed,
-    Refused(Refusal),
-}
-
-impl Verdict {
-    // A rule that holds passes; one that does not is refused at its place.
-    pub fn judged(holds: bool, cause: Cause, place: usize) -> Verdict
+    // A check: a rule that holds passes; one that does not is refused at its place.
+    pub fn unless(holds: bool, cause: Cause, place: usize) -> Result<(), Refusal>
         ensures { outcome_of result ≡ refused_unless holds (why_of cause) place }
     {
         if holds {
-            Verdict::Passed
+            Ok(())
         } else {
-            Verdict::Refused(Refusal::at(cause, place))
-        }
-    }
-
-    // This refusal, or where there is none what comes next.
-    pub fn or_else(self, next: Verdict) -> Verdict
-        ensures { outcome_of result ≡ or_else (outcome_of self) (outcome_of next) }
-    {
-        match self {
-            Verdict::Passed => next,
-            Verdict::Refused(refusal) => Verdict::Refused(refusal),
+            Err(Refusal::at(cause, place))
         }
     }
 }
 
-// What a call that writes answers: how many octets it wrote, or why it wrote none.
-#[derive(Clone, Copy)]
-pub enum Written {
-    Octets(usize),
-    Refused(Refusal),
+impl fmt::Display for Refusal {
+    fn fmt<W: fmt::Write>(&self, f: &mut fmt::Formatter<W>) -> fmt::Result {
+        let number = self.cause.number();
+        write!(
+            f,
+            "refused, {number} at place {}: {}",
+            self.place, self.cause
+        )
+    }
 }
+
+impl Error for Refusal {}

@@ -5,12 +5,12 @@ use mathlib.Core.Bool.{Bool, true, false, cond, not, ◌&&◌}
 use mathlib.Core.List.{List, [], ◌∷◌, ◌++◌}
 use lib.Dec.{eqb, leb}
 use lib.ListN.{length}
+use Rattle.std.specs.Prelude.{Option, Some, None}
 use Rattle.refusal.specs.Numbers.{by}
 use Rattle.refusal.specs.Outcome.{Outcome, passed, refused, or_else, unless}
 use Rattle.refusal.proofs.Outcomes.{refused_not_passed, both_passed}
+use Rattle.tlv.specs.declared.Count.{Count}
 use Rattle.tlv.specs.declared.Stretch.{Stretch}
-use Rattle.tlv.specs.declared.Size.{Size}
-use Rattle.tlv.specs.declared.Size.TheVariants.{Of, Unknown}
 use Rattle.tlv.specs.Read.{Read, value, refusal, and_then, checked, outcome_in}
 use Rattle.tlv.specs.Element.{element, sized, ends_within, size_at, tag_at, tag_width}
 use Rattle.tlv.proofs.Joined.{checked_outcome, same_value, checked_value}
@@ -133,13 +133,13 @@ element_row s at tag = go (eqb (tag_at s at tag) tag) (size_at s (at + tag_width
     within true v = refl
     within false v = refl
 
-    go : (b : Bool) (z : Size)
+    go : (b : Bool) (z : Option Count)
         → cond b (sized s at (at + tag_width tag) z) (refusal (by 10) at)
         ≡ checked (unless (b && (is_length z && leb (stretch_by (at + tag_width tag) z).to (length s))) 10 at)
         (value (stretch_by (at + tag_width tag) z))
     go false z = refl
-    go true Unknown = refl
-    go true (Of z) = within (leb _ (length s)) _
+    go true None = refl
+    go true (Some z) = within (leb _ (length s)) _
 
 pub coded_within : (s : List ℕ) (at tag : ℕ) → coded s at tag ≡ passed
     → (at < (stretch_at s at tag).from) × ((stretch_at s at tag).from ≤ (stretch_at s at tag).to)

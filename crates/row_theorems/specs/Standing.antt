@@ -1,16 +1,15 @@
 -- Elements said of the octets alone, for the rows of checks: whether one is rightly coded at a place. Where its value stands, and
 -- which places have one, is said in tlv `specs/Places.antt`. Document 01, "Stages of a presentation", Encoding.
-use Rattle.std.specs.Prelude.{ℕ, ◌+◌, Bool, true, false, ◌&&◌, List, [], ◌∷◌, ◌++◌, eqb, leb, length}
+use Rattle.std.specs.Prelude.{Option, Some, None, ℕ, ◌+◌, Bool, true, false, ◌&&◌, List, [], ◌∷◌, ◌++◌, eqb, leb, length}
 use Rattle.refusal.specs.Outcome.{Outcome, unless}
-use Rattle.tlv.specs.declared.Size.{Size}
-use Rattle.tlv.specs.declared.Size.TheVariants.{Of, Unknown}
+use Rattle.tlv.specs.declared.Count.{Count}
 use Rattle.tlv.specs.Element.{size_at, tag_at, tag_width}
 use Rattle.tlv.specs.Places.{stretch_at}
 
 -- "lengths definite and shortest: 00-7F, 81 80-FF, 82 0100-FFFF"
-unfoldable pub is_length : Size → Bool
-is_length (Of z) = true
-is_length Unknown = false
+unfoldable pub is_length : Option Count → Bool
+is_length (Some z) = true
+is_length None = false
 
 -- "tags as named, lengths definite and shortest [..]; each element ends within the one that holds it"
 unfoldable pub is_coded : List ℕ → (at tag : ℕ) → Bool

@@ -7,6 +7,7 @@ use mathlib.Core.List.{List, []}
 use native.Mathlib.Omega.{arith}
 use lib.Dec.{eqb, ltb}
 use lib.ListN.{length, drop}
+use Rattle.std.specs.Prelude.{Option, Some, None}
 use Rattle.lent.proofs.Bools.{and_both, either_way}
 use Rattle.refusal.specs.Numbers.{by, number_of}
 use Rattle.refusal.specs.Calls.{of_entry, of_text_writer, entered, is_of}
@@ -17,8 +18,7 @@ use Rattle.refusal.proofs.Outcomes.{both_passed, unless_kept}
 use Rattle.refusal.proofs.Each.{Each, each_passed, each_else, each_unless}
 use Rattle.refusal.proofs.Calls.{never_of, entered_of}
 use Rattle.refusal.proofs.Output.{write_answers}
-use Rattle.zone.specs.declared.form.Recognised.{Recognised}
-use Rattle.zone.specs.declared.form.Recognised.TheVariants.{As, Unknown}
+use Rattle.zone.specs.declared.form.Form.{Form}
 use Rattle.zone.specs.declared.record.Record.{Record}
 use Rattle.zone.specs.Form.{total}
 use Rattle.zone.specs.Record.{blank}
@@ -93,10 +93,10 @@ module _ (at : ℕ) where
     when_none = λ e. absurd (next_not_none n e);
   }
 
-  entry_steps : (told : Recognised) (s : List ℕ) → Steps at (run.entry_by told s at)
+  entry_steps : (told : Option Form) (s : List ℕ) → Steps at (run.entry_by told s at)
   unfolding run.entry_by
-  entry_steps Unknown s = refused_steps
-  entry_steps (As f) s = either_way (Steps at) (run.is_entry f s) _ _
+  entry_steps None s = refused_steps
+  entry_steps (Some f) s = either_way (Steps at) (run.is_entry f s) _ _
       (next_steps (at + run.size_in s) (run.house_in s) (run.record_in f s)) refused_steps
 
   pub run_steps : (w : List ℕ) → Steps at (run.read_entry w at)

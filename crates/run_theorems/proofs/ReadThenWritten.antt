@@ -9,11 +9,10 @@ use borrow.Author.Tests.{ltb-false}
 use lib.Dec.{eqb, ltb}
 use lib.ListN.{length, take, drop, length-drop, take-append-drop}
 use lib.Seq.{take_at, drop-drop}
+use Rattle.std.specs.Prelude.{Option, Some, None}
 use Rattle.refusal.specs.Numbers.{Why}
 use Rattle.lent.proofs.Bools.{and_both}
 use Rattle.zone.specs.declared.form.Form.{Form}
-use Rattle.zone.specs.declared.form.Recognised.{Recognised}
-use Rattle.zone.specs.declared.form.Recognised.TheVariants.{As, Unknown}
 use Rattle.zone.specs.declared.record.Record.{Record}
 use Rattle.zone.specs.Record.{blank}
 use Rattle.zone.specs.Octets.{is_octet, AreOctets}
@@ -42,7 +41,7 @@ tests f s e =
     let b = and_both (is_whole s) (is_sound (record_in f s)) a.1 in
     record { house_kept = a.0; whole = whole_told (cells row) s b.0; sound_kept = b.1 }
 
-module _ (f : Form) (s : List ℕ) (told : form_in s ≡ As f) (t : Tests f s) where
+module _ (f : Form) (s : List ℕ) (told : form_in s ≡ Some f) (t : Tests f s) where
   -- the entry of what the octets say
   entry_said : entry_of (house_in s) (record_in f s) ≡ octets_of (cells row) (values_in s)
   unfolding entry_of
@@ -72,7 +71,7 @@ same_next : (m n : ℕ) → next m ≡ next n → m ≡ n
 same_next m n e = cc
 
 module _ (w : List ℕ) (at n : ℕ) (small : AreOctets w) (there : at ≤ length w) where
-  passed_entry : (f : Form) → form_in (drop at w) ≡ As f → is_entry f (drop at w) ≡ true
+  passed_entry : (f : Form) → form_in (drop at w) ≡ Some f → is_entry f (drop at w) ≡ true
       → next (at + size_in (drop at w)) ≡ next n
       → Passed w at n (house_in (drop at w)) (record_in f (drop at w))
   unfolding size_in
@@ -91,11 +90,11 @@ module _ (w : List ℕ) (at n : ℕ) (small : AreOctets w) (there : at ≤ lengt
         octets_passed = rw gap (octets_there f s told t (every_drop is_octet at w small));
       }
 
-  passed_by : (told : Recognised) → form_in (drop at w) ≡ told → (entry_by told (drop at w) at).onward ≡ next n
+  passed_by : (told : Option Form) → form_in (drop at w) ≡ told → (entry_by told (drop at w) at).onward ≡ next n
       → Passed w at n (entry_by told (drop at w) at).house (entry_by told (drop at w) at).kept
   unfolding entry_by no_entry
-  passed_by Unknown p e = absurd (refused_not_next _ at n e)
-  passed_by (As f) p e = go (is_entry f (drop at w)) refl e
+  passed_by None p e = absurd (refused_not_next _ at n e)
+  passed_by (Some f) p e = go (is_entry f (drop at w)) refl e
     where
       answer : Bool → Standing
       answer x = cond x (record {

@@ -8,7 +8,7 @@ use native.Mathlib.Omega.{arith}
 use borrow.Author.Tests.{ne_eqb, le-ltb}
 use lib.ListN.{length, take, drop, length-append, length-drop, take-append-drop}
 use lib.Seq.{drop_at, length-take-le}
-use Rattle.zone.specs.declared.form.Recognised.TheVariants.{As}
+use Rattle.std.specs.Prelude.{Some}
 use Rattle.zone.specs.declared.record.Record.{Record}
 use Rattle.sound.specs.Sound.{is_sound}
 use Rattle.sound.proofs.SoundRecord.{Sound, taken_apart}
@@ -29,7 +29,7 @@ use Rattle.runs.proofs.ValuesBack.{record_back}
 -- what stands in a range that begins with an entry
 pub record Decoded (h : ℕ) (r : Record) (s : List ℕ) : Type 0 where
   pub house_told : house_in s ≡ h
-  pub form_told : form_in s ≡ As r.form
+  pub form_told : form_in s ≡ Some r.form
   pub record_told : record_in r.form s ≡ r
   pub is_entry_lem : is_entry r.form s ≡ true
   pub length-told : size_in s ≡ length (entry_of h r)
@@ -54,7 +54,7 @@ module _ (h : ℕ) (r : Record) (house : is_house h ≡ true) (sound : is_sound 
     unfolding house_in said
     house_read = ap (λ (vs : List (List ℕ)). number_of vs cell.house) values_said
 
-    form_read : form_in s ≡ As r.form
+    form_read : form_in s ≡ Some r.form
     unfolding form_in said
     form_read = ap (λ (vs : List (List ℕ)). form_by (number_of vs cell.form)) values_said ∙ (entered_tells r.form).0
 

@@ -1,4 +1,5 @@
 -- The lengths of a record that is read, be it an entry's or the blank one: the number's room, and what six bits and five say.
+use Rattle.std.specs.Prelude.{Option, Some, None}
 use Prim.Native.Nat.{ℕ, ◌+◌, ◌<◌, ◌≤◌}
 use mathlib.Core.List.{List}
 use native.Mathlib.Omega.{arith}
@@ -7,8 +8,6 @@ use lib.ListN.{length, drop}
 use Rattle.lent.proofs.Bools.{either_way}
 use Rattle.zone.specs.Part as text
 use Rattle.zone.specs.declared.form.Form.{Form}
-use Rattle.zone.specs.declared.form.Recognised.{Recognised}
-use Rattle.zone.specs.declared.form.Recognised.TheVariants.{As, Unknown}
 use Rattle.zone.specs.declared.record.Record.{Record}
 use Rattle.zone.specs.Rooms.{number_room}
 use Rattle.zone.specs.Record.{blank, holding}
@@ -45,10 +44,10 @@ entry_short f s =
 abbrev ShortKept : Standing → Type 0
 ShortKept x = Short x.kept
 
-short_by : (o : Recognised) (s : List ℕ) (at : ℕ) → Short (entry_by o s at).kept
+short_by : (o : Option Form) (s : List ℕ) (at : ℕ) → Short (entry_by o s at).kept
 unfolding entry_by no_entry
-short_by (As f) s at = either_way ShortKept (is_entry f s) _ (no_entry at) (entry_short f s) blank_short
-short_by Unknown s at = blank_short
+short_by (Some f) s at = either_way ShortKept (is_entry f s) _ (no_entry at) (entry_short f s) blank_short
+short_by None s at = blank_short
 
 pub short_read : (w : List ℕ) (at : ℕ) → Short (read_entry w at).kept
 unfolding read_entry no_entry

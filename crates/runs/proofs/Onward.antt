@@ -1,5 +1,7 @@
 -- What one answer of a run's reader says of the place where it reads: that it is the end, that the next offset is behind it, or
 -- that it is refused by 18 there.
+use Rattle.std.specs.Prelude.{Option, Some, None}
+use Rattle.zone.specs.declared.form.Form.{Form}
 use Prim.Native.Nat.{ℕ, ◌+◌, ◌<◌}
 use mathlib.Core.Path.{◌≡◌, refl, sym}
 use mathlib.Core.Logic.{◌⊎◌, inl, inr}
@@ -10,8 +12,6 @@ use borrow.Author.Tests.{eqb-true, eqb-false}
 use lib.Dec.{eqb, ltb}
 use lib.ListN.{length, drop}
 use Rattle.refusal.specs.Numbers.{Why, by}
-use Rattle.zone.specs.declared.form.Recognised.{Recognised}
-use Rattle.zone.specs.declared.form.Recognised.TheVariants.{As, Unknown}
 use Rattle.zone.specs.Record.{blank}
 use Rattle.runs.specs.Run.{Onward, next, none, refused, house_in, form_in, record_in, size_in, is_entry, entry_by}
 use Rattle.runs.specs.Run.{no_entry, read_entry}
@@ -26,11 +26,11 @@ pub next_not_none : (n : ℕ) → next n ≡ none → ⊥
 next_not_none n e = let z : ◌≡◌ {A = ℕ} 0 1 = cc in omega arith
 
 -- an entry is passed over, or the answer is 18 here
-entry_or_not : (told : Recognised) (s : List ℕ) (at : ℕ) (o : Onward) → (entry_by told s at).onward ≡ o
+entry_or_not : (told : Option Form) (s : List ℕ) (at : ℕ) (o : Onward) → (entry_by told s at).onward ≡ o
     → (o ≡ next (at + size_in s)) ⊎ (o ≡ refused (by 18) at)
 unfolding entry_by no_entry
-entry_or_not Unknown s at o e = inr (sym e)
-entry_or_not (As f) s at o e = go (is_entry f s) e
+entry_or_not None s at o e = inr (sym e)
+entry_or_not (Some f) s at o e = go (is_entry f s) e
   where
     go : (x : Bool)
         → (cond x (record { onward = next (at + size_in s); house = house_in s; kept = record_in f s })

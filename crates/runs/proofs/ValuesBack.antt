@@ -1,4 +1,5 @@
 -- A record and the values of its row tell each other.
+use Rattle.std.specs.Prelude.{Some}
 use Prim.Native.Nat.{ℕ, ◌+◌}
 use mathlib.Core.Path.{◌≡◌, refl, ap, sym, ◌∙◌}
 use mathlib.Core.Bool.{true}
@@ -12,7 +13,6 @@ use Rattle.zone.specs.Part.{Part, code, state, number, nationality, birth, sex, 
 use Rattle.zone.specs.Record.{trimmed, plain, plain_room, is_plain, held_rows, held, holding}
 use Rattle.zone.specs.Rooms.{number_room, name_room, own_room}
 use Rattle.zone.specs.declared.form.Form.{Form}
-use Rattle.zone.specs.declared.form.Recognised.TheVariants.{As}
 use Rattle.zone.specs.declared.record.Record.{Record}
 use Rattle.zone.proofs.FormTold.{tells_entered}
 use Rattle.zone.proofs.Holding.{each_plain, held_plain, same_holding}
@@ -46,7 +46,7 @@ record_back house r s =
     ∙ s.again
 
 -- and the values that bits say are those of the record that they say, where it is sound
-module _ (f : Form) (s : List ℕ) (told : form_in s ≡ As f) (o : Sound (record_in f s)) where
+module _ (f : Form) (s : List ℕ) (told : form_in s ≡ Some f) (o : Sound (record_in f s)) where
   plain_back : (x : Part) → is_plain x ≡ true
       → said_of (values_in s) x ≡ map character_of (numbers_at s (start x) (plain_room x) 6)
       → map code_of (held (record_in f s) x) ≡ numbers_at s (start x) (plain_room x) 6

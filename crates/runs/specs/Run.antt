@@ -1,12 +1,12 @@
 -- Reading a run: document 01, "A run is read entry by entry, each with the offset of the next", and 18 of "Refusal numbers".
+use Rattle.std.specs.Prelude.{Option, Some, None, Result, Ok, Err}
+use Rattle.refusal.specs.declared.Refusal.{Refusal}
 use Rattle.std.specs.Prelude.{ℕ, ◌+◌, Bool, cond, ◌&&◌, List, [], ◌∷◌, map, eqb, ltb, length, drop, get_or}
 use Rattle.refusal.specs.Numbers.{Why, by, why_of}
 use Rattle.zone.specs.Part as text
 use Rattle.zone.specs.Part.{number, sex}
 use Rattle.zone.specs.Rows.{◌is◌, in_rows}
 use Rattle.zone.specs.declared.form.Form.{Form}
-use Rattle.zone.specs.declared.form.Recognised.{Recognised}
-use Rattle.zone.specs.declared.form.Recognised.TheVariants.{As, Unknown}
 use Rattle.zone.specs.declared.record.Record.{Record}
 use Rattle.zone.specs.Codes.{character_of}
 use Rattle.zone.specs.Record.{blank, trimmed, holding}
@@ -16,8 +16,6 @@ use Rattle.zone.specs.Form.{form_by}
 use Rattle.entry.specs.Codes.{sex_by}
 use Rattle.entry.specs.Entry.{is_house}
 use Rattle.entry.specs.Row.{Part, house, form, field, row, cells, value_of}
-use Rattle.runs.specs.declared.run.Step.{Step}
-use Rattle.runs.specs.declared.run.Step.TheVariants.{Next, End, Refused}
 use Rattle.runs.specs.declared.run.Standing as code
 
 -- where a run goes on: at the next offset, at its end, or not at all
@@ -26,20 +24,17 @@ pub data Onward : Type 0 where
   none : Onward
   refused : (why : Why) (place : ℕ) → Onward
 
--- the paper's number and values of each case
-abbrev pub onward_of : Step → Onward
-onward_of (Next offset) = next offset
-onward_of End = none
-onward_of (Refused r) = refused (why_of r.cause) r.place
-
 -- what stands at an offset, in the paper's terms
 pub record Standing : Type 0 where
   pub onward : Onward
   pub house : ℕ
   pub kept : Record
 
-unfoldable pub standing_of : code.Standing → Standing
-standing_of r = record { onward = onward_of r.step; house = r.house; kept = r.kept }
+-- the paper's number and values of each case; but for an entry house 0 and the blank record
+abbrev pub standing_of : Result (Option code.Standing) Refusal → Standing
+standing_of (Ok (Some s)) = record { onward = next s.next; house = s.house; kept = s.kept }
+standing_of (Ok None) = record { onward = none; house = 0; kept = blank }
+standing_of (Err r) = record { onward = refused (why_of r.cause) r.place; house = 0; kept = blank }
 
 -- what the values of a row say of a part: one number, or characters
 abbrev pub number_of : List (List ℕ) → Part → ℕ
@@ -65,7 +60,7 @@ values_in s = values_at (cells row) s 0
 unfoldable pub house_in : List ℕ → ℕ
 house_in s = number_of (values_in s) house
 
-unfoldable pub form_in : List ℕ → Recognised
+unfoldable pub form_in : List ℕ → Option Form
 form_in s = form_by (number_of (values_in s) form)
 
 unfoldable pub record_in : Form → List ℕ → Record
@@ -86,10 +81,10 @@ is_entry f s = is_house (house_in s) && (is_whole s && is_sound (record_in f s))
 unfoldable pub no_entry : ℕ → Standing
 no_entry at = record { onward = refused (by 18) at; house = 0; kept = blank }
 
-unfoldable pub entry_by : Recognised → List ℕ → ℕ → Standing
-entry_by (As f) s at =
+unfoldable pub entry_by : Option Form → List ℕ → ℕ → Standing
+entry_by (Some f) s at =
     cond (is_entry f s) (record { onward = next (at + size_in s); house = house_in s; kept = record_in f s }) (no_entry at)
-entry_by Unknown s at = no_entry at
+entry_by None s at = no_entry at
 
 -- at the end the answer is that none is left; an offset past the end is 18 at that offset
 unfoldable pub read_entry : List ℕ → ℕ → Standing

@@ -1,9 +1,11 @@
 -- A seal of an emergency document: document 02, 2026-08. "The answer is header fields, record and signature. Refusals, in this
 -- order: 1, over 65,535 octets, at 0; 24, a header field, ..; 25, a feature ..; 26, the C40 of feature 02 ..; 27, signature zone
 -- ..; then those of the text, at the feature's first octet."
-use Rattle.std.specs.Prelude.{ℕ, not, List, eqb, leb, length, take, drop}
+use Rattle.std.specs.Prelude.{ℕ, not, List, Result, Ok, Err, eqb, leb, length, take, drop}
 use Rattle.refusal.specs.Outcome as outcome
-use Rattle.refusal.specs.Outcome.{unless, outcome_of}
+use Rattle.refusal.specs.Outcome.{unless}
+use Rattle.refusal.specs.Numbers.{why_of}
+use Rattle.refusal.specs.declared.Refusal.{Refusal}
 use Rattle.zone.specs.declared.form.Source.TheVariants as source
 use Rattle.zone.specs.Record.{blank}
 use Rattle.zone.specs.declared.record.Record.{Record}
@@ -75,10 +77,6 @@ unfoldable pub read_seal : List ℕ → SealAnswer
 read_seal s = answer_by (said_in s)
 
 -- the paper's number and values of what the code answers
-unfoldable pub answer_of : Seal → SealAnswer
-answer_of r = record {
-  outcome = outcome_of r.verdict;
-  header = r.header;
-  kept = r.kept;
-  signature = r.signature;
-}
+unfoldable pub answer_of : Result Seal Refusal → SealAnswer
+answer_of (Ok r) = record { outcome = outcome.passed; header = r.header; kept = r.kept; signature = r.signature }
+answer_of (Err e) = answer_by (refusal (why_of e.cause) e.place)

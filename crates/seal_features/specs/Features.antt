@@ -1,15 +1,13 @@
 -- The features of a seal: document 02, 2026-08, "then features of tag, length and value", lengths as in document 01. "25, a
 -- feature wrongly coded or cut off, or feature 02 of another length or a second time, at it".
 use Rattle.std.specs.Prelude.{ℕ, zero, suc, Bool, true, cond, ◌&&◌, ◌||◌, List, eqb, leb, length, get_or}
-use Rattle.refusal.specs.Numbers.{Why, by, why_of}
+use Rattle.refusal.specs.Numbers.{Why, by}
 use Rattle.refusal.specs.Outcome.{unless}
 use Rattle.tlv.specs.declared.Stretch.{Stretch}
 use Rattle.tlv.specs.Read.{Read, value, refusal, and_then, checked}
 use Rattle.tlv.specs.Element.{element}
 use Rattle.tlv.specs.Cut.{has_octets}
 use Rattle.seal_features.specs.declared.features.Features.{Features}
-use Rattle.seal_features.specs.declared.features.Walked.{Walked}
-use Rattle.seal_features.specs.declared.features.Walked.TheVariants.{Found, Refused}
 
 -- a reading whose refusals have a number of their own
 unfoldable pub numbered : {A : Type 0} → Why → Read A → Read A
@@ -49,8 +47,3 @@ features_from (suc more) s at text =
 -- no feature is empty, so that there are no more of them than octets
 unfoldable pub features : List ℕ → ℕ → Read Features
 features s at = features_from (suc (length s)) s at 0
-
--- the paper's number and values of each case
-abbrev pub walked_of : Walked → Read Features
-walked_of (Found f) = value f
-walked_of (Refused r) = refusal (why_of r.cause) r.place

@@ -1,39 +1,34 @@
 // The features, walked once from the left: unknown ones are passed over, feature 02 is found.
 ghost use Rattle.std.specs.Prelude.{◌≡◌};
 ghost use Rattle.refusal.specs.Numbers.{why_of};
-ghost use Rattle.tlv.specs.Element.{taken_of};
+ghost use Rattle.tlv.specs.Read.{read_of};
 ghost use Rattle.seal_features.specs.Features as F;
 
 use refusal::{Cause, Refusal};
+use tlv::Stretch;
 use tlv::cut::has_octets;
-use tlv::{Stretch, Taken};
 
 // The text of an emergency document, and what no feature has for a tag.
 const TEXT: u8 = 0x02;
 
 pub(crate) const SIGNATURE: u8 = 0xFF;
 
-// Where feature 02 begins, 0 where there is none, and where the features end.
-#[derive(Clone, Copy)]
+// Where feature 02 begins, 0 where there is none, and where the features end. 0 and no Option, since `seal_checks` speaks of the
+// place of every seal, and no feature stands at 0.
+#[derive(Clone, Copy, Debug, PartialEq, Eq)]
 pub struct Features {
     pub text: usize,
     pub end: usize,
 }
 
-#[derive(Clone, Copy)]
-pub enum Walked {
-    Found(Features),
-    Refused(Refusal),
-}
-
 // A refusal of an element has another number in a seal.
-pub(crate) fn numbered(taken: Taken, cause: Cause) -> Taken
-    ensures { taken_of result ≡ F.numbered (why_of cause) (taken_of taken) }
+pub(crate) fn numbered(taken: Result<Stretch, Refusal>, cause: Cause) -> Result<Stretch, Refusal>
+    ensures { read_of result ≡ F.numbered (why_of cause) (read_of taken) }
 {
-    match taken {
-        Taken::Value(v) => Taken::Value(v),
-        Taken::Refused(why) => Taken::Refused(Refusal::at(cause, why.place)),
-    }
+    taken.map_err(|why| Refusal {
+        cause,
+        place: why.place,
+    })
 }
 
 // Feature 02 has 48 octets and stands once; others are passed over.
@@ -48,19 +43,12 @@ fn keeps_rule(s: &[u8], at: usize, text: usize, v: Stretch) -> bool
 }
 
 // The value of the feature that stands at a place, or 25 there.
-fn feature_at(s: &[u8], at: usize, text: usize) -> Taken
-    ensures { taken_of result ≡ F.feature_at s.now at text }
+fn feature_at(s: &[u8], at: usize, text: usize) -> Result<Stretch, Refusal>
+    ensures { read_of result ≡ F.feature_at s.now at text }
 {
-    match numbered(tlv::behind_tag(s, at, false), Cause::SealFeature) {
-        Taken::Value(v) => {
-            if keeps_rule(s, at, text, v) {
-                Taken::Value(v)
-            } else {
-                Taken::Refused(Refusal::at(Cause::SealFeature, at))
-            }
-        }
-        Taken::Refused(why) => Taken::Refused(why),
-    }
+    let v = numbered(tlv::behind_tag(s, at, false), Cause::SealFeature)?;
+    Refusal::unless(keeps_rule(s, at, text, v), Cause::SealFeature, at)?;
+    Ok(v)
 }
 
 fn is_end(s: &[u8], at: usize) -> bool
@@ -76,23 +64,15 @@ fn text_place(s: &[u8], at: usize, text: usize) -> usize
 }
 
 // From a place up to FF or the end.
-pub fn walk(s: &[u8], start: usize) -> Walked
-    ensures { F.walked_of result ≡ F.features s.now start }
+pub fn walk(s: &[u8], start: usize) -> Result<Features, Refusal>
+    ensures { read_of result ≡ F.features s.now start }
 {
     let mut at = start;
     let mut text = 0;
-    loop {
-        if is_end(s, at) {
-            return Walked::Found(Features { text, end: at });
-        }
-        match feature_at(s, at, text) {
-            Taken::Value(v) => {
-                text = text_place(s, at, text);
-                at = v.to;
-            }
-            Taken::Refused(why) => {
-                return Walked::Refused(why);
-            }
-        }
+    while !is_end(s, at) {
+        let v = feature_at(s, at, text)?;
+        text = text_place(s, at, text);
+        at = v.to;
     }
+    Ok(Features { text, end: at })
 }

@@ -6,7 +6,7 @@ ghost use Rattle.seal_header.specs.Header as Head;
 
 use crate::reference;
 use field::letters::is_state;
-use refusal::{Cause, Verdict};
+use refusal::{Cause, Refusal};
 use seal_fields::day::{Day, day_at, is_day};
 use seal_fields::spaces::to_fillers;
 use zone::alphabet::FILLER;
@@ -27,10 +27,9 @@ pub struct Header {
     pub category: u8,
 }
 
-// What was decided of a header, what it says, and where the features begin. It says nothing of worth where it is refused.
+// What a header says, and where the features begin.
 #[derive(Clone, Copy)]
 pub struct Headed {
-    pub verdict: Verdict,
     pub header: Header,
     pub end: usize,
 }
@@ -80,28 +79,28 @@ fn country_in(s: &[u8]) -> [u8; Form::STATE]
 }
 
 // The fields up to the reference.
-fn front_check(s: &[u8], country: [u8; Form::STATE], text: &[u8]) -> Verdict
+fn front_check(s: &[u8], country: [u8; Form::STATE], text: &[u8]) -> Result<(), Refusal>
     ensures { outcome_of result ≡ Head.front_check s.now country text.now }
 {
-    let first = Verdict::judged(lent::octet(s, 0) == 0xDC, Cause::SealHeader, 0);
-    let version = Verdict::judged(is_version(lent::octet(s, 1)), Cause::SealHeader, 1);
-    let state = Verdict::judged(is_state(&country), Cause::SealHeader, 2);
-    let signer = Verdict::judged(reference::is_reference(text), Cause::SealHeader, 4);
-    first.or_else(version.or_else(state.or_else(signer)))
+    let first = Refusal::unless(lent::octet(s, 0) == 0xDC, Cause::SealHeader, 0);
+    let version = Refusal::unless(is_version(lent::octet(s, 1)), Cause::SealHeader, 1);
+    let state = Refusal::unless(is_state(&country), Cause::SealHeader, 2);
+    let signer = Refusal::unless(reference::is_reference(text), Cause::SealHeader, 4);
+    first.and(version.and(state.and(signer)))
 }
 
 // The fields behind it, which stand where its width puts them.
-fn back_check(s: &[u8], v: usize, issued: Day, signed: Day) -> Verdict
+fn back_check(s: &[u8], v: usize, issued: Day, signed: Day) -> Result<(), Refusal>
     requires { v ≤ 174 }
     ensures { outcome_of result ≡ Head.back_check s.now v issued signed }
 {
-    let first = Verdict::judged(is_day(issued), Cause::SealHeader, 4 + v);
-    let second = Verdict::judged(is_day(signed), Cause::SealHeader, 7 + v);
+    let first = Refusal::unless(is_day(issued), Cause::SealHeader, 4 + v);
+    let second = Refusal::unless(is_day(signed), Cause::SealHeader, 7 + v);
     let definition = lent::octet(s, 10 + v) == 0x5E;
     let category = lent::octet(s, 11 + v) == 0x03;
-    let third = Verdict::judged(definition, Cause::SealHeader, 10 + v);
-    let fourth = Verdict::judged(category, Cause::SealHeader, 11 + v);
-    first.or_else(second.or_else(third.or_else(fourth)))
+    let third = Refusal::unless(definition, Cause::SealHeader, 10 + v);
+    let fourth = Refusal::unless(category, Cause::SealHeader, 11 + v);
+    first.and(second.and(third.and(fourth)))
 }
 
 // What is handed out: of the reference the signer, and what stands behind it.
@@ -132,25 +131,23 @@ fn header_by(
 }
 
 // A header whose reference has these characters, in so many octets.
-fn read_by(s: &[u8], text: &[u8], v: usize) -> Headed
+fn read_by(s: &[u8], text: &[u8], v: usize) -> Result<Headed, Refusal>
     requires { (v ≤ 174) × (length text.now ≤ before s.now + 255) }
     ensures { Head.HeadsBy s.now text.now v result }
 {
     let country = country_in(s);
     let issued = day_at(s, 4 + v);
     let signed = day_at(s, 7 + v);
-    let front = front_check(s, country, text);
-    let verdict = front.or_else(back_check(s, v, issued, signed));
-    let header = header_by(s, country, text, v, issued, signed);
-    Headed {
-        verdict,
-        header,
+    front_check(s, country, text)?;
+    back_check(s, v, issued, signed)?;
+    Ok(Headed {
+        header: header_by(s, country, text, v, issued, signed),
         end: 12 + v,
-    }
+    })
 }
 
 // The header, judged from the left: 24 at the first field that is wrong, cut off or not there.
-pub fn read(s: &[u8]) -> Headed
+pub fn read(s: &[u8]) -> Result<Headed, Refusal>
     ensures { Head.Heads s.now result }
 {
     let count = reference::length(s);

@@ -8,6 +8,7 @@ use native.Mathlib.Omega.{arith}
 use borrow.Author.Tests.{eq-eqb}
 use lib.Dec.{eqb}
 use lib.ListN.{length}
+use Rattle.std.specs.Prelude.{Option, Some, None}
 use Rattle.lent.proofs.Bools.{and_both, both_and}
 use Rattle.refusal.specs.Numbers.{Why, by, number_of}
 use Rattle.refusal.specs.Calls.{of_fields, of_text, of_seal, tells}
@@ -15,9 +16,8 @@ use Rattle.refusal.specs.Outcome.{passed, refused}
 use Rattle.refusal.proofs.Outcomes.{kept_unless}
 use Rattle.refusal.proofs.Calls.{never_told, tells_within, tells_but}
 use Rattle.refusal.proofs.Each.{Each, each_passed, each_refused}
+use Rattle.zone.specs.declared.form.Form.{Form}
 use Rattle.zone.specs.declared.form.Source.TheVariants.{Seal}
-use Rattle.zone.specs.declared.form.Recognised.{Recognised}
-use Rattle.zone.specs.declared.form.Recognised.TheVariants.{As, Unknown}
 use Rattle.zone.specs.Alphabet.{is_digit, is_letter, is_filler, is_character, is_foreign, every, first_foreign, filler}
 use Rattle.zone.specs.Form.{form_of}
 use Rattle.zone.specs.Record.{blank}
@@ -67,9 +67,9 @@ passed_other : (t : List ℕ) → characters t ≡ passed → Each Other (read_t
 unfolding read_text read_by
 passed_other t fine = go (form_of Seal t)
   where
-    go : (told : Recognised) → Each Other (read_by told t).outcome
-    go Unknown = each_answered Other (refused (by 1) 0) blank (each_refused Other (by 1) 0 (λ e. omega (arith, e)))
-    go (As f) =
+    go : (told : Option Form) → Each Other (read_by told t).outcome
+    go None = each_answered Other (refused (by 1) 0) blank (each_refused Other (by 1) 0 (λ e. omega (arith, e)))
+    go (Some f) =
         each_answered Other (verdict_by f t (span_of f t)) (record_by f t (span_of f t))
         (each_verdict Other f t (span_of f t) (λ n x h. never_told of_fields (by n) 2 h refl) (rw fine (each_passed Other))
         (each_expecting Other (λ d p e. omega (arith, e)) f t (span_of f t)))

@@ -1,5 +1,7 @@
 -- What was judged, and what was written, are what the definition says: where a record is fit and a header carried, the parts are
 -- the seal and as long as it; elsewhere its length decides nothing.
+use Rattle.std.specs.Prelude.{Result}
+use Rattle.refusal.specs.declared.Refusal.{Refusal}
 use Prim.Native.Nat.{ℕ, ◌≤◌}
 use mathlib.Core.Path.{◌≡◌, refl, ap, sym, ◌∙◌}
 use mathlib.Core.Bool.{Bool, true, false, cond, ◌&&◌}
@@ -8,7 +10,6 @@ use borrow.Author.Tests.{leb-true}
 use lib.Dec.{leb}
 use lib.ListN.{length}
 use Rattle.lent.proofs.Bools.{and_both}
-use Rattle.refusal.specs.declared.Written.{Written}
 use Rattle.refusal.specs.Numbers.{Why}
 use Rattle.refusal.specs.Outcome.{Outcome, passed, refused, or_else, unless}
 use Rattle.refusal.specs.Length.{length_of}
@@ -56,7 +57,7 @@ module _ (h : Header) (r : Record) (g t x : List ℕ) (text : t ≡ cond (is_fit
       let q = and_both (is_carried h) size (unless_kept (is_carried h && size) 28 0 p.1) in
       (unless_kept (is_fit r) 17 0 p.0, (q.0, leb-true (seal_width h.reference_len g) 65535 q.1))
 
-  module _ (out after : List ℕ) (w : Written) where
+  module _ (out after : List ℕ) (w : Result ℕ Refusal) where
     pub written-so : check_by h r g ≡ passed → length_of w ≡ write_answer passed (seal_width h.reference_len g) out
         → after ≡ write_out passed (seal_width h.reference_len g) (parts_of h t g) out → WritesSeal h r g out after w
     unfolding seal_answer seal_out

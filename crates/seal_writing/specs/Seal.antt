@@ -1,8 +1,9 @@
 -- Writing a seal: document 02, 2026-13, "header fields, a sound TD2 record and a signature go in; the seal's octets in version 03
 -- come out". "Refusals: 17 for an unsound or non-TD2 record, 28 for a header field that version 03 cannot carry or a signature
 -- that would take the seal over 65,535 octets, 16 for a short output, in that order, each at place 0."
+use Rattle.std.specs.Prelude.{Result}
+use Rattle.refusal.specs.declared.Refusal.{Refusal}
 use Rattle.std.specs.Prelude.{ℕ, ◌≡◌, Bool, true, false, ◌&&◌, List, ◌++◌, leb, length, take}
-use Rattle.refusal.specs.declared.Written.{Written}
 use Rattle.refusal.specs.Outcome.{Outcome, or_else, unless}
 use Rattle.refusal.specs.Length.{Length, length_of}
 use Rattle.refusal.specs.Output.{write_answer, write_out}
@@ -66,6 +67,6 @@ unfoldable pub seal_out : Header → Record → (signature out : List ℕ) → L
 seal_out h r g out = write_out (seal_check h r g) (length (seal_octets h r g)) (seal_octets h r g) out
 
 -- the whole promise: the answer, and what the output holds afterwards
-pub record WritesSeal (h : Header) (r : Record) (signature out after : List ℕ) (w : Written) : Type 0 where
+pub record WritesSeal (h : Header) (r : Record) (signature out after : List ℕ) (w : Result ℕ Refusal) : Type 0 where
   pub answer : length_of w ≡ seal_answer h r signature out
   pub output : after ≡ seal_out h r signature out

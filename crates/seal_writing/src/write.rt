@@ -10,7 +10,7 @@ ghost use Rattle.seal_writing.specs.Inner.Parts.{parts_of, seal_width};
 use crate::carried::is_carried;
 use crate::text::text_in;
 use crate::whole::{put_seal, seal_width};
-use refusal::{Cause, Refusal, Verdict, Written};
+use refusal::{Cause, Refusal};
 use seal_header::header::Header;
 use zone::alphabet::FILLER;
 use zone::form::Form;
@@ -23,32 +23,28 @@ fn write_parts(
     signature: &[u8],
     wide: usize,
     out: &mut [u8],
-) -> Written
+) -> Result<usize, Refusal>
     requires { (wide ≡ seal_width h.reference_len signature.now) × (wide ≤ 65535) }
     ensures result_value { length_of result ≡ write_answer passed wide out.old }
     ensures out_after { out.new ≡ write_out passed wide (parts_of h text signature.now) out.old }
 {
     if wide <= out.len() {
         put_seal(&mut out[..wide], h, text, signature);
-        Written::Octets(wide)
+        Ok(wide)
     } else {
-        Written::Refused(Refusal::TOO_SHORT)
+        Err(Refusal::TOO_SHORT)
     }
 }
 
 // The seal of any header, record and signature at all.
-pub fn write(h: Header, r: Record, signature: &[u8], out: &mut [u8]) -> Written
+pub fn write(h: Header, r: Record, signature: &[u8], out: &mut [u8]) -> Result<usize, Refusal>
     ensures { WritesSeal h r signature.now out.old out.new result }
 {
     let mut text = [FILLER; Form::TD2_TEXT];
     let fit = text_in(r, &mut text);
     let wide = seal_width(h.reference_len, signature);
     let carried = is_carried(h) & (wide <= 65535);
-    let first = Verdict::judged(fit, Cause::Unsound, 0);
-    let second = Verdict::judged(carried, Cause::SealInput, 0);
-    let verdict = first.or_else(second);
-    match verdict {
-        Verdict::Passed => write_parts(h, text, signature, wide, out),
-        Verdict::Refused(why) => Written::Refused(why),
-    }
+    Refusal::unless(fit, Cause::Unsound, 0)?;
+    Refusal::unless(carried, Cause::SealInput, 0)?;
+    write_parts(h, text, signature, wide, out)
 }

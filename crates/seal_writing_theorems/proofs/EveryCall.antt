@@ -1,6 +1,5 @@
 -- DEMAND 1 of writing a seal: a refusal has one of the call's own numbers and place 0, and changes no octet; a success changes
--- the
--- octets that it reports and no others. And no second answer meets the promise.
+-- the octets that it reports and no others. And no second answer meets the promise.
 use Prim.Native.Nat.{ℕ}
 use mathlib.Core.Path.{◌≡◌, refl, sym, ◌∙◌}
 use mathlib.Core.Bool.{Bool, true, false, cond, ◌&&◌}
@@ -8,7 +7,8 @@ use mathlib.Core.List.{List}
 use native.Mathlib.Omega.{arith}
 use lib.Dec.{leb}
 use lib.ListN.{length}
-use Rattle.refusal.specs.declared.Written.{Written}
+use Rattle.std.specs.Prelude.{Result}
+use Rattle.refusal.specs.declared.Refusal.{Refusal}
 use Rattle.refusal.specs.Numbers.{by}
 use Rattle.refusal.specs.Calls.{of_seal_writer, of_seal_writer_in_c, is_of}
 use Rattle.refusal.specs.Outcome.{unless}
@@ -64,6 +64,6 @@ written_answers e h g out = go (is_only (read_entry e 0).onward (length e))
     }
 
 -- no second answer, and no second state of the range
-pub only_seal_written : (h : Header) (r : Record) (g out a b : List ℕ) (v w : Written) → WritesSeal h r g out a v
+pub only_seal_written : (h : Header) (r : Record) (g out a b : List ℕ) (v w : Result ℕ Refusal) → WritesSeal h r g out a v
     → WritesSeal h r g out b w → (v ≡ w) × (a ≡ b)
 only_seal_written h r g out a b v w p q = (length-tells v w (p.answer ∙ sym q.answer), p.output ∙ sym q.output)

@@ -3,7 +3,6 @@
 // Python's hashlib.
 #![tactic(auto)]
 
-use refusal::Written;
 use std::io;
 
 // 32 octets in hex.
@@ -17,10 +16,9 @@ fn print_octets(rt: &impl Print, octets: &[u8]) -> io::Result<()> {
 // The digest, or the number of its refusal.
 fn print_answer(rt: &impl Print, message: &[u8], out: &mut [u8]) -> io::Result<()> {
     match digest::digest(message, out) {
-        Written::Octets(_) => print_octets(rt, out),
-        Written::Refused(refusal) => {
-            let cause = refusal.cause;
-            let number = cause.number();
+        Ok(_) => print_octets(rt, out),
+        Err(refusal) => {
+            let number = refusal.cause.number();
             println!(rt; "refused {number}")
         }
     }

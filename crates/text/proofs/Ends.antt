@@ -1,4 +1,5 @@
 -- Where a name and the issuer's own data end, in their room and in the text.
+use Rattle.std.specs.Prelude.{Option, Some, None}
 use Prim.Native.Nat.{ℕ, ◌+◌, ◌-◌, ◌≤◌}
 use mathlib.Core.Path.{◌≡◌, refl, ap, sym, ◌∙◌}
 use mathlib.Core.List.{List}
@@ -8,8 +9,6 @@ use Rattle.refusal.specs.Outcome.{Outcome, passed, refused}
 use Rattle.refusal.proofs.Outcomes.{refused_not_passed}
 use Rattle.zone.specs.declared.form.Form.{Form}
 use Rattle.zone.specs.declared.form.Source.{Source}
-use Rattle.zone.specs.declared.form.Recognised.{Recognised}
-use Rattle.zone.specs.declared.form.Recognised.TheVariants.{As, Unknown}
 use Rattle.zone.specs.Part.{Part, name}
 use Rattle.zone.specs.Form.{form_of, start, width, field, own_part}
 use Rattle.zone.specs.Record.{trimmed, trimmed_length, padded, holding}
@@ -51,15 +50,15 @@ own_ends f t n = ends own_room (own_in f t n) (own_within f t n)
 NameKept : Answer → List ℕ → Type 0
 NameKept a t = a.kept.name_len ≡ trimmed_length (field a.kept.form name t)
 
-kept_by : (m : Recognised) (t : List ℕ) → (read_by m t).outcome ≡ passed → NameKept (read_by m t) t
+kept_by : (m : Option Form) (t : List ℕ) → (read_by m t).outcome ≡ passed → NameKept (read_by m t) t
 unfolding NameKept read_by answered record_by holding in_text
-kept_by (As f) t h = go (verdict_by f t (span_of f t)) h
+kept_by (Some f) t h = go (verdict_by f t (span_of f t)) h
   where
     go : (o : Outcome) → (answered o (record_by f t (span_of f t))).outcome ≡ passed
         → NameKept (answered o (record_by f t (span_of f t))) t
     go passed e = trimmed_length_lem (field f name t)
     go (refused n p) e = absurd (refused_not_passed e)
-kept_by Unknown t h = absurd (refused_not_passed h)
+kept_by None t h = absurd (refused_not_passed h)
 
 pub name_kept : (source : Source) (t : List ℕ) → (read_text source t).outcome ≡ passed
     → (read_text source t).kept.name_len ≡ trimmed_length (field (read_text source t).kept.form name t)
@@ -67,17 +66,17 @@ unfolding read_text NameKept
 name_kept source t h = kept_by (form_of source t) t h
 
 -- and ends within it
-within_by : (m : Recognised) (source : Source) (t : List ℕ) → form_of source t ≡ m → (read_by m t).outcome ≡ passed
+within_by : (m : Option Form) (source : Source) (t : List ℕ) → form_of source t ≡ m → (read_by m t).outcome ≡ passed
     → start (read_by m t).kept.form name + trimmed_length (field (read_by m t).kept.form name t) ≤ length t
 unfolding read_by answered record_by holding
-within_by (As f) source t told h = go (verdict_by f t (span_of f t)) h
+within_by (Some f) source t told h = go (verdict_by f t (span_of f t)) h
   where
     go : (o : Outcome) → (answered o (record_by f t (span_of f t))).outcome ≡ passed
         → start (answered o (record_by f t (span_of f t))).kept.form name
         + trimmed_length (field (answered o (record_by f t (span_of f t))).kept.form name t) ≤ length t
     go passed e = omega (arith, trimmed_le (field f name t), field_most f name t, within f name, (by_told source f t told).1)
     go (refused n p) e = absurd (refused_not_passed e)
-within_by Unknown source t told h = absurd (refused_not_passed h)
+within_by None source t told h = absurd (refused_not_passed h)
 
 pub name_within : (source : Source) (t : List ℕ) → (read_text source t).outcome ≡ passed
     → start (read_text source t).kept.form name + trimmed_length (field (read_text source t).kept.form name t) ≤ length t

@@ -1,4 +1,5 @@
 -- A text's refusal stands in the text, or at its end: DEMAND 1's place, and a number of the machine where the text is held.
+use Rattle.std.specs.Prelude.{Option, Some, None}
 use Prim.Native.Nat.{ℕ, ◌+◌, ◌≤◌}
 use mathlib.Core.Path.{◌≡◌, refl}
 use mathlib.Core.List.{List}
@@ -10,8 +11,6 @@ use Rattle.refusal.specs.Outcome.{refused}
 use Rattle.refusal.proofs.Each.{Each, each_passed, each_refused, each_rule}
 use Rattle.zone.specs.declared.form.Form.{Form}
 use Rattle.zone.specs.declared.form.Source.{Source}
-use Rattle.zone.specs.declared.form.Recognised.{Recognised}
-use Rattle.zone.specs.declared.form.Recognised.TheVariants.{As, Unknown}
 use Rattle.zone.specs.Alphabet.{first_foreign, is_foreign}
 use Rattle.zone.specs.Record.{blank}
 use Rattle.zone.specs.Part.{Part, number_check, optional, birth_check, expiry_check, composite, personal_check}
@@ -73,8 +72,8 @@ pub text_within : (source : Source) (t : List ℕ) → Each (λ n p. p ≤ lengt
 unfolding read_text read_by
 text_within source t = go (form_of source t) refl
   where
-    go : (told : Recognised) → form_of source t ≡ told → Each (In t) (read_by told t).outcome
-    go Unknown e = each_answered (In t) (refused (by 1) 0) blank (each_refused (In t) (by 1) 0 (omega arith))
-    go (As f) e =
+    go : (told : Option Form) → form_of source t ≡ told → Each (In t) (read_by told t).outcome
+    go None e = each_answered (In t) (refused (by 1) 0) blank (each_refused (In t) (by 1) 0 (omega arith))
+    go (Some f) e =
         each_answered (In t) (verdict_by f t (span_of f t)) (record_by f t (span_of f t))
         (verdict_in f t (by_told source f t e).1)

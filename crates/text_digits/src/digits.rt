@@ -18,28 +18,28 @@ use crate::order::in_turn;
 use digit::composite::{Sums, digit_by};
 use digit::sum::as_digit;
 use digit::thirds::Thirds;
-use refusal::{Cause, Verdict};
+use refusal::{Cause, Refusal};
 use zone::alphabet::{FILLER, all_fillers};
 use zone::form::Form;
 
 // Whether a place holds the digit that was worked out, which the refusal carries, as 0 to 9.
-fn judged_digit(text: &[u8], place: usize, digit: u8) -> Verdict
+fn judged_digit(text: &[u8], place: usize, digit: u8) -> Result<(), Refusal>
     requires { is_digit digit ≡ true }
     ensures { outcome_of result ≡ written_at text.now place digit }
 {
     let expected = digit - b'0';
     let there = lent::octet(text, place);
-    Verdict::judged(there == digit, Cause::Digit(expected), place)
+    Refusal::unless(there == digit, Cause::Digit(expected), place)
 }
 
 // Whether a place holds the check digit of a field that was gone over.
-fn field_digit(text: &[u8], place: usize, field: Thirds) -> Verdict
+fn field_digit(text: &[u8], place: usize, field: Thirds) -> Result<(), Refusal>
     ensures { (s : List ℕ) → field ≡ thirds_of s → outcome_of result ≡ digit_at text.now place s }
 {
     judged_digit(text, place, as_digit(field.weighed(0)))
 }
 
-fn number_digit(form: Form, text: &[u8], span: Span, sums: Sums) -> Verdict
+fn number_digit(form: Form, text: &[u8], span: Span, sums: Sums) -> Result<(), Refusal>
     requires { sums ≡ sums_of form text.now }
     ensures { outcome_of result ≡ digit_check form text.now span number_check }
 {
@@ -47,8 +47,8 @@ fn number_digit(form: Form, text: &[u8], span: Span, sums: Sums) -> Verdict
     let number = sums.number;
     match span {
         Span::Short => field_digit(text, at.number_check, number),
-        Span::Long(_) => Verdict::Passed,
-        Span::Bad => Verdict::Passed,
+        Span::Long(_) => Ok(()),
+        Span::Bad => Ok(()),
     }
 }
 
@@ -64,7 +64,7 @@ fn is_left_out(number: &[u8], check: u8) -> bool
 }
 
 // Only some forms have a personal number.
-fn personal_digit(form: Form, text: &[u8], sums: Sums) -> Verdict
+fn personal_digit(form: Form, text: &[u8], sums: Sums) -> Result<(), Refusal>
     requires { sums ≡ sums_of form text.now }
     ensures { (span : Span) → outcome_of result ≡
         if_has form personal (digit_check form text.now span personal_check) }
@@ -74,18 +74,18 @@ fn personal_digit(form: Form, text: &[u8], sums: Sums) -> Verdict
     if 0 < wide {
         let number = lent::part(text, at.personal, wide);
         if is_left_out(number, lent::octet(text, at.personal_check)) {
-            Verdict::Passed
+            Ok(())
         } else {
             let field = sums.personal;
             field_digit(text, at.personal_check, field)
         }
     } else {
-        Verdict::Passed
+        Ok(())
     }
 }
 
 // Nor have all of them a composite.
-fn composite_digit(form: Form, text: &[u8], sums: Sums) -> Verdict
+fn composite_digit(form: Form, text: &[u8], sums: Sums) -> Result<(), Refusal>
     requires { sums ≡ sums_of form text.now }
     ensures { (span : Span) → outcome_of result ≡
         if_has form composite (digit_check form text.now span composite) }
@@ -94,7 +94,7 @@ fn composite_digit(form: Form, text: &[u8], sums: Sums) -> Verdict
     if 0 < form.composite_width() {
         judged_digit(text, at.composite, digit_by(sums))
     } else {
-        Verdict::Passed
+        Ok(())
     }
 }
 
@@ -109,7 +109,7 @@ fn long_sum(form: Form, text: &[u8], further: u8, sums: Sums) -> u8
     as_digit(number.weighed(0) + Thirds::of(optional, 0, further).weighed(Form::NINE))
 }
 
-fn long_digit(form: Form, text: &[u8], further: u8, sums: Sums) -> Verdict
+fn long_digit(form: Form, text: &[u8], further: u8, sums: Sums) -> Result<(), Refusal>
     requires { sums ≡ sums_of form text.now }
     ensures { outcome_of result ≡ digit_check form text.now (Long further) optional }
 {
@@ -119,23 +119,23 @@ fn long_digit(form: Form, text: &[u8], further: u8, sums: Sums) -> Verdict
 }
 
 // A long number's digit stands behind its further characters, in forms that have room for them.
-fn further_digit(form: Form, text: &[u8], span: Span, sums: Sums) -> Verdict
+fn further_digit(form: Form, text: &[u8], span: Span, sums: Sums) -> Result<(), Refusal>
     requires { sums ≡ sums_of form text.now }
     ensures { outcome_of result ≡ if_has form optional (digit_check form text.now span optional) }
 {
     if 0 < form.optional_width() {
         match span {
-            Span::Short => Verdict::Passed,
+            Span::Short => Ok(()),
             Span::Long(further) => long_digit(form, text, further, sums),
-            Span::Bad => Verdict::Passed,
+            Span::Bad => Ok(()),
         }
     } else {
-        Verdict::Passed
+        Ok(())
     }
 }
 
 // Birth and expiry stand in this order in every form.
-fn dates_digit(form: Form, text: &[u8], sums: Sums) -> Verdict
+fn dates_digit(form: Form, text: &[u8], sums: Sums) -> Result<(), Refusal>
     requires { sums ≡ sums_of form text.now }
     ensures { (span : Span) → outcome_of result ≡
         or_else (digit_check form text.now span birth_check) (digit_check form text.now span expiry_check) }
@@ -143,11 +143,11 @@ fn dates_digit(form: Form, text: &[u8], sums: Sums) -> Verdict
     let at = form.places();
     let birth = sums.birth;
     let expiry = sums.expiry;
-    field_digit(text, at.birth_check, birth).or_else(field_digit(text, at.expiry_check, expiry))
+    field_digit(text, at.birth_check, birth).and(field_digit(text, at.expiry_check, expiry))
 }
 
 // The first check digit, in text order, that is wrong. Forms differ in where the optional field stands.
-pub fn digits(form: Form, text: &[u8], span: Span) -> Verdict
+pub fn digits(form: Form, text: &[u8], span: Span) -> Result<(), Refusal>
     ensures { outcome_of result ≡ in_order (digit_check form text.now span) (parts form) }
 {
     let at = form.places();
@@ -155,6 +155,6 @@ pub fn digits(form: Form, text: &[u8], span: Span) -> Verdict
     let number = number_digit(form, text, span, sums);
     let further = further_digit(form, text, span, sums);
     let dates = dates_digit(form, text, sums);
-    let last = personal_digit(form, text, sums).or_else(composite_digit(form, text, sums));
-    number.or_else(in_turn(at.optional < at.birth, further, dates).or_else(last))
+    let last = personal_digit(form, text, sums).and(composite_digit(form, text, sums));
+    number.and(in_turn(at.optional < at.birth, further, dates).and(last))
 }

@@ -3,10 +3,10 @@ ghost use Rattle.std.specs.Prelude.{◌≡◌};
 ghost use Rattle.refusal.specs.Outcome.{outcome_of};
 ghost use Rattle.text_digits.specs.Inner.Checks.{in_turn};
 
-use refusal::Verdict;
+use refusal::Refusal;
 
-pub fn in_turn(ahead: bool, a: Verdict, b: Verdict) -> Verdict
+pub fn in_turn(ahead: bool, a: Result<(), Refusal>, b: Result<(), Refusal>) -> Result<(), Refusal>
     ensures { outcome_of result ≡ in_turn ahead (outcome_of a) (outcome_of b) }
 {
-    if ahead { a.or_else(b) } else { b.or_else(a) }
+    if ahead { a.and(b) } else { b.and(a) }
 }

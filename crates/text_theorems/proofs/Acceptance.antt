@@ -9,13 +9,12 @@ use native.Mathlib.Nat.{add-zero}
 use native.Mathlib.Omega.{arith}
 use borrow.Author.Tests.{eqb-true, eq-eqb}
 use lib.Dec.{eqb}
+use Rattle.std.specs.Prelude.{Option, Some, None}
 use Rattle.lent.proofs.Bools.{and_both, not_true}
 use Rattle.refusal.specs.Numbers.{by}
 use Rattle.refusal.specs.Outcome.{passed, refused, or_else}
 use Rattle.zone.specs.declared.form.Form.{Form}
 use Rattle.zone.specs.declared.form.Source.{Source}
-use Rattle.zone.specs.declared.form.Recognised.{Recognised}
-use Rattle.zone.specs.declared.form.Recognised.TheVariants.{As, Unknown}
 use Rattle.zone.specs.Alphabet.{is_character, is_filler, is_foreign, first_foreign}
 use Rattle.zone.proofs.First.{first_none, none_first}
 use Rattle.zone.specs.Part.{Part, code, state, number, number_check, optional, birth, birth_check, sex, expiry, expiry_check}
@@ -198,13 +197,13 @@ module _ (f : Form) (t : List ℕ) (k : Keeps f t) where
       )
 
 -- a text that is told as a form is read as that form
-pub read_as : (source : Source) (f : Form) (t : List ℕ) → form_of source t ≡ As f
+pub read_as : (source : Source) (f : Form) (t : List ℕ) → form_of source t ≡ Some f
     → read_text source t ≡ answered (verdict_by f t (span_of f t)) (record_by f t (span_of f t))
 unfolding read_text read_by
 read_as source f t e = rw e
 
 -- one that keeps the rules of a form that may stand there is told as that form, since its code tells whether it is a visa's
-pub kept_told : (source : Source) (f : Form) (t : List ℕ) → may_stand source f ≡ true → Keeps f t → form_of source t ≡ As f
+pub kept_told : (source : Source) (f : Form) (t : List ℕ) → may_stand source f ≡ true → Keeps f t → form_of source t ≡ Some f
 unfolding may_stand rule_rows code_rule plain
 kept_told source f t may k =
     told_by_lem source f t (go (is_visa (row f).kind) (is_alone source) may (sym (code_there f t) ∙ tells)) k.size
@@ -217,15 +216,15 @@ kept_told source f t may k =
     go false true h e = e
     go false false h e = refl
 
-accepted_by : (told : Recognised) (t : List ℕ) → (read_by told t).outcome ≡ passed
-    → (f : Form) × (told ≡ As f) × (verdict_by f t (span_of f t) ≡ passed)
+accepted_by : (told : Option Form) (t : List ℕ) → (read_by told t).outcome ≡ passed
+    → (f : Form) × (told ≡ Some f) × (verdict_by f t (span_of f t) ≡ passed)
 unfolding read_by
-accepted_by Unknown t e = absurd (refused_not_passed (sym (answered_outcome (refused (by 1) 0) _) ∙ e))
-accepted_by (As f) t e = (f, refl, sym (answered_outcome (verdict_by f t (span_of f t)) (record_by f t (span_of f t))) ∙ e)
+accepted_by None t e = absurd (refused_not_passed (sym (answered_outcome (refused (by 1) 0) _) ∙ e))
+accepted_by (Some f) t e = (f, refl, sym (answered_outcome (verdict_by f t (span_of f t)) (record_by f t (span_of f t))) ∙ e)
 
 -- the form of an accepted text, and that its checks passed
 pub accepted_form : (source : Source) (t : List ℕ) → (read_text source t).outcome ≡ passed
-    → (f : Form) × (form_of source t ≡ As f) × (verdict_by f t (span_of f t) ≡ passed)
+    → (f : Form) × (form_of source t ≡ Some f) × (verdict_by f t (span_of f t) ≡ passed)
 unfolding read_text
 accepted_form source t e = accepted_by (form_of source t) t e
 

@@ -11,6 +11,7 @@ use borrow.Author.Rules.{rules}
 use borrow.Author.Tests.{ne_eqb, eqb-false, ltb-true}
 use lib.Dec.{eqb, lit<}
 use lib.ListN.{get_or}
+use Rattle.std.specs.Prelude.{Option, Some, None}
 use Rattle.refusal.specs.Numbers.{Why, by, expecting, number_of}
 use Rattle.refusal.specs.Calls.{of_fields, of_text, tells}
 use Rattle.refusal.specs.Outcome.{refused, refused_unless}
@@ -18,8 +19,6 @@ use Rattle.refusal.proofs.Calls.{tells_within, plain_not_nine}
 use Rattle.refusal.proofs.Each.{Each, each_passed, each_refused}
 use Rattle.zone.specs.declared.form.Form.{Form}
 use Rattle.zone.specs.declared.form.Source.{Source}
-use Rattle.zone.specs.declared.form.Recognised.{Recognised}
-use Rattle.zone.specs.declared.form.Recognised.TheVariants.{As, Unknown}
 use Rattle.zone.specs.Alphabet.{is_filler, every}
 use Rattle.zone.specs.Record.{blank}
 use Rattle.zone.specs.Part.{Part, number_check, optional, birth, birth_check, expiry}
@@ -137,14 +136,14 @@ tells_verdict f t =
 
 -- every refusal of a text of a form tells what it should; that of another length is 1
 pub refusal_tells : (source : Source) (t : List ℕ) (n : Why) (p : ℕ) → (read_text source t).outcome ≡ refused n p
-    → (n ≡ by 1) ⊎ ((f : Form) × (form_of source t ≡ As f) × Tells f t n p)
+    → (n ≡ by 1) ⊎ ((f : Form) × (form_of source t ≡ Some f) × Tells f t n p)
 unfolding read_text read_by
 refusal_tells source t n p e = go (form_of source t) refl e
   where
-    go : (told : Recognised) → form_of source t ≡ told → (read_by told t).outcome ≡ refused n p
-        → (n ≡ by 1) ⊎ ((f : Form) × (form_of source t ≡ As f) × Tells f t n p)
-    go Unknown h r = inl (let q : refused (by 1) 0 ≡ refused n p = sym (answered_outcome (refused (by 1) 0) blank) ∙ r in cc)
-    go (As f) h r = inr (
+    go : (told : Option Form) → form_of source t ≡ told → (read_by told t).outcome ≡ refused n p
+        → (n ≡ by 1) ⊎ ((f : Form) × (form_of source t ≡ Some f) × Tells f t n p)
+    go None h r = inl (let q : refused (by 1) 0 ≡ refused n p = sym (answered_outcome (refused (by 1) 0) blank) ∙ r in cc)
+    go (Some f) h r = inr (
       f,
       h,
       tells_verdict f t n p (sym (answered_outcome (verdict_by f t (span_of f t)) (record_by f t (span_of f t))) ∙ r),
@@ -155,7 +154,7 @@ pub text_numbered : (source : Source) (t : List ℕ) → Each (λ why p. tells o
 text_numbered source t (expecting d) p e = refl
 text_numbered source t (by n) p e = go (refusal_tells source t (by n) p e)
   where
-    go : (by n ≡ by 1) ⊎ ((f : Form) × (form_of source t ≡ As f) × (tells of_text (by n) ≡ true)) → tells of_text (by n) ≡ true
+    go : (by n ≡ by 1) ⊎ ((f : Form) × (form_of source t ≡ Some f) × (tells of_text (by n) ≡ true)) → tells of_text (by n) ≡ true
     go (inl q) = ap (tells of_text) q
     go (inr q) = q.2
 
@@ -167,18 +166,18 @@ nine_tells source t (by n) p e h = absurd (plain_not_nine of_text n (text_number
 
 -- and the digit is the one expected at its place
 pub digit_told : (source : Source) (t : List ℕ) (d p : ℕ) → (read_text source t).outcome ≡ refused (expecting d) p
-    → (f : Form) × (form_of source t ≡ As f) × Expected f t d p
+    → (f : Form) × (form_of source t ≡ Some f) × Expected f t d p
 digit_told source t d p e = go (refusal_tells source t (expecting d) p e)
   where
-    go : (expecting d ≡ by 1) ⊎ ((f : Form) × (form_of source t ≡ As f) × Expected f t d p)
-        → (f : Form) × (form_of source t ≡ As f) × Expected f t d p
+    go : (expecting d ≡ by 1) ⊎ ((f : Form) × (form_of source t ≡ Some f) × Expected f t d p)
+        → (f : Form) × (form_of source t ≡ Some f) × Expected f t d p
     go (inl q) = absurd (let z : ◌≡◌ {A = ℕ} 0 1 = cc in omega arith)
     go (inr q) = q
 
 -- 9 at p with digit d: exactly where 9 at p is the first failing check, and d the check of what document 01 has it run over
 pub expected_exactly : (source : Source) (t : List ℕ) (d p : ℕ)
     → ((read_text source t).outcome ≡ refused (expecting d) p)
-    ↔ ((n : Why) × FirstFailing (checks_of source t) n p × (number_of n ≡ 9) × (f : Form) × (form_of source t ≡ As f) ×
+    ↔ ((n : Why) × FirstFailing (checks_of source t) n p × (number_of n ≡ 9) × (f : Form) × (form_of source t ≡ Some f) ×
     (d ≡ check_of (covered_at f t p)))
 expected_exactly source t d p = (
   λ e.
@@ -196,7 +195,7 @@ expected_exactly source t d p = (
 )
 
 -- over an empty personal number the expected digit is 0, which document 02, 2026-02, lets `<` stand for
-pub empty_expects_zero : (source : Source) (f : Form) (t : List ℕ) (d : ℕ) → form_of source t ≡ As f
+pub empty_expects_zero : (source : Source) (f : Form) (t : List ℕ) (d : ℕ) → form_of source t ≡ Some f
     → every is_filler (field f personal t) ≡ true
     → (read_text source t).outcome ≡ refused (expecting d) (start f personal_check) → d ≡ 0
 unfolding check_of

@@ -7,11 +7,10 @@ use mathlib.Core.List.{List, map}
 use mathlib.Core.Bool.{true}
 use native.Mathlib.Omega.{arith}
 use borrow.Author.Rules.{rules}
+use Rattle.std.specs.Prelude.{Option, Some, None}
 use Rattle.refusal.specs.Numbers.{Why, by}
 use Rattle.refusal.specs.Outcome.{Outcome, passed, refused, or_else}
 use Rattle.zone.specs.declared.form.Source.{Source}
-use Rattle.zone.specs.declared.form.Recognised.{Recognised}
-use Rattle.zone.specs.declared.form.Recognised.TheVariants.{As, Unknown}
 use Rattle.zone.specs.Part.{optional}
 use Rattle.zone.specs.Record.{blank}
 use Rattle.zone.specs.declared.form.Form.{Form}
@@ -33,10 +32,10 @@ unfolding answered
 answered_blank passed r n p e = absurd (never n p e)
 answered_blank (refused m q) r n p e = refl
 
-read_first_by : (told : Recognised) (t : List ℕ) → (read_by told t).outcome ≡ first_of (checks_by told t)
+read_first_by : (told : Option Form) (t : List ℕ) → (read_by told t).outcome ≡ first_of (checks_by told t)
 unfolding read_by checks_by verdict_by first_of characters
-read_first_by Unknown t = answered_outcome (refused (by 1) 0) _
-read_first_by (As f) t =
+read_first_by None t = answered_outcome (refused (by 1) 0) _
+read_first_by (Some f) t =
     answered_outcome (verdict_by f t (span_of f t)) (record_by f t (span_of f t)) ∙ ap (or_else (characters t)) (rows_first f t)
 
 pub read_first : (source : Source) (t : List ℕ) → (read_text source t).outcome ≡ first_of (checks_of source t)
@@ -49,9 +48,9 @@ pub refused_blank : (source : Source) (t : List ℕ) (n : Why) (p : ℕ) → (re
 unfolding read_text read_by
 refused_blank source t n p e = by_told (form_of source t) e
   where
-    by_told : (told : Recognised) → (read_by told t).outcome ≡ refused n p → (read_by told t).kept ≡ blank
-    by_told Unknown h = answered_blank (refused (by 1) 0) blank n p h
-    by_told (As f) h = answered_blank (verdict_by f t (span_of f t)) (record_by f t (span_of f t)) n p h
+    by_told : (told : Option Form) → (read_by told t).outcome ≡ refused n p → (read_by told t).kept ≡ blank
+    by_told None h = answered_blank (refused (by 1) 0) blank n p h
+    by_told (Some f) h = answered_blank (verdict_by f t (span_of f t)) (record_by f t (span_of f t)) n p h
 
 pub refused_exactly : (source : Source) (t : List ℕ) (n : Why) (p : ℕ)
     → ((read_text source t).outcome ≡ refused n p) ↔ FirstFailing (checks_of source t) n p

@@ -5,12 +5,12 @@ use mathlib.Core.Path.{◌≡◌, refl, ap, sym, ◌∙◌}
 use mathlib.Core.Bool.{Bool, true, false, ◌&&◌, false≢true}
 use mathlib.Core.List.{List}
 use lib.ListN.{length, get_or}
+use Rattle.std.specs.Prelude.{Some}
 use Rattle.refusal.specs.Numbers.{by}
 use Rattle.refusal.specs.Outcome.{refused, or_else}
 use Rattle.zone.specs.declared.form.Form.{Form}
 use Rattle.zone.specs.declared.form.Source.{Source}
 use Rattle.zone.specs.declared.form.Source.TheVariants.{Alone}
-use Rattle.zone.specs.declared.form.Recognised.TheVariants.{As}
 use Rattle.zone.specs.Part.{code}
 use Rattle.zone.specs.Form.{row, is_visa, is_alone, selects_visa, form_of, parts, field}
 use Rattle.zone.proofs.FormTold.{told_by, told_so}
@@ -56,7 +56,7 @@ unfolding in_order field_rows
 fields_other f t e =
     ap (in_order (field_check f t (span_of f t))) (first f).before_all ∙ rw (e, (first f).at_start)
 
-pub visa_elsewhere : (source : Source) (f : Form) (t : List ℕ) → form_of source t ≡ As f → is_visa (row f).kind ≡ false
+pub visa_elsewhere : (source : Source) (f : Form) (t : List ℕ) → form_of source t ≡ Some f → is_visa (row f).kind ≡ false
     → selects_visa t ≡ true → (read_text source t).outcome ≡ or_else (characters t) (refused (by 3) 0)
 unfolding verdict_by
 visa_elsewhere source f t told other visa =

@@ -1,10 +1,9 @@
 -- The checks of a text one after the other, and which of them a refusal names: document 01, "The text", Order.
-use Rattle.std.specs.Prelude.{ℕ, List, [], ◌∷◌, ◌++◌, Bool, true, ◌&&◌, eqb, ltb, length}
+use Rattle.std.specs.Prelude.{Option, Some, None, ℕ, List, [], ◌∷◌, ◌++◌, Bool, true, ◌&&◌, eqb, ltb, length}
 use Rattle.refusal.specs.Numbers.{Why, by}
 use Rattle.refusal.specs.Outcome.{Outcome, passed, refused, unless}
+use Rattle.zone.specs.declared.form.Form.{Form}
 use Rattle.zone.specs.declared.form.Source.{Source}
-use Rattle.zone.specs.declared.form.Recognised.{Recognised}
-use Rattle.zone.specs.declared.form.Recognised.TheVariants.{As, Unknown}
 use Rattle.zone.specs.Alphabet.{first_foreign}
 use Rattle.zone.specs.Part.{Part}
 use Rattle.zone.specs.Rows.{PartRow, in_rows}
@@ -18,9 +17,9 @@ by_part rows (x ∷ xs) = in_rows [] rows x ++ by_part rows xs
 
 -- "Order: 1, 2, then 3 to 8 by field in text order, then check digits in text order": 1, a text of no form that may stand there,
 -- at its start; 2 at the first character that is not of the alphabet
-unfoldable pub checks_by : Recognised → List ℕ → List Outcome
-checks_by Unknown t = refused (by 1) 0 ∷ []
-checks_by (As f) t =
+unfoldable pub checks_by : Option Form → List ℕ → List Outcome
+checks_by None t = refused (by 1) 0 ∷ []
+checks_by (Some f) t =
     unless (eqb (first_foreign t) (length t)) 2 (first_foreign t)
     ∷ (by_part (field_checks f t) (parts f) ++ by_part (digit_checks f t) (parts f))
 

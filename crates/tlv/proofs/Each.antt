@@ -1,4 +1,6 @@
 -- What every refusal has that a reading step by step can be: of steps in their order, what each of them has.
+use Rattle.std.specs.Prelude.{Option, Some, None}
+use Rattle.tlv.specs.declared.Count.{Count}
 use Prim.Native.Nat.{ℕ, ◌+◌}
 use mathlib.Core.Path.{◌≡◌, refl}
 use mathlib.Core.List.{List}
@@ -12,8 +14,6 @@ use Rattle.tlv.specs.declared.Stretch.{Stretch}
 use Rattle.tlv.specs.Read.{Read, value, refusal, and_then, checked, outcome_in}
 use Rattle.tlv.specs.Cut.{end_check}
 use Rattle.tlv.specs.Element.{size_at, tag_at, tag_width, ends_within, sized, element}
-use Rattle.tlv.specs.declared.Size.{Size}
-use Rattle.tlv.specs.declared.Size.TheVariants.{Of, Unknown}
 
 abbrev pub EachRead : {A : Type 0} → (Why → ℕ → Type 0) → Read A → Type 0
 EachRead P m = Each P (outcome_in m)
@@ -42,11 +42,11 @@ module _ (P : Why → ℕ → Type 0) where
   pub each_checked : {A : Type 0} (o : Outcome) (m : Read A) → Each P o → EachRead P m → EachRead P (checked o m)
   each_checked o m h k = each_behind o m h (λ e. k)
 
-  sized_each : (s : List ℕ) (at place : ℕ) (z : Size) → P (by 10) at → EachRead P (sized s at place z)
+  sized_each : (s : List ℕ) (at place : ℕ) (z : Option Count) → P (by 10) at → EachRead P (sized s at place z)
   unfolding sized ends_within
-  sized_each s at place (Of z) h =
+  sized_each s at place (Some z) h =
       either_way (EachRead P) (leb (place + z.told + z.count) (length s)) _ _ (each_value _) (each_refusal Stretch (by 10) at h)
-  sized_each s at place Unknown h = each_refusal Stretch (by 10) at h
+  sized_each s at place None h = each_refusal Stretch (by 10) at h
 
   -- an element is refused by 10 at its tag
   pub each_element : (s : List ℕ) (at tag : ℕ) → P (by 10) at → EachRead P (element s at tag)

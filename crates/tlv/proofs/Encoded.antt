@@ -1,5 +1,6 @@
 -- The reader takes exactly what the encoder gives: where an element is read, its encoding stands there, and where an encoding
 -- stands, it is read.
+use Rattle.std.specs.Prelude.{Option, Some, None}
 use Prim.Native.Nat.{ℕ, ◌+◌, ◌-◌, ◌*◌, ◌/◌, ◌%◌, ◌≤◌, ◌<◌}
 use mathlib.Core.Path.{◌≡◌, refl, ap, sym, ◌∙◌, subst}
 use mathlib.Core.Bool.{Bool, true, false, cond, ◌&&◌}
@@ -14,8 +15,6 @@ use lib.Seq.{drop-cons, drop-drop, drop_at, take_at, take-add, get_or-drop, leng
 use Rattle.lent.proofs.Bools.{and_both}
 use Rattle.tlv.specs.declared.Stretch.{Stretch}
 use Rattle.tlv.specs.declared.Count.{Count}
-use Rattle.tlv.specs.declared.Size.{Size}
-use Rattle.tlv.specs.declared.Size.TheVariants.{Of, Unknown}
 use Rattle.tlv.specs.Read.{value}
 use Rattle.tlv.proofs.Joined.{never_value, same_value, kept_value}
 use Rattle.tlv.specs.Element.{tag_octets, length_octets, tlv, size_of, tag_width, tag_at, ends_within, sized, size_at, element}
@@ -100,10 +99,10 @@ module _ (s : List ℕ) (place : ℕ) where
     told_most : n.count ≤ 65535
     told_octets : n.told ≡ length (length_octets n.count)
 
-  not_told : {n : Count} → Unknown ≡ Of n → ⊥
+  not_told : {n : Count} → None ≡ Some n → ⊥
   not_told e = let w : ◌≡◌ {A = ℕ} 0 1 = cc in omega arith
 
-  same_told : {m n : Count} → Of m ≡ Of n → m ≡ n
+  same_told : {m n : Count} → Some m ≡ Some n → m ≡ n
   same_told e = cc
 
   short_told : leb x 0x7F ≡ true → Told (record { count = x; told = 1 })
@@ -140,14 +139,14 @@ module _ (s : List ℕ) (place : ℕ) where
     told_octets = rw (lt-leb (y * 256 + z) 0x7F (omega arith), lt-leb (y * 256 + z) 255 (omega arith));
   }
 
-  told : ((i : ℕ) → get_or s i 0 < 256) → (n : Count) → size_at s place ≡ Of n → Told n
+  told : ((i : ℕ) → get_or s i 0 < 256) → (n : Count) → size_at s place ≡ Some n → Told n
   unfolding size_at size_of
   told small n e = go (leb x 0x7F) (eqb x 0x81 && leb 0x80 y) (eqb x 0x82 && leb 1 y) refl refl refl e
     where
       go : (a b c : Bool) → leb x 0x7F ≡ a → eqb x 0x81 && leb 0x80 y ≡ b → eqb x 0x82 && leb 1 y ≡ c
-          → cond a (Of (record { count = x; told = 1 }))
-          (cond b (Of (record { count = y; told = 2 })) (cond c (Of (record { count = y * 256 + z; told = 3 })) Unknown))
-          ≡ Of n
+          → cond a (Some (record { count = x; told = 1 }))
+          (cond b (Some (record { count = y; told = 2 })) (cond c (Some (record { count = y * 256 + z; told = 3 })) None))
+          ≡ Some n
           → Told n
       go true b c p q r f = rw (same_told f) at (short_told p)
       go false true c p q r f =
@@ -161,7 +160,7 @@ module _ (s : List ℕ) (place : ℕ) where
 
   -- and back
   octets_length : (n : ℕ) (q : List ℕ) → n ≤ 65535 → drop place s ≡ length_octets n ++ q
-      → (size_at s place ≡ Of (record { count = n; told = length (length_octets n) }))
+      → (size_at s place ≡ Some (record { count = n; told = length (length_octets n) }))
       × (drop (place + length (length_octets n)) s ≡ q)
   unfolding size_at size_of length_octets
   octets_length n q most e = go (leb n 0x7F) (leb n 255) refl refl e
@@ -169,7 +168,7 @@ module _ (s : List ℕ) (place : ℕ) where
       go : (a b : Bool) → leb n 0x7F ≡ a → leb n 255 ≡ b
           → let l = cond a (n ∷ []) (cond b (0x81 ∷ n ∷ []) (0x82 ∷ (n / 256) ∷ (n % 256) ∷ [])) in
           drop place s ≡ l ++ q
-          → (size_of x y z ≡ Of (record { count = n; told = length l })) × (drop (place + length l) s ≡ q)
+          → (size_of x y z ≡ Some (record { count = n; told = length l })) × (drop (place + length l) s ≡ q)
       go true b f g h =
           let one = first_there s place n q h in
           (rw (one.0, f), one.1)
@@ -225,7 +224,7 @@ pub record Stands (s : List ℕ) (at tag : ℕ) (c rest : List ℕ) (v : Stretch
   pub content_most : length c ≤ 65535
 
 module _ (s : List ℕ) (at tag : ℕ) where
-  sized_stands : ((i : ℕ) → get_or s i 0 < 256) → tag_at s at tag ≡ tag → (n : Count) → size_at s (at + tag_width tag) ≡ Of n
+  sized_stands : ((i : ℕ) → get_or s i 0 < 256) → tag_at s at tag ≡ tag → (n : Count) → size_at s (at + tag_width tag) ≡ Some n
       → (v : Stretch)
       → ends_within s at (at + tag_width tag + n.told) (at + tag_width tag + n.told + n.count) ≡ value v
       → Stands s at tag (take (v.to - v.from) (drop v.from s)) (drop v.to s) v
@@ -273,10 +272,11 @@ module _ (s : List ℕ) (at tag : ℕ) where
       let kept = kept_value (eqb (tag_at s at tag) tag) (sized s at place (size_at s place)) _ at v e in
       go (eqb-true (tag_at s at tag) tag kept.0) (size_at s place) refl kept.1
     where
-      go : tag_at s at tag ≡ tag → (n : Size) → size_at s (at + tag_width tag) ≡ n → sized s at (at + tag_width tag) n ≡ value v
+      go : tag_at s at tag ≡ tag → (n : Option Count)
+          → size_at s (at + tag_width tag) ≡ n → sized s at (at + tag_width tag) n ≡ value v
           → Stands s at tag (take (v.to - v.from) (drop v.from s)) (drop v.to s) v
-      go t (Of n) f h = sized_stands small t n f v h
-      go t Unknown f h = absurd (never_value _ at v h)
+      go t (Some n) f h = sized_stands small t n f v h
+      go t None f h = absurd (never_value _ at v h)
 
   -- where an encoding stands, it is read
   pub back : (c rest : List ℕ) → length c ≤ 65535 → drop at s ≡ tlv tag c ++ rest

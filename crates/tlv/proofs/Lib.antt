@@ -12,7 +12,7 @@ pub mod Standing
 pub mod Stretches
 -- what every refusal of steps in their order has (`EachRead`)
 pub mod Each
--- no two answers are told alike (`taken_tells`)
+-- no two answers are told alike (`read_tells`)
 pub mod Told
 -- the element that stands at a place, whatever its tag
 pub mod Whatever

@@ -1,4 +1,6 @@
 -- Elements as their lengths say: where the value of each stands, and the places of those that stand one behind the other.
+use Rattle.std.specs.Prelude.{Option, Some, None}
+use Rattle.tlv.specs.declared.Count.{Count}
 use Prim.Native.Nat.{ℕ, zero, suc, ◌+◌, ◌≤◌, ◌<◌}
 use mathlib.Core.Path.{◌≡◌, refl, ap, ◌∙◌}
 use mathlib.Core.Bool.{Bool, true, false}
@@ -8,8 +10,6 @@ use borrow.Author.Tests.{le-leb, lt-leb, leb-true, leb-false}
 use lib.Dec.{eqb, leb}
 use lib.ListN.{length}
 use Rattle.tlv.specs.declared.Stretch.{Stretch}
-use Rattle.tlv.specs.declared.Size.{Size}
-use Rattle.tlv.specs.declared.Size.TheVariants.{Of, Unknown}
 use Rattle.tlv.specs.Read.{value}
 use Rattle.tlv.specs.Element.{sized, size_at, ends_within, tag_at, tag_width, element}
 use Rattle.tlv.specs.Places.{stretch_by, stretch_at, places_from, places}
@@ -17,10 +17,11 @@ use Rattle.tlv.proofs.Joined.{never_value, same_value, kept_value}
 use Rattle.tlv.proofs.Past.{some_tag}
 
 -- a value stands behind its tag, and ends where it begins or behind that
-by_forward : (place : ℕ) (z : Size) → (place ≤ (stretch_by place z).from) × ((stretch_by place z).from ≤ (stretch_by place z).to)
+by_forward : (place : ℕ) (z : Option Count)
+    → (place ≤ (stretch_by place z).from) × ((stretch_by place z).from ≤ (stretch_by place z).to)
 unfolding stretch_by
-by_forward place (Of z) = (omega arith, omega arith)
-by_forward place Unknown = (omega arith, omega arith)
+by_forward place (Some z) = (omega arith, omega arith)
+by_forward place None = (omega arith, omega arith)
 
 pub some_place : (s : List ℕ) (at tag : ℕ) → at + tag_width tag ≤ (stretch_at s at tag).from
 unfolding stretch_at
@@ -39,11 +40,11 @@ stretch_read s at tag v e =
     go (size_at s (at + tag_width tag))
     (kept_value (eqb (tag_at s at tag) tag) (sized s at (at + tag_width tag) (size_at s (at + tag_width tag))) _ at v e).1
   where
-    go : (z : Size) → sized s at (at + tag_width tag) z ≡ value v → stretch_by (at + tag_width tag) z ≡ v
-    go (Of z) f =
+    go : (z : Option Count) → sized s at (at + tag_width tag) z ≡ value v → stretch_by (at + tag_width tag) z ≡ v
+    go (Some z) f =
         let a = at + tag_width tag + z.told in
         same_value (kept_value (leb (a + z.count) (length s)) (value (record { from = a; to = a + z.count })) _ at v f).1
-    go Unknown f = absurd (never_value _ at v f)
+    go None f = absurd (never_value _ at v f)
 
 -- ---- places
 

@@ -1,4 +1,6 @@
 -- An element ends behind its place and within what holds it, so that none stands at its end or past it.
+use Rattle.std.specs.Prelude.{Option, Some, None}
+use Rattle.tlv.specs.declared.Count.{Count}
 use Prim.Native.Nat.{ℕ, ◌+◌, ◌≤◌, ◌<◌}
 use mathlib.Core.Path.{◌≡◌, refl, sym}
 use mathlib.Core.Bool.{Bool, true, false, cond}
@@ -9,16 +11,14 @@ use lib.Dec.{eqb, leb, ltb}
 use lib.ListN.{length}
 use Rattle.refusal.specs.Numbers.{Why, by}
 use Rattle.tlv.specs.declared.Stretch.{Stretch}
-use Rattle.tlv.specs.declared.Size.{Size}
-use Rattle.tlv.specs.declared.Size.TheVariants.{Of, Unknown}
 use Rattle.tlv.specs.Read.{Read, value, refusal}
 use Rattle.tlv.proofs.Joined.{never_value, same_value, kept_value}
 use Rattle.tlv.specs.Element.{sized, size_at, ends_within, tag_at, tag_width, behind_tag, element}
 
-sized_past : (s : List ℕ) (at place : ℕ) (z : Size) → length s < place → sized s at place z ≡ refusal (by 10) at
+sized_past : (s : List ℕ) (at place : ℕ) (z : Option Count) → length s < place → sized s at place z ≡ refusal (by 10) at
 unfolding sized ends_within
-sized_past s at place (Of z) h = rw (lt-leb (place + z.told + z.count) (length s) (omega arith))
-sized_past s at place Unknown h = refl
+sized_past s at place (Some z) h = rw (lt-leb (place + z.told + z.count) (length s) (omega arith))
+sized_past s at place None h = refl
 
 pub some_tag : (tag : ℕ) → 1 ≤ tag_width tag
 unfolding tag_width
@@ -46,16 +46,16 @@ unfolding behind_tag
 none_behind s at width some h = sym (sized_past s at (at + width) (size_at s (at + width)) (omega arith))
 
 -- where a value stands whose length was read at a place
-sized_within : (s : List ℕ) (at place : ℕ) (z : Size) (v : Stretch) → sized s at place z ≡ value v
+sized_within : (s : List ℕ) (at place : ℕ) (z : Option Count) (v : Stretch) → sized s at place z ≡ value v
     → (place ≤ v.from) × (v.from ≤ v.to) × (v.to ≤ length s)
 unfolding sized ends_within
-sized_within s at place (Of z) v e =
+sized_within s at place (Some z) v e =
     let a = place + z.told in
     let b = a + z.count in
     let k = kept_value (leb b (length s)) (value (record { from = a; to = b })) _ at v e in
     let within : b ≤ length s = leb-true b (length s) k.0 in
     rw (← same_value k.1) (omega arith, omega arith, within)
-sized_within s at place Unknown v e = absurd (never_value _ at v e)
+sized_within s at place None v e = absurd (never_value _ at v e)
 
 pub value_within : (s : List ℕ) (at tag : ℕ) (v : Stretch) → element s at tag ≡ value v
     → (at < v.from) × (v.from ≤ v.to) × (v.to ≤ length s)
@@ -75,10 +75,10 @@ value_or_refused : {A : Type 0} (b : Bool) (a : A) (at : ℕ) (n : Why) (p : ℕ
 value_or_refused true a at n p e = absurd (never_value n p a (sym e))
 value_or_refused false a at n p e = sym (place_told e)
 
-sized_refused : (s : List ℕ) (at place : ℕ) (z : Size) (n : Why) (p : ℕ) → sized s at place z ≡ refusal n p → p ≡ at
+sized_refused : (s : List ℕ) (at place : ℕ) (z : Option Count) (n : Why) (p : ℕ) → sized s at place z ≡ refusal n p → p ≡ at
 unfolding sized ends_within
-sized_refused s at place Unknown n p e = sym (place_told e)
-sized_refused s at place (Of z) n p e = value_or_refused (leb (place + z.told + z.count) (length s)) _ at n p e
+sized_refused s at place None n p e = sym (place_told e)
+sized_refused s at place (Some z) n p e = value_or_refused (leb (place + z.told + z.count) (length s)) _ at n p e
 
 pub refused_there : (s : List ℕ) (at tag : ℕ) (n : Why) (p : ℕ) → element s at tag ≡ refusal n p → p ≡ at
 unfolding element

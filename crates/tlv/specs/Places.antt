@@ -1,15 +1,15 @@
 -- Where elements stand as their lengths say, whether they are rightly coded or not: document 01, "Stages of a presentation",
 -- Encoding.
+use Rattle.std.specs.Prelude.{Option, Some, None}
+use Rattle.tlv.specs.declared.Count.{Count}
 use Rattle.std.specs.Prelude.{ℕ, zero, suc, ◌+◌, cond, List, [], ◌∷◌, leb}
 use Rattle.tlv.specs.declared.Stretch.{Stretch}
-use Rattle.tlv.specs.declared.Size.{Size}
-use Rattle.tlv.specs.declared.Size.TheVariants.{Of, Unknown}
 use Rattle.tlv.specs.Element.{size_at, tag_width}
 
 -- where the value stands whose length is told at a place; where none is told, nowhere
-unfoldable pub stretch_by : ℕ → Size → Stretch
-stretch_by place (Of z) = record { from = place + z.told; to = place + z.told + z.count }
-stretch_by place Unknown = record { from = place; to = place }
+unfoldable pub stretch_by : ℕ → Option Count → Stretch
+stretch_by place (Some z) = record { from = place + z.told; to = place + z.told + z.count }
+stretch_by place None = record { from = place; to = place }
 
 -- where the value of an element at a place stands, as its length says
 unfoldable pub stretch_at : List ℕ → (at tag : ℕ) → Stretch

@@ -4,7 +4,7 @@ ghost use Rattle.refusal.specs.Outcome.{outcome_of};
 ghost use Rattle.tlv.specs.Cut as C;
 
 use crate::Stretch;
-use refusal::{Cause, Verdict};
+use refusal::{Cause, Refusal};
 
 // The octets of a stretch, as a part of what was lent.
 pub fn cut(s: &[u8], v: Stretch) -> &[u8]
@@ -29,8 +29,8 @@ pub fn has_octets(n: usize, v: Stretch) -> bool
 }
 
 // Nothing follows.
-pub fn end_check(s: &[u8], at: usize) -> Verdict
+pub fn end_check(s: &[u8], at: usize) -> Result<(), Refusal>
     ensures { outcome_of result ≡ C.end_check s.now at }
 {
-    Verdict::judged(at == s.len(), Cause::Encoding, at)
+    Refusal::unless(at == s.len(), Cause::Encoding, at)
 }

@@ -2,13 +2,11 @@
 -- Refusals: 10 and 21 (too deep), whichever comes first from left to right, at the element, 10 before 21 there". Parents stand
 -- before what they hold, so that the walk is from left to right.
 use Rattle.std.specs.Prelude.{ℕ, zero, suc, cond, List, leb, length, take, get_or}
-use Rattle.refusal.specs.Numbers.{by, why_of}
+use Rattle.refusal.specs.Numbers.{by}
 use Rattle.tlv.specs.declared.Stretch.{Stretch}
 use Rattle.tlv.specs.Read.{Read, value, refusal, and_then}
 use Rattle.tlv.specs.Element.{element}
 use Rattle.tlv.specs.Cut.{cut}
-use Rattle.tree.specs.declared.Counted.{Counted}
-use Rattle.tree.specs.declared.Counted.TheVariants.{Elements, Refused}
 use Rattle.tree.specs.Tag.{is_constructed, tag_here, is_tag_here}
 use Rattle.tree.specs.Tree.{Tree, one, holds, Forest, empty, more}
 
@@ -46,8 +44,3 @@ inside elementAt s at v =
 unfoldable pub tree_at : (depth : ℕ) → List ℕ → ℕ → Read Found
 tree_at zero s at = and_then (here s at) (λ (v : Stretch). refusal (by 21) at)
 tree_at (suc d) s at = and_then (here s at) (inside (tree_at d) s at)
-
--- the paper's number and values of each case
-abbrev pub counted_of : Counted → Read ℕ
-counted_of (Elements n) = value n
-counted_of (Refused r) = refusal (why_of r.cause) r.place

@@ -1,13 +1,14 @@
 // The head of an element: its tag, its length, and that its value ends within what holds it.
 ghost use Rattle.std.specs.Prelude.{◌≡◌};
-ghost use Rattle.tlv.specs.Element.{taken_of};
+ghost use Rattle.tlv.specs.Read.{read_of};
 ghost use Rattle.tree.specs.Reading.{here};
 
-use tlv::Taken;
+use refusal::Refusal;
+use tlv::Stretch;
 
 // The value of the element that stands at a place. Most have a tag of one octet and a length of one, and are told here.
-pub(crate) fn head(s: &[u8], at: usize) -> Taken
-    ensures { taken_of result ≡ here s.now at }
+pub(crate) fn head(s: &[u8], at: usize) -> Result<Stretch, Refusal>
+    ensures { read_of result ≡ here s.now at }
 {
     if s.len() <= at {
         return tlv::refuse(at);

@@ -1,6 +1,7 @@
 -- What writing a text answers and leaves: document 01, "Refusal numbers", 17 and 16.
+use Rattle.std.specs.Prelude.{Result}
+use Rattle.refusal.specs.declared.Refusal.{Refusal}
 use Rattle.std.specs.Prelude.{ℕ, List, ◌≡◌}
-use Rattle.refusal.specs.declared.Written.{Written}
 use Rattle.refusal.specs.Outcome.{unless}
 use Rattle.refusal.specs.Length.{Length, length_of}
 use Rattle.refusal.specs.Output.{write_answer, write_out}
@@ -18,6 +19,6 @@ unfoldable pub text_out : Record → List ℕ → List ℕ
 text_out r out = write_out (unless (is_sound r) 17 0) (total r.form) (text_of r) out
 
 -- the whole promise: the answer, and what the output holds afterwards
-pub record Writes (r : Record) (out after : List ℕ) (w : Written) : Type 0 where
+pub record Writes (r : Record) (out after : List ℕ) (w : Result ℕ Refusal) : Type 0 where
   pub answer : length_of w ≡ text_answer r out
   pub output : after ≡ text_out r out

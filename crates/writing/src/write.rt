@@ -2,11 +2,11 @@
 ghost use Rattle.writing.specs.Answer.{Writes};
 
 use crate::whole::put_all;
-use refusal::{Refusal, Written};
+use refusal::Refusal;
 use zone::record::Record;
 
 // The text of any record at all.
-pub fn write(r: Record, out: &mut [u8]) -> Written
+pub fn write(r: Record, out: &mut [u8]) -> Result<usize, Refusal>
     ensures { Writes r out.old out.new result }
 {
     let form = r.form;
@@ -14,11 +14,11 @@ pub fn write(r: Record, out: &mut [u8]) -> Written
     if sound::is_sound(r) {
         if n <= out.len() {
             put_all(&mut out[..n], r);
-            Written::Octets(n)
+            Ok(n)
         } else {
-            Written::Refused(Refusal::TOO_SHORT)
+            Err(Refusal::TOO_SHORT)
         }
     } else {
-        Written::Refused(Refusal::UNSOUND)
+        Err(Refusal::UNSOUND)
     }
 }

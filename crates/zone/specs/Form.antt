@@ -1,5 +1,6 @@
 -- The forms: document 01, "The text", Layouts and Composite, and document 02, request 2026-05, for visas. Every offset follows
 -- from the widths, in text order.
+use Rattle.std.specs.Prelude.{Option, Some, None}
 use Rattle.std.specs.Prelude.{ℕ, ◌+◌, ◌-◌, ◌*◌, Bool, true, false, cond, not, ◌&&◌, ◌||◌}
 use Rattle.std.specs.Prelude.{List, [], ◌∷◌, ◌++◌, map, length, take, drop, get_or, eqb, ltb}
 use Prim.Native.Char as char
@@ -9,8 +10,6 @@ use Rattle.zone.specs.declared.form.Kind.{Kind}
 use Rattle.zone.specs.declared.form.Kind.TheVariants.{Card, Passport, Visa}
 use Rattle.zone.specs.declared.form.Source.{Source}
 use Rattle.zone.specs.declared.form.Source.TheVariants.{Alone, GroupOne, Seal}
-use Rattle.zone.specs.declared.form.Recognised.{Recognised}
-use Rattle.zone.specs.declared.form.Recognised.TheVariants.{As, Unknown}
 use Rattle.zone.specs.Alphabet.{is_letter, is_filler}
 use Rattle.zone.specs.Rooms.{nine}
 use Rattle.zone.specs.Part.{Part, code, state, number, number_check, optional, birth, birth_check, sex, expiry, expiry_check}
@@ -159,9 +158,9 @@ abbrev pub has : Form → Part → Bool
 has f x = ltb 0 (width f x)
 
 -- the first form of a list that passes a test
-unfoldable pub first_form : (Form → Bool) → List Form → Recognised
-first_form p [] = Unknown
-first_form p (f ∷ fs) = cond (p f) (As f) (first_form p fs)
+unfoldable pub first_form : (Form → Bool) → List Form → Option Form
+first_form p [] = None
+first_form p (f ∷ fs) = cond (p f) (Some f) (first_form p fs)
 
 unfoldable pub is_visa : Kind → Bool
 is_visa Card = false
@@ -190,11 +189,11 @@ unfoldable pub is_of : Source → List ℕ → Form → Bool
 is_of source t f = eqb (length t) (total f) && (may_stand source f && (not (is_visa (row f).kind) || selects_visa t))
 
 -- the form of a text, of those that may stand there
-unfoldable pub form_of : Source → List ℕ → Recognised
+unfoldable pub form_of : Source → List ℕ → Option Form
 form_of source t = first_form (λ f. is_of source t f) forms
 
 -- and which a number in an entry
-unfoldable pub form_by : ℕ → Recognised
+unfoldable pub form_by : ℕ → Option Form
 form_by n = first_form (λ f. eqb n (row f).entered) forms
 
 -- the characters that stand in a text for a part

@@ -7,8 +7,9 @@ ghost use Rattle.zone.specs.Inner.Places.{places_of};
 ghost use Rattle.zone.specs.Part.{name, optional, personal, composite};
 
 use crate::alphabet::{FILLER, is_letter};
+use std::fmt;
 
-#[derive(Clone, Copy)]
+#[derive(Clone, Copy, Debug, PartialEq, Eq)]
 pub enum Form {
     Td1,
     Td2,
@@ -18,7 +19,7 @@ pub enum Form {
 }
 
 // What a document is, which its code tells.
-#[derive(Clone, Copy)]
+#[derive(Clone, Copy, Debug, PartialEq, Eq)]
 pub enum Kind {
     Card,
     Passport,
@@ -26,18 +27,11 @@ pub enum Kind {
 }
 
 // Where a text stands, on which it depends what forms it may have.
-#[derive(Clone, Copy)]
+#[derive(Clone, Copy, Debug, PartialEq, Eq)]
 pub enum Source {
     Alone,
     GroupOne,
     Seal,
-}
-
-// What a text tells, or a number in an entry.
-#[derive(Clone, Copy)]
-pub enum Recognised {
-    As(Form),
-    Unknown,
 }
 
 // The row of constants of a form: where each part of a text begins, how wide it is where forms differ, and what else they differ
@@ -131,47 +125,35 @@ impl Form {
     pub const OWN: usize = 16;
 
     // Which form a text is, of those that may stand there: its length tells, and its code where a visa is as long.
-    pub fn of_text(source: Source, text: &[u8]) -> Recognised
+    pub fn of_text(source: Source, text: &[u8]) -> Option<Form>
         ensures { result ≡ form_of source text.now }
     {
         let visa = is_alone(source) & selects_visa(lent::octet(text, 0), lent::octet(text, 1));
         Form::of_length(text.len(), visa)
     }
 
-    fn of_length(n: usize, visa: bool) -> Recognised
+    fn of_length(n: usize, visa: bool) -> Option<Form>
         ensures { result ≡ first_form (λ f. eqb n (total f) && (not (is_visa (row f).kind) || visa)) forms }
     {
         match n {
-            Form::TD1_TEXT => Recognised::As(Form::Td1),
-            Form::TD2_TEXT => {
-                if visa {
-                    Recognised::As(Form::MrvB)
-                } else {
-                    Recognised::As(Form::Td2)
-                }
-            }
-            Form::TD3_TEXT => {
-                if visa {
-                    Recognised::As(Form::MrvA)
-                } else {
-                    Recognised::As(Form::Td3)
-                }
-            }
-            _ => Recognised::Unknown,
+            Form::TD1_TEXT => Some(Form::Td1),
+            Form::TD2_TEXT => Some(if visa { Form::MrvB } else { Form::Td2 }),
+            Form::TD3_TEXT => Some(if visa { Form::MrvA } else { Form::Td3 }),
+            _ => None,
         }
     }
 
     // Which form a number in an entry is.
-    pub fn entered_as(n: u32) -> Recognised
+    pub fn entered_as(n: u32) -> Option<Form>
         ensures { result ≡ form_by n }
     {
         match n {
-            0 => Recognised::As(Form::Td1),
-            1 => Recognised::As(Form::Td2),
-            2 => Recognised::As(Form::Td3),
-            3 => Recognised::As(Form::MrvA),
-            4 => Recognised::As(Form::MrvB),
-            _ => Recognised::Unknown,
+            0 => Some(Form::Td1),
+            1 => Some(Form::Td2),
+            2 => Some(Form::Td3),
+            3 => Some(Form::MrvA),
+            4 => Some(Form::MrvB),
+            _ => None,
         }
     }
 
@@ -260,6 +242,18 @@ impl Form {
     }
 }
 
+impl fmt::Display for Form {
+    fn fmt<W: fmt::Write>(&self, f: &mut fmt::Formatter<W>) -> fmt::Result {
+        f.write_str(match self {
+            Form::Td1 => "TD1",
+            Form::Td2 => "TD2",
+            Form::Td3 => "TD3",
+            Form::MrvA => "MRV-A",
+            Form::MrvB => "MRV-B",
+        })
+    }
+}
+
 // The first two characters of a visa.
 pub fn selects_visa(a: u8, b: u8) -> bool
     ensures { result ≡ is_visa_code a b }
@@ -270,11 +264,7 @@ pub fn selects_visa(a: u8, b: u8) -> bool
 fn is_alone(source: Source) -> bool
     ensures { result ≡ is_alone source }
 {
-    match source {
-        Source::Alone => true,
-        Source::GroupOne => false,
-        Source::Seal => false,
-    }
+    source == Source::Alone
 }
 
 // The rows.

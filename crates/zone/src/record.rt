@@ -1,4 +1,5 @@
 // What the library keeps of a document. Names, numbers and codes are characters; places past a length are fillers.
+// Each length stands beside a room of fixed size: there is no heap, and C has them so.
 ghost use Rattle.std.specs.Prelude.{◌≡◌};
 ghost use Rattle.zone.specs.Record.{blank, trimmed_length};
 

@@ -1,13 +1,14 @@
 -- No words of the paper: stage 5 as the code goes about it, with a table of where the digest of each group begins. A group's
 -- place is 0 where it has no entry, and from its first file on, so that one test tells both a group without entry and one lent
 -- before.
+use Rattle.outer.specs.declared.File.{File}
 use Rattle.std.specs.Prelude.{ℕ, ◌&&◌, List, [], ◌∷◌, ltb, take, drop, get_or, set}
 use Rattle.refusal.specs.Outcome.{Outcome, passed, unless, or_else}
 use Rattle.sha256.specs.Hash.{sha256}
 use Rattle.tlv.specs.Read.{Read, value, refusal}
 use Rattle.lent.specs.Octets.{alike, stands}
 use Rattle.tlv.specs.Tags.{group_of}
-use Rattle.outer.specs.Outer.{File, files}
+use Rattle.outer.specs.Outer.{files}
 use Rattle.chip.specs.Files.{file_octets}
 
 -- the files that were walked

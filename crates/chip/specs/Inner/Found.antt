@@ -1,17 +1,9 @@
 -- No words of the paper: what the code answers when it looks for a group's file.
+use Rattle.outer.specs.declared.File.{File}
 use Rattle.std.specs.Prelude.{ℕ, cond, List, eqb}
 use Rattle.tlv.specs.declared.Stretch.{Stretch}
-use Rattle.refusal.specs.Numbers.{by}
 use Rattle.tlv.specs.Read.{Read, value, refusal}
-use Rattle.chip.specs.declared.group_file.Found.{Found}
-use Rattle.chip.specs.declared.group_file.Found.TheVariants.{Lent, Missing}
-use Rattle.outer.specs.Outer.{File}
 use Rattle.chip.specs.Presentation.{first_file, file_or_none}
-
--- 14 at the presentation's length, where no such file is lent
-abbrev pub found_of : ℕ → Found → Read File
-found_of n (Lent p) = value (record { start = p.start; held = p.held })
-found_of n Missing = refusal (by 14) n
 
 -- the first file of a group, where some files have been passed and some are left: the one that was found among those (it ends
 -- behind 0), else the first of these; none where one that is left is refused

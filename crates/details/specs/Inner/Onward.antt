@@ -1,4 +1,4 @@
--- No words of the paper: what is left to do from one step of the code on.
+-- No words of the paper: the reading of group 11 as the code joins it, from the file on and from its list on.
 use Rattle.std.specs.Prelude.{ℕ, List, length, take}
 use Rattle.refusal.specs.Outcome.{Outcome, or_else, unless}
 use Rattle.tlv.specs.declared.Stretch.{Stretch}

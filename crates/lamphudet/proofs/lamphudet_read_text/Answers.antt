@@ -8,12 +8,12 @@ use Rattle.lamphudet.proofs.lamphudet_read_text.Goals as goal
 pub returns : goal.returns
 unfolding answer_of read_answer read_out
 returns c =
-    let read = c.read-reading.ensures in
+    let read = c.read.ensures in
     let w = c.enter.ensures in
     let lent = c in
     let octets = lent_octets lent.args.text.now (λ i. omega (arith, lent.shared_slice_known-1.given i)) in
     record {
-      value = rw (c.in_c.ensures, w.result_value, ← read);
+      value = rw (c.in_c.ensures.length, w.result_value, ← read);
       after = rw (w.out_after, ← read);
       are_octets = octets;
     }

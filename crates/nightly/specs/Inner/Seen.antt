@@ -1,12 +1,9 @@
 -- What one pass over a list saw: how many entries, and of a house the stretch, which grows with each of its entries.
 use Rattle.std.specs.Prelude.{ℕ, ◌+◌, cond, List, [], ◌∷◌, eqb, length}
-use Rattle.refusal.specs.Numbers.{why_of}
 use Rattle.tlv.specs.declared.Stretch.{Stretch}
 use Rattle.tlv.specs.Read.{Read, value, refusal}
 use Rattle.nightly.specs.declared.place.Place.{Place}
 use Rattle.nightly.specs.declared.walk.Seen.{Seen}
-use Rattle.nightly.specs.declared.walk.Walked.{Walked}
-use Rattle.nightly.specs.declared.walk.Walked.TheVariants as walk
 use Rattle.nightly.specs.List.{entries}
 
 unfoldable pub grown : (house : ℕ) → Stretch → Place → Stretch
@@ -25,7 +22,3 @@ seen_of house n v (refusal why place) = refusal why place
 
 unfoldable pub walked : List ℕ → (house : ℕ) → Read Seen
 walked w house = seen_of house 0 (record { from = 0; to = 0 }) (entries w)
-
-abbrev pub walked_of : Walked → Read Seen
-walked_of (walk.Whole s) = value s
-walked_of (walk.Refused r) = refusal (why_of r.cause) r.place

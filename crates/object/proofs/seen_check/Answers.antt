@@ -1,7 +1,11 @@
--- Both checks in their order.
-use Rattle.object.specs.Inner.Seen.{seen_check}
+-- By whether a number was repeated.
+use Rattle.object.specs.Inner.Seen.{once_of, seen_check}
 use Rattle.object.proofs.seen_check.Goals as goal
 
-pub returns : goal.returns
-unfolding seen_check
-returns c = rw (c.or_else.ensures, c.judged-some.ensures, c.judged-once.ensures)
+pub returns-in-Some : goal.returns-in-Some
+unfolding seen_check once_of
+returns-in-Some c = rw (c.in-Some.is, c.at.ensures)
+
+pub returns-in-None : goal.returns-in-None
+unfolding seen_check once_of
+returns-in-None c = rw c.in-None.is c.unless.ensures

@@ -1,34 +1,19 @@
 -- No words of the paper: what the code of stage 4 answers, beside the definitions. The entries are walked once, and what was seen
 -- of them is kept: how many, where the first repeated integer stands, and for each group where its digest begins.
-use Rattle.std.specs.Prelude.{ℕ, zero, suc, ◌+◌, Bool, cond, List, [], ◌∷◌, eqb, leb, take, get_or, set, replicate}
-use Rattle.refusal.specs.Numbers.{why_of}
-use Rattle.refusal.specs.Outcome.{Outcome, passed, refused, unless, or_else, outcome_of}
-use Rattle.tlv.specs.declared.Stretch.{Stretch}
-use Rattle.tlv.specs.Read.{Read, value, refusal, and_then, checked, outcome_in}
+use Rattle.std.specs.Prelude.{ℕ, zero, suc, ◌+◌, Bool, cond, Option, Some, None, List, [], ◌∷◌, eqb, leb, get_or, set, replicate}
+use Rattle.std.specs.Option.{option_or}
+use Rattle.refusal.specs.Numbers.{by}
+use Rattle.refusal.specs.Outcome.{Outcome, passed, refused, unless, or_else}
+use Rattle.tlv.specs.Read.{Read, value, and_then}
 use Rattle.object.specs.declared.entries.Seen.{Seen}
-use Rattle.object.specs.declared.entries.HashRead.{HashRead}
-use Rattle.object.specs.declared.entries.HashRead.TheVariants.{Value, Refused}
-use Rattle.object.specs.declared.strings.Strings.{Strings}
-use Rattle.object.specs.declared.strings.Version.{Version}
-use Rattle.object.specs.declared.strings.Version.TheVariants.{Zero}
-use Rattle.object.specs.declared.strings.StringsRead.{StringsRead}
-use Rattle.object.specs.declared.strings.StringsRead.TheVariants.{Value as Found, Refused as NotFound}
-use Rattle.object.specs.declared.strings.VersionRead.{VersionRead}
-use Rattle.object.specs.declared.strings.VersionRead.TheVariants.{Value as Told, Refused as NotTold}
-use Rattle.object.specs.declared.ObjectRead.{ObjectRead}
+use Rattle.object.specs.declared.Object.{Object}
 use Rattle.object.specs.Object as O
 use Rattle.object.specs.Object.{digest_for}
-
--- ---- an entry
-
-abbrev pub group_hash_of : HashRead → Read O.GroupHash
-group_hash_of (Value e) = value (record { group = e.group; place = e.place; digest = e.digest; end = e.end })
-group_hash_of (Refused r) = refusal (why_of r.cause) r.place
 
 -- ---- what was seen of the entries
 
 abbrev pub none : Seen
-none = record { count = 0; repeated = 0; digests = replicate 17 0 }
+none = record { count = 0; repeated = None; digests = replicate 17 0 }
 
 -- whether a group's number was seen before
 unfoldable pub is_new : Seen → ℕ → Bool
@@ -43,7 +28,7 @@ counted t e =
       digests = set t.digests e.group
           e.digest;
     })
-    (record { count = t.count + 1; repeated = cond (eqb t.repeated 0) e.place t.repeated; digests = t.digests })
+    (record { count = t.count + 1; repeated = option_or t.repeated (Some e.place); digests = t.digests })
 
 unfoldable pub tallied : Seen → List O.GroupHash → Seen
 tallied t [] = t
@@ -53,28 +38,13 @@ tallied t (e ∷ es) = tallied (counted t e) es
 unfoldable pub tally_from : List ℕ → ℕ → Seen → Read Seen
 tally_from s at t = and_then (O.entries s at) (λ es. value (tallied t es))
 
-unfoldable pub seen_in : Read Seen → Seen
-seen_in (value t) = t
-seen_in (refusal n p) = none
-
 -- the tests after all entries
+unfoldable pub once_of : Option ℕ → Outcome
+once_of None = passed
+once_of (Some place) = refused (by 12) place
+
 unfoldable pub seen_check : Seen → ℕ → Outcome
-seen_check t at = or_else (unless (eqb t.repeated 0) 12 t.repeated) (unless (leb 2 t.count) 12 at)
-
--- ---- the version, with its strings
-
-abbrev pub strings_of : StringsRead → Read Strings
-strings_of (Found t) = value t
-strings_of (NotFound r) = refusal (why_of r.cause) r.place
-
-abbrev pub version_of : VersionRead → Read Version
-version_of (Told x) = value x
-version_of (NotTold r) = refusal (why_of r.cause) r.place
-
--- 0 where it is refused
-unfoldable pub version_in : Read Version → Version
-version_in (value x) = x
-version_in (refusal n p) = Zero
+seen_check t at = or_else (once_of t.repeated) (unless (leb 2 t.count) 12 at)
 
 -- ---- the whole object
 
@@ -83,35 +53,13 @@ unfoldable pub digests_from : ℕ → ℕ → List O.GroupHash → List ℕ
 digests_from zero group es = []
 digests_from (suc more) group es = digest_for group es ∷ digests_from more (suc group) es
 
--- for each group from 0 to 16 where its digest begins, 0 where it has no entry or the object is refused
-unfoldable pub table_of : Read O.Said → List ℕ
-table_of (value x) = digests_from 17 0 x.entries
-table_of (refusal n p) = replicate 17 0
+-- for each group from 0 to 16 where its digest begins, 0 where it has no entry
+unfoldable pub table_of : O.Said → List ℕ
+table_of x = digests_from 17 0 x.entries
 
--- the version, 0 where the object is refused
-unfoldable pub said_version : Read O.Said → Version
-said_version (value x) = x.version
-said_version (refusal n p) = Zero
+-- what is kept of what an object says: the table, and the version
+unfoldable pub kept_of : O.Said → Object
+kept_of x = record { digests = table_of x; version = x.version }
 
-pub record ObjectAnswer : Type 0 where
-  pub outcome : Outcome
-  pub digests : List ℕ
-  pub version : Version
-
-abbrev pub object_answer_of : ObjectRead → ObjectAnswer
-object_answer_of r = record { outcome = outcome_of r.verdict; digests = r.digests; version = r.version }
-
-unfoldable pub object_answer : Read O.Said → ObjectAnswer
-object_answer x = record { outcome = outcome_in x; digests = table_of x; version = said_version x }
-
--- the entries in a list's content, then the tests on all of them, then the version
-abbrev pub from_entries : Bool → List ℕ → ℕ → Stretch → Read O.Said
-from_entries newer s at v =
-    and_then (O.entries (take v.to s) v.from) (λ es.
-    checked (O.entries_check es at)
-    (and_then (O.version_at newer s v.to) (λ x. value (record { entries = es; version = x }))))
-
--- a refusal has no digests, and version 0
-unfoldable pub settled : Outcome → List ℕ → Version → ObjectAnswer
-settled passed digests x = record { outcome = passed; digests = digests; version = x }
-settled (refused n p) digests x = record { outcome = refused n p; digests = replicate 17 0; version = Zero }
+unfoldable pub kept : Read O.Said → Read Object
+kept m = and_then m (λ x. value (kept_of x))

@@ -9,7 +9,7 @@ pub returns-then-is_group : goal.returns-then-is_group
 unfolding file_at
 returns-then-is_group c =
     let a = c.args in
-    let small = c.shared_slice_known-1.given a.at in
+    let small = c.type_inv.w a.at in
     let group = rw c.octet.ensures at (sym c.is_group.ensures
     ∙ c.if-is_group.true) in
     rw group (c.behind_tag.ensures ∙ behind_one a.w.now a.at (omega (arith, small)))

@@ -1,7 +1,7 @@
 use mathlib.Core.Path.{refl, ap, sym, ◌∙◌}
 use native.Mathlib.Omega.{arith}
+use Rattle.std.proofs.lemmas.Result.{err_from_is_err_and}
 use Rattle.tlv.specs.Read.{outcome_in}
-use Rattle.tlv.specs.Element.{taken_of}
 use Rattle.outer.proofs.FilesWalked.{file_behind, told_next, files_refused, files_done}
 use Rattle.outer.proofs.files.Goals as goal
 
@@ -10,26 +10,21 @@ loop-at-init c = refl
 
 pub loop-at-smaller : goal.loop-at-smaller
 loop-at-smaller c =
-    let w = c.args.w.now in
-    let e = sym c.file_at.ensures ∙ ap taken_of c.in-Value.is in
-    let b = file_behind w c.loop-at.at c.in-Value.held e in
+    let b = file_behind c.args.w.now c.loop-at.at c.in_ok-at.field-0 (sym c.in_ok-at.ensures) in
     omega (arith, b.0, b.1)
 
 pub loop-at-preserved : goal.loop-at-preserved
 loop-at-preserved c =
-    let w = c.args.w.now in
-    let e = sym c.file_at.ensures ∙ ap taken_of c.in-Value.is in
-    told_next w c.loop-at.at c.in-Value.held
-    c.loop-at-test.true e
+    told_next c.args.w.now c.loop-at.at c.in_ok-at.field-0 c.loop-at-test.true (sym c.in_ok-at.ensures)
     ∙ c.loop-at.invariant
 
-pub returns-in-Refused : goal.returns-in-Refused
+pub returns-in_err-at : goal.returns-in_err-at
 unfolding outcome_in
-returns-in-Refused c =
-    let w = c.args.w.now in
-    let e = sym c.file_at.ensures ∙ ap taken_of c.in-Refused.is in
+returns-in_err-at c =
+    let p = err_from_is_err_and c.from_residual.result c.from_residual.ensures.1 in
     let l = c.loop-at in
-    sym (ap outcome_in (files_refused w l.at _ _ c.loop-at-test.true e)) ∙ l.invariant
+    rw (p.1, p.2)
+    (sym (ap outcome_in (files_refused c.args.w.now l.at _ _ c.loop-at-test.true (sym c.in_err-at.ensures))) ∙ l.invariant)
 
 pub returns : goal.returns
 unfolding outcome_in

@@ -6,34 +6,34 @@ use Rattle.tlv.proofs.sized.Goals as goal
 
 pub overflow_add-from : goal.overflow_add-from
 unfolding count_in
-overflow_add-from c = let k = rw c.in-Of.is at c.size_of.ensures.result_bound.0 in omega
+overflow_add-from c = let k = rw c.in-Some.is at c.size_of.ensures.result_bound.0 in omega
     (arith, k, c.requires)
 
-pub overflow_add-from-in-Of : goal.overflow_add-from-in-Of
+pub overflow_add-from-in-Some : goal.overflow_add-from-in-Some
 unfolding count_in
-overflow_add-from-in-Of c = let k = rw c.in-Of.is at
-    c.size_of.ensures.result_bound.0 in let n = rw c.in-Of.is at
+overflow_add-from-in-Some c = let k = rw c.in-Some.is at
+    c.size_of.ensures.result_bound.0 in let n = rw c.in-Some.is at
     c.size_of.ensures.result_bound.1 in omega
     (arith, k, n, c.requires)
 
-pub returns-in-Of : goal.returns-in-Of
+pub returns-in-Some : goal.returns-in-Some
 unfolding sized size_at
-returns-in-Of c = rw (
+returns-in-Some c = rw (
   ← c.octet-c.ensures,
   ← c.octet-b.ensures,
   ← c.octet-a.ensures,
   ← c.size_of.ensures.value,
-  c.in-Of.is,
+  c.in-Some.is,
 )
     c.ends_within.ensures
 
-pub returns-in-Unknown : goal.returns-in-Unknown
+pub returns-in-None : goal.returns-in-None
 unfolding sized size_at
-returns-in-Unknown c = rw (
+returns-in-None c = rw (
   ← c.octet-c.ensures,
   ← c.octet-b.ensures,
   ← c.octet-a.ensures,
   ← c.size_of.ensures.value,
-  c.in-Unknown.is,
+  c.in-None.is,
 )
     c.refuse.ensures

@@ -1,4 +1,5 @@
 use Rattle.std.proofs.Common.{◌∙◌, ◌-◌, sym, ap, arith}
+use Rattle.std.proofs.lemmas.Result.{err_from_is_err_and}
 use lib.Seq.{length-take-le}
 use Rattle.tree.specs.Inner.Passed.{counting}
 use Rattle.tree.proofs.Heads.{here_within}
@@ -7,50 +8,52 @@ use Rattle.tree.proofs.Walking.{counting_done, counting_next, counting_refused}
 use Rattle.tree.proofs.Walking.{passing_refused, passing_deep, passing_one, passing_held, passing_stopped}
 use Rattle.tree.proofs.+element_list.Goals as goal
 
+pub element-returns-in_err-v : goal.element-returns-in_err-v
+element-returns-in_err-v t c =
+    let p = err_from_is_err_and c.from_residual.result c.from_residual.ensures.1 in
+    rw (p.1, p.2) (sym (passing_refused c.args.levels c.args.s.now c.args.at _ _ (sym c.in_err-v.ensures)))
+
 pub element-returns-then-levels-eq0 : goal.element-returns-then-levels-eq0
 element-returns-then-levels-eq0 t c =
     let a = c.args in
-    rw c.at.ensures (sym (passing_deep a.levels a.s.now a.at c.in-Value.v (sym c.in-Value.ensures) c.if-levels-eq0.true))
+    rw c.at.ensures (sym (passing_deep a.levels a.s.now a.at c.in_ok-v.v (sym c.in_ok-v.ensures) c.if-levels-eq0.true))
 
 pub element-slice_bounds-list-end : goal.element-slice_bounds-list-end
 element-slice_bounds-list-end t c =
     let a = c.args in
-    let v = c.in-Value in
+    let v = c.in_ok-v in
     sym (length-take-le v.v.to a.s.now (here_within a.s.now a.at v.v (sym v.ensures)).2)
 
 pub element-overflow_add-result : goal.element-overflow_add-result
 element-overflow_add-result t c =
     let a = c.args in
-    let v = c.in-Value in
-    let n = c.in-Elements in
-    omega (arith, held_bound (a.levels - 1) a.s.now a.at v.v (sym v.ensures) n.n (sym n.ensures))
+    let v = c.in_ok-v in
+    let n = c.in_ok-held in
+    omega (arith, held_bound (a.levels - 1) a.s.now a.at v.v (sym v.ensures) n.held (sym n.ensures))
 
-pub element-returns-in-Elements : goal.element-returns-in-Elements
-element-returns-in-Elements t c =
+pub element-returns : goal.element-returns
+element-returns t c =
     let a = c.args in
-    let v = c.in-Value in
-    let n = c.in-Elements in
+    let v = c.in_ok-v in
+    let n = c.in_ok-held in
     sym (passing_held a.levels a.s.now a.at v.v (sym v.ensures) (a.levels - 1)
-    (omega (arith, c.if-levels-eq0.false)) (sym c.if-opens.ensures) n.n (sym n.ensures))
+    (omega (arith, c.if-levels-eq0.false)) (sym c.if-not-opens.ensures) n.held (sym n.ensures))
 
-pub element-returns-in-Refused-list : goal.element-returns-in-Refused-list
-element-returns-in-Refused-list t c =
+pub element-returns-in_err-held : goal.element-returns-in_err-held
+element-returns-in_err-held t c =
+    let r = c.from_residual-in_err-held in
+    let p = err_from_is_err_and r.result r.ensures.1 in
     let a = c.args in
-    let v = c.in-Value in
-    sym (passing_stopped a.levels a.s.now a.at v.v (sym v.ensures) (a.levels - 1)
-    (omega (arith, c.if-levels-eq0.false)) (sym c.if-opens.ensures) _ _ (sym c.in-Refused-list.ensures))
+    let v = c.in_ok-v in
+    rw (p.1, p.2) (sym (passing_stopped a.levels a.s.now a.at v.v (sym v.ensures) (a.levels - 1)
+    (omega (arith, c.if-levels-eq0.false)) (sym c.if-not-opens.ensures) _ _ (sym c.in_err-held.ensures)))
 
-pub element-returns-else-opens : goal.element-returns-else-opens
-element-returns-else-opens t c =
+pub element-returns-then-not-opens : goal.element-returns-then-not-opens
+element-returns-then-not-opens t c =
     let a = c.args in
-    let v = c.in-Value in
+    let v = c.in_ok-v in
     sym (passing_one a.levels a.s.now a.at v.v (sym v.ensures) (a.levels - 1)
-    (omega (arith, c.if-levels-eq0.false)) (sym c.if-opens.ensures))
-
-pub element-returns-in-Refused : goal.element-returns-in-Refused
-element-returns-in-Refused t c =
-    let a = c.args in
-    sym (passing_refused a.levels a.s.now a.at _ _ (sym c.in-Refused.ensures))
+    (omega (arith, c.if-levels-eq0.false)) (sym c.if-not-opens.ensures))
 
 pub list-loop-at-init : goal.list-loop-at-init
 list-loop-at-init t c = (plus_none (counting c.args.levels c.args.s.now c.args.start), omega arith)
@@ -59,14 +62,14 @@ pub list-overflow_add-elements : goal.list-overflow_add-elements
 list-overflow_add-elements t c =
     let a = c.args in
     let l = c.loop-at in
-    let p = c.in-Whole in
+    let p = c.in_ok-passed in
     let w = passing_bound a.levels a.s.now l.at p.passed (sym p.ensures) in
     omega (arith, w.1, w.2, l.invariant.1)
 
 pub list-loop-at-smaller : goal.list-loop-at-smaller
 list-loop-at-smaller t c =
     let a = c.args in
-    let p = c.in-Whole in
+    let p = c.in_ok-passed in
     let w = passing_bound a.levels a.s.now c.loop-at.at p.passed (sym p.ensures) in
     omega (arith, w.0, w.1)
 
@@ -74,7 +77,7 @@ pub list-loop-at-preserved : goal.list-loop-at-preserved
 list-loop-at-preserved t c =
     let a = c.args in
     let l = c.loop-at in
-    let p = c.in-Whole in
+    let p = c.in_ok-passed in
     let e = sym p.ensures in
     let w = passing_bound a.levels a.s.now l.at p.passed e in
     let next = counting_next a.levels a.s.now l.at p.passed c.loop-at-test.true e in (
@@ -84,13 +87,14 @@ list-loop-at-preserved t c =
       omega (arith, w.2, l.invariant.1),
     )
 
-pub list-returns-in-Refused : goal.list-returns-in-Refused
-list-returns-in-Refused t c =
+pub list-returns-in_err-passed : goal.list-returns-in_err-passed
+list-returns-in_err-passed t c =
+    let p = err_from_is_err_and c.from_residual.result c.from_residual.ensures.1 in
     let a = c.args in
     let l = c.loop-at in
-    sym (plus_stopped l.elements _ _ _
-    (counting_refused a.levels a.s.now l.at _ _ c.loop-at-test.true (sym c.in-Refused.ensures)))
-    ∙ l.invariant.0
+    rw (p.1, p.2) (sym (plus_stopped l.elements _ _ _
+    (counting_refused a.levels a.s.now l.at _ _ c.loop-at-test.true (sym c.in_err-passed.ensures)))
+    ∙ l.invariant.0)
 
 pub list-returns : goal.list-returns
 list-returns t c =

@@ -1,10 +1,7 @@
 -- No words of the paper: how many elements were passed, and where the last of them ends.
 use Rattle.std.specs.Prelude.{ℕ, List}
-use Rattle.refusal.specs.Numbers.{why_of}
-use Rattle.tlv.specs.Read.{Read, value, refusal, and_then}
+use Rattle.tlv.specs.Read.{Read, value, and_then}
 use Rattle.tree.specs.declared.Passed.{Passed}
-use Rattle.tree.specs.declared.Walked.{Walked}
-use Rattle.tree.specs.declared.Walked.TheVariants.{Whole, Refused}
 use Rattle.tree.specs.Tree.{Forest, elements, all_elements}
 use Rattle.tree.specs.Reading.{Found, forest, tree_at}
 
@@ -14,8 +11,3 @@ passing d s at = and_then (tree_at d s at) (λ (t : Found). value (record { elem
 
 unfoldable pub counting : (depth : ℕ) → List ℕ → ℕ → Read ℕ
 counting d s at = and_then (forest (tree_at d) s at) (λ (f : Forest). value (all_elements f))
-
--- the paper's number and values of each case
-abbrev pub walked_of : Walked → Read Passed
-walked_of (Whole p) = value p
-walked_of (Refused r) = refusal (why_of r.cause) r.place

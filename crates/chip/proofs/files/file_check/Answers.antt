@@ -10,7 +10,7 @@ unfolding file_by file_octets
 returns-then-stands-place c = let same = rw (c.part.ensures, c.cut-file.ensures) at
     c.is_digested-same.ensures in
     rw (← c.stands.ensures, c.if-stands-place.true)
-    (c.judged.ensures ∙ ap (λ b. unless b 15
+    (c.unless.ensures ∙ ap (λ b. unless b 15
     c.args.at) same)
 
 pub returns : goal.returns

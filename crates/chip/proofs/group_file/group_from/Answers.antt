@@ -1,6 +1,6 @@
+use Rattle.tlv.specs.Read.{read_of}
 use mathlib.Core.Path.{refl, ap, sym, ◌∙◌}
 use native.Mathlib.Omega.{arith}
-use Rattle.tlv.specs.Element.{taken_of}
 use Rattle.tlv.specs.Tags.{group_of}
 use Rattle.outer.proofs.FilesWalked.{file_behind}
 use Rattle.chip.proofs.FirstFile.{found_here, found_on, found_done, found_refused}
@@ -11,8 +11,8 @@ loop-at-smaller-then-found-own c =
     let a = c.args in
     let l = c.loop-at in
     let e = sym c.file_at.ensures
-    ∙ ap taken_of c.in-Value.is in
-    let b = file_behind a.w.now l.at c.in-Value.held e in
+    ∙ ap read_of c.in-Ok.is in
+    let b = file_behind a.w.now l.at c.in-Ok.held e in
     omega (arith, b.0, b.1)
 
 pub loop-at-preserved-then-found-own : goal.loop-at-preserved-then-found-own
@@ -21,8 +21,8 @@ loop-at-preserved-then-found-own c =
     let l = c.loop-at in
     let w = a.w.now in
     let e = sym c.file_at.ensures
-    ∙ ap taken_of c.in-Value.is in
-    let v = c.in-Value.held in
+    ∙ ap read_of c.in-Ok.is in
+    let v = c.in-Ok.held in
     let g = c.group_of-own.ensures.0 ∙ ap group_of c.octet-tag.ensures in
     let h = c.loop-at-test.true in
     let b = file_behind w l.at v e in (
@@ -35,8 +35,8 @@ loop-at-smaller c =
     let a = c.args in
     let l = c.loop-at in
     let e = sym c.file_at.ensures
-    ∙ ap taken_of c.in-Value.is in
-    let b = file_behind a.w.now l.at c.in-Value.held e in
+    ∙ ap read_of c.in-Ok.is in
+    let b = file_behind a.w.now l.at c.in-Ok.held e in
     omega (arith, b.0, b.1)
 
 pub loop-at-preserved : goal.loop-at-preserved
@@ -45,18 +45,18 @@ loop-at-preserved c =
     let l = c.loop-at in
     let w = a.w.now in
     let e = sym c.file_at.ensures
-    ∙ ap taken_of c.in-Value.is in
-    let v = c.in-Value.held in
+    ∙ ap read_of c.in-Ok.is in
+    let v = c.in-Ok.held in
     let g = c.group_of-own.ensures.0 ∙ ap group_of c.octet-tag.ensures in
     let h = c.loop-at-test.true in
     (found_on w a.group l.at l.found v h e (rw (← g) c.if-found-own.false) ∙ l.invariant.0, l.invariant.1)
 
-pub returns-in-Refused : goal.returns-in-Refused
-returns-in-Refused c =
+pub returns-in-Err : goal.returns-in-Err
+returns-in-Err c =
     let a = c.args in
     let l = c.loop-at in
     found_refused a.w.now a.group l.at l.found _ _ c.loop-at-test.true
-    (sym c.file_at.ensures ∙ ap taken_of c.in-Refused.is)
+    (sym c.file_at.ensures ∙ ap read_of c.in-Err.is)
     ∙ l.invariant.0
 
 pub returns : goal.returns

@@ -1,23 +1,15 @@
 -- The first file of group 1, and the text inside it.
-use mathlib.Core.Path.{ap, sym, ◌∙◌}
-use lib.ListN.{length}
+use Rattle.std.proofs.lemmas.Result.{err_from_is_err_and}
 use Rattle.tlv.specs.Read.{and_then}
-use Rattle.group_text.specs.Text.{text_at, answer_by}
 use Rattle.chip.specs.Presentation.{group_one}
-use Rattle.chip.specs.Inner.Found.{found_of}
 use Rattle.chip.proofs.group_one.group_one.Goals as goal
 
-pub returns-in-Lent : goal.returns-in-Lent
+pub returns-in_err-file : goal.returns-in_err-file
 unfolding group_one and_then
-returns-in-Lent c = let w = c.args.w.now in
-    let e = sym c.first_file.ensures
-    ∙ ap (found_of (length w)) c.in-Lent.is in
-    rw e (c.text_at.ensures ∙ ap (λ s. answer_by (text_at s c.in-Lent.place.held.from))
-    c.part.ensures)
+returns-in_err-file c =
+    let p = err_from_is_err_and c.from_residual.result c.from_residual.ensures.1 in
+    rw (p.1, p.2, ← c.in_err-file.ensures)
 
-pub returns-in-Missing : goal.returns-in-Missing
+pub returns : goal.returns
 unfolding group_one and_then
-returns-in-Missing c = let w = c.args.w.now in
-    let e = sym c.first_file.ensures
-    ∙ ap (found_of (length w)) c.in-Missing.is in
-    rw e (rw c.at.ensures at c.refuse.ensures)
+returns c = rw (← c.in_ok-file.ensures, ← c.part.ensures) c.text_at.ensures

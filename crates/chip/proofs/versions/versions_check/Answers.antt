@@ -4,4 +4,4 @@ use Rattle.chip.proofs.versions.versions_check.Goals as goal
 
 pub returns : goal.returns
 unfolding versions_check
-returns c = rw (c.judged.ensures, c.agrees.ensures)
+returns c = rw (c.unless.ensures, c.agrees.ensures)

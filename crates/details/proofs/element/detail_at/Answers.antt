@@ -22,7 +22,7 @@ returns-then-is_named c =
     let other = rw c.tag_here-tag.ensures at c.if-tag-eq-TEMPLATE.false in
     let named = rw c.tag_here-tag.ensures at
     (sym c.is_named.ensures ∙ c.if-is_named.true) in
-    let small = c.shared_slice_known-1.given (a.at + 1) in
+    let small = c.type_inv.s (a.at + 1) in
     c.behind_tag.ensures ∙ detail_named a.s.now a.at (omega (arith, small)) other named
 
 pub returns-else-is_named : goal.returns-else-is_named

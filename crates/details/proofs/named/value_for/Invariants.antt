@@ -1,13 +1,11 @@
 -- What is left from here says the same as the whole.
-use Prim.Native.Nat.{◌-◌}
 use mathlib.Core.Path.{◌≡◌}
-use lib.ListN.{length, drop}
+use Rattle.std.specs.Slice.Iter.{chunks_rest, chunks_size}
 use Rattle.details.specs.Tags.{tags_in}
 use Rattle.details.specs.Inner.Places.{value_at}
 use Rattle.details.proofs.named.value_for.Given as goal
 
-abbrev pub invariant-loop-i : goal.invariant-loop-i
-invariant-loop-i l = value_at l.asked l.s (tags_in (drop l.i l.tags)) l.at ≡ value_at l.asked l.s (tags_in l.tags) l.start
-
-abbrev pub decreases-loop-i : goal.decreases-loop-i
-decreases-loop-i l = length l.tags - l.i
+abbrev pub invariant-loop-pair : goal.invariant-loop-pair
+invariant-loop-pair l =
+    (chunks_size l.pair-iterator ≡ 2)
+    × (value_at l.asked l.s (tags_in (chunks_rest l.pair-iterator)) l.at ≡ value_at l.asked l.s (tags_in l.tags) l.start)

@@ -15,16 +15,16 @@ loop-i-preserved c =
     let s = c.args.tags.now in (
       search rules,
       known_more s from l.i (known_from from s) l.invariant.1 (search rules)
-          (sym c.is_group.ensures ∙ c.if-is_group.true),
+          (sym c.is_group.ensures ∙ c.if-not-is_group.false),
     )
 
-pub returns-else-is_group : goal.returns-else-is_group
-returns-else-is_group c =
+pub returns-then-not-is_group : goal.returns-then-not-is_group
+returns-then-not-is_group c =
     let l = c.loop-i in
     let from = c.args.from in
     let s = c.args.tags.now in
     rw c.at.ensures (known_stop s from l.i (known_from from s) l.invariant.1 (search rules)
-    (sym c.is_group.ensures ∙ c.if-is_group.false))
+    (sym c.is_group.ensures ∙ c.if-not-is_group.true))
 
 pub returns : goal.returns
 returns c =

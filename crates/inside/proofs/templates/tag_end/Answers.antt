@@ -13,5 +13,5 @@ pub returns-else-octet-eq31 : goal.returns-else-octet-eq31
 returns-else-octet-eq31 c =
     let a = c.args in
     let one = rw c.octet.ensures at c.if-octet-eq31.false in
-    let small = c.shared_slice_known-1.given a.at in
+    let small = c.type_inv.s a.at in
     (rw (width_one a.s.now a.at one (omega (arith, small))), omega arith)

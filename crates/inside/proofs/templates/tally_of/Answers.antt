@@ -14,7 +14,7 @@ loop-at-preserved-then-tag_here-tag c =
     let a = c.args in
     let l = c.loop-at in
     let hit = rw c.tag_here.ensures at c.if-tag_here-tag.true in
-    rw (c.value_here-value.ensures.0, c.first_of-first.ensures)
+    rw (c.value_here-value.ensures.0, c.or-first.ensures)
     (onward_hit a.s.now a.tag a.start l.at l.first l.times
     c.loop-at-test.true l.invariant hit)
 

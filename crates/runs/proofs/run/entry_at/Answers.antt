@@ -5,16 +5,16 @@ use Rattle.units.specs.Unpacked.{bits_within}
 use Rattle.runs.specs.Run.{form_in, entry_by}
 use Rattle.runs.proofs.run.entry_at.Goals as goal
 
-pub returns-in-As : goal.returns-in-As
+pub returns-in-Some : goal.returns-in-Some
 unfolding form_in numbers_at bits_within
-returns-in-As c =
+returns-in-Some c =
     let told = rw c.bits.ensures at
-    (sym c.entered_as-told.ensures ∙ c.in-As.is) in
+    (sym c.entered_as-told.ensures ∙ c.in-Some.is) in
     rw (c.entry_as.ensures, told)
 
-pub returns-in-Unknown : goal.returns-in-Unknown
+pub returns-in-None : goal.returns-in-None
 unfolding form_in numbers_at bits_within entry_by
-returns-in-Unknown c =
+returns-in-None c =
     let told = rw c.bits.ensures at
-    (sym c.entered_as-told.ensures ∙ c.in-Unknown.is) in
+    (sym c.entered_as-told.ensures ∙ c.in-None.is) in
     rw (c.no_entry.ensures, told)

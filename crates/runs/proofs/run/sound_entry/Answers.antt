@@ -3,7 +3,7 @@ use mathlib.Core.Path.{sym, ◌∙◌}
 use mathlib.Core.Bool.{and_assoc}
 use Rattle.lent.proofs.Bools.{and_both}
 use Rattle.entry.specs.Entry.{is_house}
-use Rattle.runs.specs.Run.{standing_of, size_in, is_whole, is_entry, entry_by}
+use Rattle.runs.specs.Run.{size_in, is_whole, is_entry, entry_by}
 use Rattle.runs.proofs.RecordRead.{row_ends}
 use Rattle.runs.proofs.run.sound_entry.Goals as goal
 
@@ -14,7 +14,7 @@ record_in-kept-requires c =
     (known.told.0, (and_both (is_house a.house) (is_whole a.s.now) known.house_value.1).1)
 
 pub returns-then-is_sound : goal.returns-then-is_sound
-unfolding standing_of size_in is_entry entry_by
+unfolding size_in is_entry entry_by
 returns-then-is_sound c =
     let start = c in
     let known = start.requires in

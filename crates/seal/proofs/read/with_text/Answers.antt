@@ -1,13 +1,14 @@
 -- What passed is handed out; a refusal stands at the feature.
+use borrow.Author.Rules.{rules}
 use Rattle.text.specs.Read as text
 use Rattle.tlv.specs.Read.{checked}
 use Rattle.seal.specs.Seal.{answer_of, answer_by, placed, with_text}
 use Rattle.seal.proofs.read.with_text.Goals as goal
 
-pub returns-in-Passed : goal.returns-in-Passed
+pub returns-in-Ok : goal.returns-in-Ok
 unfolding answer_of answer_by placed with_text checked text.answer_of
-returns-in-Passed c = rw c.in-Passed.is
+returns-in-Ok c = search rules
 
-pub returns-in-Refused : goal.returns-in-Refused
+pub returns-in-Err : goal.returns-in-Err
 unfolding answer_of answer_by placed with_text checked text.answer_of
-returns-in-Refused c = rw c.in-Refused.is (rw c.at.ensures at c.refuse.ensures)
+returns-in-Err c = search rules

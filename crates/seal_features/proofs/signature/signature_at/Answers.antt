@@ -1,32 +1,20 @@
 -- An element FF that ends where the seal does.
-use borrow.Author.Tests.{eq-eqb, ne_eqb}
+use Rattle.tlv.proofs.Told.{exit_read}
 use Rattle.tlv.specs.Read.{and_then, checked}
 use Rattle.seal_features.specs.Signature.{signature_at}
 use Rattle.seal_features.proofs.signature.signature_at.Goals as goal
 
-pub returns-then-v-s : goal.returns-then-v-s
-unfolding signature_at and_then checked
-returns-then-v-s c = rw (
-  ← c.element-element.ensures,
-  ← c.numbered.ensures,
-  c.in-Value.is,
-  eq-eqb _ _ c.if-v-s.true,
-)
+pub returns-in_err-v : goal.returns-in_err-v
+unfolding signature_at and_then
+returns-in_err-v c =
+    rw (exit_read _ c.from_residual.result c.from_residual.ensures.1, ← c.element.ensures, ← c.in_err-v.ensures)
 
-pub returns-else-v-s : goal.returns-else-v-s
+pub returns-in_err-unless : goal.returns-in_err-unless
 unfolding signature_at and_then checked
-returns-else-v-s c = rw (
-  ← c.element-element.ensures,
-  ← c.numbered.ensures,
-  c.in-Value.is,
-  ne_eqb _ _ c.if-v-s.false,
-  c.at.ensures,
-)
+returns-in_err-unless c =
+    let r = c.from_residual-in_err-unless in
+    rw (exit_read _ r.result r.ensures.1, ← c.element.ensures, ← c.in_ok-v.ensures, ← c.in_err-unless.ensures)
 
-pub returns-in-Refused : goal.returns-in-Refused
+pub returns : goal.returns
 unfolding signature_at and_then checked
-returns-in-Refused c = rw (
-  ← c.element-element.ensures,
-  ← c.numbered.ensures,
-  c.in-Refused.is,
-)
+returns c = rw (← c.element.ensures, ← c.in_ok-v.ensures, ← c.in_ok-unless.ensures)

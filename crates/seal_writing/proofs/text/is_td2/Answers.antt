@@ -1,23 +1,19 @@
--- The five forms.
+-- Equal to `Td2`, or another.
+use mathlib.Core.Path.{◌≡◌, refl, ◌∙◌}
+use denote.Enum.Bare.{sameb}
+use Rattle.zone.specs.contracts.form.Form.{the_type}
+use Rattle.zone.specs.declared.form.Form.{Form}
+use Rattle.zone.specs.declared.form.Form.TheVariants.{Td1, Td2, Td3, MrvA, MrvB}
 use Rattle.seal_writing.specs.Seal.{is_td2}
 use Rattle.seal_writing.proofs.text.is_td2.Goals as goal
 
-pub returns-in-Td1 : goal.returns-in-Td1
+pub returns : goal.returns
 unfolding is_td2
-returns-in-Td1 c = rw c.in-Td1.is
-
-pub returns-in-Td2 : goal.returns-in-Td2
-unfolding is_td2
-returns-in-Td2 c = rw c.in-Td2.is
-
-pub returns-in-Td3 : goal.returns-in-Td3
-unfolding is_td2
-returns-in-Td3 c = rw c.in-Td3.is
-
-pub returns-in-MrvA : goal.returns-in-MrvA
-unfolding is_td2
-returns-in-MrvA c = rw c.in-MrvA.is
-
-pub returns-in-MrvB : goal.returns-in-MrvB
-unfolding is_td2
-returns-in-MrvB c = rw c.in-MrvB.is
+returns c = c.eq.ensures ∙ told c.args.form
+  where
+    told : (f : Form) → sameb the_type f Td2 ≡ is_td2 f
+    told Td1 = refl
+    told Td2 = refl
+    told Td3 = refl
+    told MrvA = refl
+    told MrvB = refl

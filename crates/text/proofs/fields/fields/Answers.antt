@@ -1,4 +1,5 @@
 -- The checks joined in the order of the form's layout.
+use Rattle.refusal.proofs.Outcomes.{and_else}
 use Rattle.zone.specs.Inner.Places.{places_of}
 use Rattle.text.proofs.Walks.{fields_in_order}
 use Rattle.text.proofs.fields.fields.Goals as goal
@@ -9,9 +10,11 @@ returns c =
     let a = c.args in
     let s = a.span in
     rw (
-      c.or_else.ensures,
+      c.and.ensures,
+      and_else,
       c.in_turn-2.ensures,
-      c.or_else-holder.ensures,
+      c.and-holder.ensures,
+      and_else,
       c.in_turn.ensures,
       c.person_check-person.ensures s,
       c.nationality_check-nationality.ensures s,

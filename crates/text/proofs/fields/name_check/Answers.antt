@@ -8,7 +8,7 @@ pub returns : goal.returns
 unfolding field_rows places_of field
 returns c = λ span.
     rw (
-      c.judged.ensures,
+      c.unless.ensures,
       c.is_name.ensures,
       c.part.ensures,
       c.name_width.ensures,

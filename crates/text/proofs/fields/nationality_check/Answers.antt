@@ -9,7 +9,7 @@ pub returns : goal.returns
 unfolding field_rows places_of field
 returns c = λ span.
     rw (
-      c.judged.ensures,
+      c.unless.ensures,
       c.is_state.ensures,
       c.part.ensures,
       c.places-at.ensures,

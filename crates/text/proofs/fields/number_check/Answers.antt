@@ -10,7 +10,7 @@ pub returns : goal.returns
 unfolding field_rows places_of field number_rule
 returns c =
     rw (
-      c.judged.ensures,
+      c.unless.ensures,
       c.is_number.ensures,
       c.part.ensures,
       c.places-at.ensures,

@@ -1,4 +1,5 @@
 -- The rule on each field, at the field's start.
+use Rattle.refusal.proofs.Outcomes.{and_else}
 use Rattle.zone.specs.Form.{field}
 use Rattle.zone.specs.Inner.Places.{places_of}
 use Rattle.zone.proofs.Widths.{fixed}
@@ -11,9 +12,10 @@ returns c = λ span.
     let tested = c in
     let wide = fixed tested.args.form in
     rw (
-      c.or_else.ensures,
-      c.judged-2.ensures,
-      c.judged.ensures,
+      c.and.ensures,
+      and_else,
+      c.unless-2.ensures,
+      c.unless.ensures,
       tested.is_state-state.ensures,
       tested.part-2.ensures,
       tested.is_code-code.ensures,

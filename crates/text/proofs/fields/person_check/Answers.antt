@@ -1,4 +1,5 @@
 -- The rule on each field, at the field's start.
+use Rattle.refusal.proofs.Outcomes.{and_else}
 use Rattle.zone.specs.Form.{field}
 use Rattle.zone.specs.Inner.Places.{places_of}
 use Rattle.zone.proofs.Widths.{fixed}
@@ -12,11 +13,13 @@ returns c = λ span.
     let first = tested in
     let wide = fixed first.args.form in
     rw (
-      c.or_else.ensures,
-      c.judged-3.ensures,
-      c.or_else-last.ensures,
-      c.judged-2.ensures,
-      c.judged.ensures,
+      c.and.ensures,
+      and_else,
+      c.unless-3.ensures,
+      c.and-last.ensures,
+      and_else,
+      c.unless-2.ensures,
+      c.unless.ensures,
       tested.is_expiry-expiry.ensures,
       tested.part-2.ensures,
       tested.is_sex-sex.ensures,

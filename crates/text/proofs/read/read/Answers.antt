@@ -1,18 +1,12 @@
 -- The form by the text, and the text by the form.
-use Rattle.text.specs.Read.{read_text, read_by}
+use borrow.Author.Rules.{rules}
+use Rattle.text.specs.Read.{read_text, read_by, answered, answer_of}
 use Rattle.text.proofs.read.read.Goals as goal
 
-pub returns-in-As : goal.returns-in-As
+pub returns-in-Some : goal.returns-in-Some
 unfolding read_text
-returns-in-As c =
-    rw (c.read_by.ensures, ← c.of_text.ensures, c.in-As.is)
+returns-in-Some c = search rules
 
-pub returns-in-Unknown : goal.returns-in-Unknown
-unfolding read_text read_by
-returns-in-Unknown c =
-    rw (
-      c.refuse.ensures,
-      c.at.ensures,
-      ← c.of_text.ensures,
-      c.in-Unknown.is,
-    )
+pub returns-in-None : goal.returns-in-None
+unfolding read_text read_by answered answer_of
+returns-in-None c = search rules

@@ -1,4 +1,5 @@
 -- The two digits in their order.
+use Rattle.refusal.proofs.Outcomes.{and_else}
 use mathlib.Core.Path.{ap}
 use Rattle.zone.specs.Part.{birth, expiry}
 use Rattle.zone.specs.Form.{field}
@@ -16,7 +17,8 @@ returns c =
     let f = start.args.form in
     let t = start.args.text.now in
     rw (
-      c.or_else.ensures,
+      c.and.ensures,
+      and_else,
       c.field_digit-2.ensures (field f expiry t) (ap (λ (s : Sums). s.expiry) start.requires),
       c.field_digit.ensures (field f birth t) (ap (λ (s : Sums). s.birth) start.requires),
       c.places-at.ensures,

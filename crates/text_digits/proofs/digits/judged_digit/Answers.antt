@@ -16,4 +16,4 @@ overflow_sub-expected c =
 
 pub returns : goal.returns
 unfolding written_at
-returns c = rw (c.judged.ensures, c.octet-there.ensures)
+returns c = rw (c.unless.ensures, c.octet-there.ensures)

@@ -4,4 +4,4 @@ use Rattle.tlv.proofs.cut.end_check.Goals as goal
 
 pub returns : goal.returns
 unfolding end_check
-returns c = c.judged.ensures
+returns c = c.unless.ensures

@@ -26,7 +26,7 @@ returns-then-first-eq31 c =
 pub returns-then-second-le127-2 : goal.returns-then-second-le127-2
 returns-then-second-le127-2 c =
     let a = c.args in
-    let small = c.shared_slice_known-1.given a.at in
+    let small = c.type_inv.s a.at in
     let tag = rw c.octet-first.ensures at c.if-first-eq31.false in
     let second = rw c.octet-second.ensures at c.if-second-le127-2.true in
     rw c.octet-second.ensures at c.ends_within.ensures
@@ -35,6 +35,6 @@ returns-then-second-le127-2 c =
 pub returns : goal.returns
 returns c =
     let a = c.args in
-    let small = c.shared_slice_known-1.given a.at in
+    let small = c.type_inv.s a.at in
     let tag = rw c.octet-first.ensures at c.if-first-eq31.false in
     c.behind_tag-2.ensures ∙ here_one a.s.now a.at tag (omega (arith, small))

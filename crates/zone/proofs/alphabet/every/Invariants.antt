@@ -8,4 +8,5 @@ use Rattle.zone.specs.Inner.Tests.{Answers}
 use Rattle.zone.proofs.alphabet.every.Given as goal
 
 abbrev pub invariant-loop-c : goal.invariant-loop-c
-invariant-loop-c g l = (test : ℕ → Bool) → Answers g.F.Fn l.passes test → l.fine && every test (drop l.c-index l.s) ≡ every test l.s
+invariant-loop-c g l =
+    (test : ℕ → Bool) → Answers g.F.Fn l.passes test → l.fine && every test (drop l.c-index l.s) ≡ every test l.s

@@ -1,5 +1,0 @@
--- Both tests.
-use Rattle.efcom.proofs.is_older.Goals as goal
-
-pub returns : goal.returns
-returns c = rw (c.alike.ensures, c.cut.ensures, c.has_octets.ensures)
