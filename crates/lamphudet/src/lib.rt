@@ -23,8 +23,6 @@ ghost use Rattle.lamphudet.specs.Calls.{read_answer, read_out};
 ghost use Rattle.as_entry.specs.Opened.{opened_in_c};
 
 use as_entry::received::RecordInC;
-use border::answer::{in_c, next_in_c, stretch_in_c};
-use border::detail::{detail_in_c, name_in_c};
 use border::received::{AnswerInC, DetailInC, NameInC, StretchInC};
 use zone::form::Source;
 
@@ -34,7 +32,7 @@ pub fn lamphudet_read_text(house: u32, text: &[u8], entry: &mut [u8]) -> AnswerI
     ensures after { entry.new ≡ read_out house (read_text Alone text.now) entry.old }
     ensures are_octets { AreOctets text.now }
 {
-    in_c(entry::enter::enter(text::read::read(Source::Alone, text), house, entry))
+    AnswerInC::from(entry::enter::enter(text::read::read(Source::Alone, text), house, entry))
 }
 
 // A presentation is read, and its record entered under a house.
@@ -43,7 +41,7 @@ pub fn lamphudet_read_presentation(house: u32, presentation: &[u8], entry: &mut 
     ensures after { entry.new ≡ read_out house (read_presentation presentation.now) entry.old }
     ensures are_octets { AreOctets presentation.now }
 {
-    in_c(entry::enter::enter(chip::presentation::read(presentation), house, entry))
+    AnswerInC::from(entry::enter::enter(chip::presentation::read(presentation), house, entry))
 }
 
 // The record of exactly one entry is written as a text.
@@ -52,7 +50,7 @@ pub fn lamphudet_write_text(entry: &[u8], text: &mut [u8]) -> AnswerInC
     ensures text_after { text.new ≡ written_out entry.now text.old }
     ensures are_octets { AreOctets entry.now }
 {
-    in_c(as_entry::write_one(entry, text))
+    AnswerInC::from(as_entry::write_one(entry, text))
 }
 
 // The house and the record of exactly one entry.
@@ -68,7 +66,7 @@ pub fn lamphudet_next_entry(run: &[u8], offset: u64) -> AnswerInC
     ensures value { result ≡ next_in_c (read_entry run.now offset).onward }
     ensures are_octets { AreOctets run.now }
 {
-    next_in_c(runs::run::next(run, offset as usize))
+    AnswerInC::from(runs::run::next(run, offset as usize))
 }
 
 // The SHA-256 digest of the input, into the first 32 octets of the output.
@@ -77,7 +75,7 @@ pub fn lamphudet_digest(input: &[u8], digest: &mut [u8]) -> AnswerInC
     ensures digest_after { digest.new ≡ digest_out input.now digest.old }
     ensures are_octets { AreOctets input.now }
 {
-    in_c(digest::digest(input, digest))
+    AnswerInC::from(digest::digest(input, digest))
 }
 
 // Where the file of a group stands in a presentation.
@@ -85,7 +83,7 @@ pub fn lamphudet_group_file(presentation: &[u8], group: u32) -> StretchInC
     ensures value { result ≡ stretch_in_c (group_stretch presentation.now group) }
     ensures are_octets { AreOctets presentation.now }
 {
-    stretch_in_c(chip::group_file::group_stretch(presentation, group))
+    StretchInC::from(chip::group_file::group_stretch(presentation, group))
 }
 
 // How many elements a group's file has.
@@ -93,7 +91,7 @@ pub fn lamphudet_look_inside(file: &[u8]) -> AnswerInC
     ensures value { result ≡ count_in_c (look_inside file.now) }
     ensures are_octets { AreOctets file.now }
 {
-    in_c(inside::look(file))
+    AnswerInC::from(inside::look(file))
 }
 
 // Where a detail of group 11 stands in its file, asked for by the tag that the file's list names it by.
@@ -101,7 +99,7 @@ pub fn lamphudet_read_detail(file: &[u8], tag: u32) -> DetailInC
     ensures value { result ≡ detail_in_c (read_detail file.now tag) }
     ensures are_octets { AreOctets file.now }
 {
-    detail_in_c(details::read(file, tag))
+    DetailInC::from(details::read(file, tag))
 }
 
 // Where the full name stands, in group 11's file or in the text.
@@ -110,7 +108,7 @@ pub fn lamphudet_full_name(file: &[u8], text: &[u8]) -> NameInC
     ensures are_octets { AreOctets file.now }
     ensures are_octets_2 { AreOctets text.now }
 {
-    name_in_c(full_name::find(file, text))
+    NameInC::from(full_name::find(file, text))
 }
 
 // How many entries the store's nightly list has.
@@ -118,7 +116,7 @@ pub fn lamphudet_look_over(list: &[u8]) -> AnswerInC
     ensures value { result ≡ count_in_c (look_over list.now) }
     ensures are_octets { AreOctets list.now }
 {
-    in_c(nightly::look_over(list))
+    AnswerInC::from(nightly::look_over(list))
 }
 
 // Where the entries of a house stand in the list.
@@ -126,7 +124,7 @@ pub fn lamphudet_house_entries(list: &[u8], house: u32) -> StretchInC
     ensures value { result ≡ stretch_in_c (house_stretch list.now house) }
     ensures are_octets { AreOctets list.now }
 {
-    stretch_in_c(nightly::house_stretch(list, house))
+    StretchInC::from(nightly::house_stretch(list, house))
 }
 
 // The version of this library.

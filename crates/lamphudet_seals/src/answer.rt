@@ -6,20 +6,22 @@ ghost use Rattle.seal_header.specs.Header.{blank_header};
 ghost use Rattle.lamphudet_seals.specs.Answer.{day_in_c, fields_in_c, seal_in_c};
 
 use crate::received::{DayInC, SealInC};
-use border::answer::stretch_in_c;
+use border::received::StretchInC;
 use refusal::{NO_DIGIT, Refusal};
 use seal_fields::day::Day;
 use seal_header::header::Header;
 use tlv::Stretch;
 
 #[tactic(auto, unfolding(crate::specs::Answer::day_in_c))]
-fn day_in_c(d: Day) -> DayInC
-    ensures { result ≡ day_in_c d }
-{
-    DayInC {
-        year: d.year,
-        month: d.month,
-        day: d.day,
+impl From<Day> for DayInC {
+    ghost from_gives = { λ d in_c. in_c ≡ day_in_c d };
+
+    fn from(d: Day) -> DayInC {
+        DayInC {
+            year: d.year,
+            month: d.month,
+            day: d.day,
+        }
     }
 }
 
@@ -40,9 +42,9 @@ fn fields_in_c(
         number,
         expected,
         value,
-        signature: stretch_in_c(signature),
-        issued: day_in_c(header.issued),
-        signed_on: day_in_c(header.signed_on),
+        signature: StretchInC::from(signature),
+        issued: DayInC::from(header.issued),
+        signed_on: DayInC::from(header.signed_on),
         version: header.version,
         definition: header.definition,
         category: header.category,

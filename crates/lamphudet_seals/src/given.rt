@@ -10,33 +10,37 @@ use seal_fields::day::Day;
 use seal_header::header::Header;
 
 #[tactic(auto, unfolding(crate::specs::Given::day_given))]
-fn day_given(d: DayInC) -> Day
-    ensures { result ≡ day_given d }
-{
-    Day {
-        year: d.year,
-        month: d.month,
-        day: d.day,
+impl From<DayInC> for Day {
+    ghost from_gives = { λ d given. given ≡ day_given d };
+
+    fn from(d: DayInC) -> Day {
+        Day {
+            year: d.year,
+            month: d.month,
+            day: d.day,
+        }
     }
 }
 
 #[tactic(auto, unfolding(crate::specs::Given::header_given))]
-fn header_given(header: HeaderInC) -> Header
-    ensures { result ≡ header_given header }
-{
-    let country = header.country;
-    let signer = header.signer;
-    let reference = header.reference;
-    Header {
-        version: header.version,
-        country,
-        signer,
-        reference,
-        reference_len: header.reference_len,
-        issued: day_given(header.issued),
-        signed_on: day_given(header.signed_on),
-        definition: header.definition,
-        category: header.category,
+impl From<HeaderInC> for Header {
+    ghost from_gives = { λ header given. given ≡ header_given header };
+
+    fn from(header: HeaderInC) -> Header {
+        let country = header.country;
+        let signer = header.signer;
+        let reference = header.reference;
+        Header {
+            version: header.version,
+            country,
+            signer,
+            reference,
+            reference_len: header.reference_len,
+            issued: Day::from(header.issued),
+            signed_on: Day::from(header.signed_on),
+            definition: header.definition,
+            category: header.category,
+        }
     }
 }
 
@@ -51,5 +55,5 @@ pub(crate) fn write_one(
     ensures out_after { out.new ≡ written_out range.now header signature.now out.old }
 {
     let standing = only(range)?;
-    seal_writing::write::write(header_given(header), standing.kept, signature, out)
+    seal_writing::write::write(Header::from(header), standing.kept, signature, out)
 }

@@ -44,7 +44,7 @@ pub fn lamphudet_write_seal(
     ensures are_octets { AreOctets entry.now × AreOctets signature.now }
 {
     let written = write_one(entry, header, signature, seal);
-    border::answer::in_c(written)
+    AnswerInC::from(written)
 }
 
 // The version of this library, by a name of its own: both libraries may be linked into one program.

@@ -9,7 +9,7 @@ returns c =
     let lent = c in
     let octets = lent_octets lent.args.input.now (λ i. omega (arith, lent.shared_slice_known-1.given i)) in
     record {
-      value = rw (c.in_c.ensures.length, d.answer);
+      value = rw (c.from.ensures.0, d.answer);
       digest_after = d.output;
       are_octets = octets;
     }

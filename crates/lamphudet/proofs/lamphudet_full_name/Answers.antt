@@ -10,7 +10,7 @@ returns c =
     let file = lent_octets a.file.now (λ i. omega (arith, lent.shared_slice_known-1.given i)) in
     let text = lent_octets a.text.now (λ i. omega (arith, lent.shared_slice_known-2-1.given i)) in
     record {
-      value = rw (c.name_in_c.ensures, c.find.ensures);
+      value = rw (c.from.ensures, c.find.ensures);
       are_octets = file;
       are_octets_2 = text;
     }

@@ -8,6 +8,6 @@ returns c =
     let lent = c in
     let octets = lent_octets lent.args.presentation.now (λ i. omega (arith, lent.shared_slice_known-1.given i)) in
     record {
-      value = rw (c.stretch_in_c.ensures, c.group_stretch.ensures);
+      value = rw (c.from.ensures, c.group_stretch.ensures);
       are_octets = octets;
     }

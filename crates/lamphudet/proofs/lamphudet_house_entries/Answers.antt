@@ -8,6 +8,6 @@ returns c =
     let lent = c in
     let octets = lent_octets lent.args.list.now (λ i. omega (arith, lent.shared_slice_known-1.given i)) in
     record {
-      value = rw (c.stretch_in_c.ensures, c.house_stretch.ensures);
+      value = rw (c.from.ensures, c.house_stretch.ensures);
       are_octets = octets;
     }

@@ -8,6 +8,6 @@ returns c =
     let lent = c in
     let octets = lent_octets lent.args.list.now (λ i. omega (arith, lent.shared_slice_known-1.given i)) in
     record {
-      value = rw (c.in_c.ensures.count, c.look_over.ensures);
+      value = rw (c.from.ensures.1, c.look_over.ensures);
       are_octets = octets;
     }

@@ -11,6 +11,6 @@ returns c =
     let lent = c in
     let octets = lent_octets lent.args.run.now (λ i. omega (arith, lent.shared_slice_known-1.given i)) in
     record {
-      value = c.next_in_c.ensures ∙ ap (λ (a : Standing). next_in_c a.onward) c.next.ensures;
+      value = c.from.ensures ∙ ap (λ (a : Standing). next_in_c a.onward) c.next.ensures;
       are_octets = octets;
     }

@@ -8,6 +8,6 @@ returns c =
     let lent = c in
     let octets = lent_octets lent.args.file.now (λ i. omega (arith, lent.shared_slice_known-1.given i)) in
     record {
-      value = rw (c.detail_in_c.ensures, c.read.ensures);
+      value = rw (c.from.ensures, c.read.ensures);
       are_octets = octets;
     }

@@ -13,7 +13,7 @@ returns c =
     let lent = c in
     let octets = lent_octets lent.args.text.now (λ i. omega (arith, lent.shared_slice_known-1.given i)) in
     record {
-      value = rw (c.in_c.ensures.length, w.result_value, ← read);
+      value = rw (c.from.ensures.0, w.result_value, ← read);
       after = rw (w.out_after, ← read);
       are_octets = octets;
     }

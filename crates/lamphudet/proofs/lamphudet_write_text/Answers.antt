@@ -9,7 +9,7 @@ returns c =
     let lent = c in
     let octets = lent_octets lent.args.entry.now (λ i. omega (arith, lent.shared_slice_known-1.given i)) in
     record {
-      value = rw (c.in_c.ensures.length, w.result_value);
+      value = rw (c.from.ensures.0, w.result_value);
       text_after = w.out_after;
       are_octets = octets;
     }

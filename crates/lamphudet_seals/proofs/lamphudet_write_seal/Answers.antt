@@ -16,7 +16,7 @@ returns c =
     let signature = lent_octets a.signature.now (λ i. omega
     (arith, c.shared_slice_known-2-1.given i)) in
     record {
-      value = rw (c.in_c.ensures.length, w.result_value);
+      value = rw (c.from.ensures.0, w.result_value);
       seal_after = w.out_after;
       are_octets = (entry, signature);
     }
