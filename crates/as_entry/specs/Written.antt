@@ -15,12 +15,12 @@ is_only (run.next offset) n = eqb offset n
 is_only run.none n = false
 is_only (run.refused why place) n = false
 
--- the whole promise of asking for it: house and record of the one entry that was lent, else 18 at 0
+-- the whole promise of asking for it: house, record and end of the one entry that was lent, else 18 at 0
 abbrev pub IsOnly : List ℕ → Result Standing Refusal → Type 0
 IsOnly e r =
     MatchResult r
     (λ s. (is_only (run.read_entry e 0).onward (length e) ≡ true) × (s.house ≡ (run.read_entry e 0).house)
-    × (s.kept ≡ (run.read_entry e 0).kept))
+    × (s.kept ≡ (run.read_entry e 0).kept) × (s.next ≡ length e))
     (λ why. (is_only (run.read_entry e 0).onward (length e) ≡ false) × (why ≡ record { cause = Entry; place = 0 }))
 
 -- the text writer is given exactly one entry and tests 18 (at 0, also for none or anything after it), then 16
