@@ -6,7 +6,7 @@ use crate::received::RecordInC;
 use entry::codes::form_code;
 use zone::record::Record;
 
-// The lengths of a record that the run reader hands out fit an octet.
+// The lengths of a record that the run reader hands out fit an octet. That, and three values that go in, are no From.
 pub(crate) fn record_in_c(number: u32, house: u32, kept: Record) -> RecordInC
     requires { (kept.number_len < 256) × (kept.name_len < 256) × (kept.own_len < 256) }
     ensures { result ≡ record_in_c number house kept }

@@ -66,20 +66,22 @@ pub(crate) fn seal_in_c(
 {
     match written {
         Ok(n) => fields_in_c(0, NO_DIGIT, n as u64, header, signature),
-        Err(why) => refused_in_c(why),
+        Err(why) => SealInC::from(why),
     }
 }
 
-pub(crate) fn refused_in_c(why: Refusal) -> SealInC
-    ensures { result ≡ fields_in_c (number_of (why_of why.cause)) (expected_of (why_of why.cause)) why.place blank_header
-        (record { from = 0; to = 0 }) }
-{
-    let none = Stretch { from: 0, to: 0 };
-    fields_in_c(
-        why.cause.number(),
-        why.cause.expected(),
-        why.place as u64,
-        Header::blank(),
-        none,
-    )
+impl From<Refusal> for SealInC {
+    ghost from_gives = { λ why seal. seal ≡ fields_in_c (number_of (why_of why.cause)) (expected_of (why_of why.cause)) why.place
+        blank_header (record { from = 0; to = 0 }) };
+
+    fn from(why: Refusal) -> SealInC {
+        let none = Stretch { from: 0, to: 0 };
+        fields_in_c(
+            why.cause.number(),
+            why.cause.expected(),
+            why.place as u64,
+            Header::blank(),
+            none,
+        )
+    }
 }

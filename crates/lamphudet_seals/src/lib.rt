@@ -8,7 +8,7 @@ ghost use Rattle.version.specs.Version.{version_number};
 ghost use Rattle.lamphudet_seals.specs.Answer.{read_seal_in_c, read_seal_out};
 ghost use Rattle.lamphudet_seals.specs.Given.{written_out, write_seal_in_c};
 
-use crate::answer::{refused_in_c, seal_in_c};
+use crate::answer::seal_in_c;
 use crate::given::write_one;
 use crate::received::{HeaderInC, SealInC};
 use border::received::AnswerInC;
@@ -28,7 +28,7 @@ pub fn lamphudet_read_seal(house: u32, seal: &[u8], entry: &mut [u8]) -> SealInC
             let written = entry::enter::enter(Ok(said.kept), house, entry);
             seal_in_c(written, said.header, said.signature)
         }
-        Err(why) => refused_in_c(why),
+        Err(why) => SealInC::from(why),
     }
 }
 

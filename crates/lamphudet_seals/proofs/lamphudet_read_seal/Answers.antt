@@ -24,7 +24,7 @@ returns-in-Err c =
     let read = c.in-Err.ensures in
     let octets = lent_octets c.args.seal.now (λ i. omega (arith, c.shared_slice_known-1.given i)) in
     record {
-      value = rw (c.refused_in_c.ensures, ← read);
+      value = rw (c.from.ensures, ← read);
       after = rw (← read);
       are_octets = octets;
     }
