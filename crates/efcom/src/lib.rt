@@ -3,6 +3,7 @@
 
 ghost use Rattle.std.specs.Prelude.{◌≡◌, ◌&&◌};
 ghost use Rattle.lent.specs.Octets as Octets;
+ghost use Rattle.zone.specs.Alphabet.{is_digit};
 ghost use Rattle.tlv.specs.Read.{read_of};
 ghost use Rattle.tlv.specs.Cut as Cut;
 ghost use Rattle.tlv.specs.Versions.{both};
@@ -15,7 +16,7 @@ use lent::alike;
 use refusal::{Cause, Refusal};
 use tlv::cut::{cut, end_check, has_octets};
 use tlv::{Stretch, tags};
-use zone::alphabet::{every, is_digit};
+use zone::alphabet::{Test, every, is_digit};
 
 // What EF.COM says: whether its version is `0108` and not `0107`, where the digits of the Unicode version stand, and where the
 // tag list.
@@ -26,11 +27,22 @@ pub struct Common {
     pub tags: Stretch,
 }
 
+struct Digits;
+
+impl Test for Digits {
+    ghost test = { is_digit };
+
+    fn passes(c: u8) -> bool {
+        is_digit(c)
+    }
+}
+
 // Six digits.
+#[tactic(auto, unfolding(crate::specs::EfCom::is_unicode))]
 fn is_unicode(s: &[u8], v: Stretch) -> bool
     ensures { result ≡ C.is_unicode s.now v }
 {
-    has_octets(6, v) & every(cut(s, v), is_digit)
+    has_octets(6, v) & every::<Digits>(cut(s, v))
 }
 
 // Four characters, those of a version.

@@ -1,9 +1,9 @@
 // The fields of letters and fillers: state and nationality, sex, name.
 ghost use Rattle.std.specs.Prelude.{◌≡◌, ◌||◌};
-ghost use Rattle.field.specs.Letters.{state_rule, letters_then_fillers, sex_rule, name_rule};
+ghost use Rattle.field.specs.Letters.{state_rule, letters_then_fillers, sex_rule, name_rule, is_name_character};
 ghost use Rattle.zone.specs.Alphabet.{is_letter, is_filler};
 
-use zone::alphabet::{FILLER, every_by_sixteens, is_letter};
+use zone::alphabet::{FILLER, Test, every_by_sixteens, is_letter};
 
 pub(crate) fn is_letter_or_filler(c: u8) -> bool
     ensures { result ≡ is_letter c || is_filler c }
@@ -34,9 +34,21 @@ pub fn is_sex(c: u8) -> bool
     (c == b'M') | (c == b'F') | (c == FILLER)
 }
 
+struct NameCharacters;
+
+impl Test for NameCharacters {
+    ghost test = { is_name_character };
+
+    #[tactic(auto, unfolding(crate::specs::Letters::is_name_character))]
+    fn passes(c: u8) -> bool {
+        is_letter_or_filler(c)
+    }
+}
+
 // Letters and fillers, the first a letter.
+#[tactic(auto, unfolding(crate::specs::Letters::name_rule))]
 pub fn is_name(s: &[u8]) -> bool
     ensures { result ≡ name_rule s.now }
 {
-    is_letter(lent::octet(s, 0)) & every_by_sixteens(s, is_letter_or_filler)
+    is_letter(lent::octet(s, 0)) & every_by_sixteens::<NameCharacters>(s)
 }

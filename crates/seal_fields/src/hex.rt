@@ -3,7 +3,7 @@ ghost use Rattle.std.specs.Prelude.{◌≡◌, ◌<◌};
 ghost use Rattle.zone.specs.Alphabet.{every};
 ghost use Rattle.seal_fields.specs.Hex.{is_hex, hex_of, hex_digit, hexadecimal};
 
-use zone::alphabet::{every, is_digit};
+use zone::alphabet::{Test, every, is_digit};
 
 fn is_hex(c: u8) -> bool
     ensures { result ≡ is_hex c }
@@ -11,11 +11,21 @@ fn is_hex(c: u8) -> bool
     is_digit(c) | ((b'A' <= c) & (c <= b'F'))
 }
 
+struct HexCharacters;
+
+impl Test for HexCharacters {
+    ghost test = { is_hex };
+
+    fn passes(c: u8) -> bool {
+        is_hex(c)
+    }
+}
+
 // Of 0-9 and A-F only.
 pub fn all_hex(s: &[u8]) -> bool
     ensures { result ≡ every is_hex s.now }
 {
-    every(s, is_hex)
+    every::<HexCharacters>(s)
 }
 
 // What a character says, 0 where it is none of them.

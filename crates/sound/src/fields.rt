@@ -1,11 +1,11 @@
 // The rules of the text, asked of a record's fields.
 ghost use Rattle.std.specs.Prelude.{◌≡◌};
-ghost use Rattle.sound.specs.Sound.{keeps_rules, is_held, is_number, is_numbered, is_named, is_owned};
+ghost use Rattle.sound.specs.Sound.{keeps_rules, is_held, is_solid, is_number, is_numbered, is_named, is_owned};
 
 use field::code::is_code;
 use field::date::{is_birth, is_expiry};
 use field::letters::{is_name, is_sex, is_state};
-use zone::alphabet::{FILLER, all_characters, all_fillers, every};
+use zone::alphabet::{FILLER, Test, all_characters, all_fillers, every};
 use zone::form::Form;
 use zone::record::{Record, trimmed_length};
 
@@ -16,12 +16,23 @@ fn is_held(least: usize, most: usize, s: &[u8], n: usize) -> bool
     (least <= n) & ((n <= most) & (trimmed_length(s) == n))
 }
 
+struct Solids;
+
+impl Test for Solids {
+    ghost test = { is_solid };
+
+    #[tactic(auto, unfolding(crate::specs::Sound::is_solid, zone::specs::Alphabet::is_filler))]
+    fn passes(c: u8) -> bool {
+        c != FILLER
+    }
+}
+
 // No filler at its front, and none from the tenth character on.
 fn is_number(s: &[u8], n: usize) -> bool
     ensures { result ≡ is_number s.now n }
 {
     let further = lent::part(lent::part(s, 0, n), Form::NINE, s.len());
-    all_characters(s) & ((lent::octet(s, 0) != FILLER) & every(further, |c| c != FILLER))
+    all_characters(s) & ((lent::octet(s, 0) != FILLER) & every::<Solids>(further))
 }
 
 pub fn is_numbered(r: Record) -> bool

@@ -1,14 +1,33 @@
--- The laws of `first`, over the test p: among them what the library's `position` says of it.
-use mathlib.Core.Path.{◌≡◌, refl}
+-- The laws of `first`, over the test p: by which a search loop steps, and what the library's `position` says of it.
+use mathlib.Core.Path.{◌≡◌, refl, ◌∙◌, sym}
 use mathlib.Core.List.{List, [], ◌∷◌}
 use mathlib.Core.Bool.{Bool, true, false, cond, not}
 use Prim.Native.Nat.{ℕ, zero, suc, ◌+◌, ◌≤◌, ◌<◌}
+use native.Mathlib.Nat.{add-zero}
+use native.Mathlib.Numerals.{add-one}
 use native.Mathlib.Omega.{arith}
-use lib.ListN.{length, get_or}
+use lib.ListN.{length, drop, get_or, drop_of_length-le}
+use lib.Seq.{drop-cons}
 use borrow.Author.Tests.{ltb-false}
 use Rattle.std.specs.Prelude.{nat_lt, position, Some, None, unwrap_or}
 use Rattle.std.specs.List.{position_or_len}
 use Rattle.zone.specs.Alphabet.{first}
+
+module _ (p : ℕ → Bool) (s : List ℕ) (i : ℕ) (left : i + first p (drop i s) ≡ first p s) where
+  -- an octet that fails the test: the search goes on behind it
+  pub first_miss : i < length s → p (get_or s i 0) ≡ false → (i + 1) + first p (drop (i + 1) s) ≡ first p s
+  unfolding first
+  first_miss h t = rw (add-one i) (omega (arith, rw (drop-cons s i 0 h, t) at left))
+
+  -- one that passes it is the first
+  pub first_hit : i < length s → p (get_or s i 0) ≡ true → i ≡ first p s
+  unfolding first
+  first_hit h t = sym (add-zero i) ∙ (rw (drop-cons s i 0 h, t) at left)
+
+  -- none is left
+  pub first_end : length s ≤ i → i ≡ first p s
+  unfolding first
+  first_end h = sym (add-zero i) ∙ (rw (drop_of_length-le s h) at left)
 
 -- none passes the test exactly where the search comes to the end
 pub first_none : (p : ℕ → Bool) (s : List ℕ) → first p s ≡ length s → (i : ℕ) → i < length s → p (get_or s i 0) ≡ false

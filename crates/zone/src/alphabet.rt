@@ -1,7 +1,6 @@
 // What a character of the zone is.
 ghost use Rattle.std.specs.Prelude.{◌≡◌, ℕ, Bool};
 ghost use Rattle.zone.specs.Alphabet.{is_digit, is_letter, is_filler, is_character, every, first_foreign, first_filler};
-ghost use Rattle.zone.specs.Inner.Tests.{Answers};
 
 pub const FILLER: u8 = b'<';
 
@@ -23,33 +22,60 @@ pub fn is_character(c: u8) -> bool
     is_digit(c) | (is_letter(c) | (c == FILLER))
 }
 
+// A test of octets. Its method takes any, so that who asks it has no condition to meet.
+pub trait Test {
+    ghost test: { ℕ → Bool };
+
+    fn passes(c: u8) -> bool
+        ensures { result ≡ test c };
+}
+
+struct Characters;
+
+impl Test for Characters {
+    ghost test = { is_character };
+
+    fn passes(c: u8) -> bool {
+        is_character(c)
+    }
+}
+
+struct Fillers;
+
+impl Test for Fillers {
+    ghost test = { is_filler };
+
+    #[tactic(auto, unfolding(crate::specs::Alphabet::is_filler))]
+    fn passes(c: u8) -> bool {
+        c == FILLER
+    }
+}
+
 // Whether every octet passes a test. The loop goes to the end in any case: so the compiler takes many octets at a time.
-pub fn every<F: Fn(u8) -> bool>(s: &[u8], passes: F) -> bool
-    requires { F.IsAlwaysCallable passes }
-    ensures { (test : ℕ → Bool) → Answers F.Fn passes test → result ≡ every test s.now }
+pub fn every<T: Test>(s: &[u8]) -> bool
+    ensures { result ≡ every T.test s.now }
 {
     let mut fine = true;
     for &c in s {
-        fine &= passes(c);
+        fine &= T::passes(c);
     }
     fine
 }
 
 // The same, of many. The last sixteen first, and then by sixteens up to them: so none is left to be taken alone.
 // Counted by hand, since chunks_exact takes nine instructions more of a text.
-pub fn every_by_sixteens<F: Fn(u8) -> bool + Copy>(s: &[u8], passes: F) -> bool
-    requires { F.IsAlwaysCallable passes }
-    ensures { (test : ℕ → Bool) → Answers F.Fn passes test → result ≡ every test s.now }
+pub fn every_by_sixteens<T: Test>(s: &[u8]) -> bool
+    ensures { result ≡ every T.test s.now }
 {
     if s.len() < 16 {
-        return every(s, passes);
+        return every::<T>(s);
     }
     let from = s.len() - 16;
-    let mut fine = every(&s[from..], passes);
+    let mut fine = every::<T>(&s[from..]);
     let mut i = 0;
     while i <= from {
         let to = i + 16;
-        fine &= every(&s[i..to], passes);
+        fine &= every::<T>(&s[i..to]);
         i = to;
     }
     fine
@@ -59,14 +85,14 @@ pub fn every_by_sixteens<F: Fn(u8) -> bool + Copy>(s: &[u8], passes: F) -> bool
 pub fn all_characters(s: &[u8]) -> bool
     ensures { result ≡ every is_character s.now }
 {
-    every_by_sixteens(s, is_character)
+    every_by_sixteens::<Characters>(s)
 }
 
 // Nothing but fillers.
 pub fn all_fillers(s: &[u8]) -> bool
     ensures { result ≡ every is_filler s.now }
 {
-    every(s, |c| c == FILLER)
+    every::<Fillers>(s)
 }
 
 // The place of the first octet outside the alphabet, or the length where there is none, as nearly always.

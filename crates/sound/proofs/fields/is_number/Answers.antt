@@ -8,9 +8,8 @@ use Rattle.sound.proofs.fields.is_number.Goals as goal
 pub returns : goal.returns
 unfolding is_number is_solid is_filler
 returns c = let a = c.args in
-    let solid = c.every.ensures is_solid (λ x r k e. search rules) in
     rw (
-      solid,
+      c.every.ensures,
       c.octet.ensures,
       c.all_characters.ensures,
       c.part-further.ensures,
