@@ -84,7 +84,8 @@ pub fn read(s: &[u8]) -> Result<Seal, Refusal>
     if 65535 < s.len() {
         return Err(Refusal::at(Cause::Length, 0));
     }
-    let headed = seal_header::header::read(s)?;
+    let headed = seal_header::header::read(s);
+    headed.verdict?;
     let found = walk(s, headed.end)?;
     with_features(s, headed.header, found)
 }

@@ -1,9 +1,7 @@
 -- The header of a seal, for emergency documents: document 02, 2026-08, "octet DC, version octet, issuing country, signer and
 -- certificate reference, issue date, signature date, feature definition reference, type category" (source 002, table 1).
-use Rattle.std.specs.Prelude.{ℕ, ◌+◌, Bool, ◌||◌, List, Result, ◌≡◌, eqb, length, take, drop, get_or, replicate}
-use Rattle.refusal.specs.Outcome.{Outcome, or_else, unless}
-use Rattle.refusal.specs.declared.Refusal.{Refusal}
-use Rattle.tlv.specs.Read.{Read, value, checked, read_of}
+use Rattle.std.specs.Prelude.{ℕ, ◌+◌, Bool, ◌||◌, List, ◌≡◌, eqb, length, take, drop, get_or, replicate}
+use Rattle.refusal.specs.Outcome.{Outcome, or_else, unless, outcome_of}
 use Rattle.zone.specs.Alphabet.{filler}
 use Rattle.zone.specs.Record.{padded}
 use Rattle.zone.specs.Rooms.{state_room}
@@ -85,14 +83,11 @@ blank_header = record {
   category = 0;
 }
 
--- what is read of a header whose reference has these characters in v octets
-unfoldable pub headed_by : List ℕ → (reference : List ℕ) → (v : ℕ) → Read Headed
-headed_by s reference v =
-    checked (check_by s reference v) (value (record { header = said_by s reference v; end = 12 + v }))
+-- the whole promise of reading a header whose reference has these characters in v octets, and of reading any
+pub record HeadsBy (s reference : List ℕ) (v : ℕ) (r : Headed) : Type 0 where
+  pub decided : outcome_of r.verdict ≡ check_by s reference v
+  pub said : r.header ≡ said_by s reference v
+  pub ends : r.end ≡ 12 + v
 
--- the whole promise of reading such a header, and of reading any
-abbrev pub HeadsBy : List ℕ → (reference : List ℕ) → (v : ℕ) → Result Headed Refusal → Type 0
-HeadsBy s reference v r = read_of r ≡ headed_by s reference v
-
-abbrev pub Heads : List ℕ → Result Headed Refusal → Type 0
+abbrev pub Heads : List ℕ → Headed → Type 0
 Heads s r = HeadsBy s (reference s) (width s) r

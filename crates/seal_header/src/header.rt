@@ -27,9 +27,11 @@ pub struct Header {
     pub category: u8,
 }
 
-// What a header says, and where the features begin.
+// What was decided of a header, what it says, and where the features begin. It says nothing of worth where it is refused, but it
+// says it all the same: so a verdict stands beside it, and no `Result` around it.
 #[derive(Clone, Copy)]
 pub struct Headed {
+    pub verdict: Result<(), Refusal>,
     pub header: Header,
     pub end: usize,
 }
@@ -131,23 +133,23 @@ fn header_by(
 }
 
 // A header whose reference has these characters, in so many octets.
-fn read_by(s: &[u8], text: &[u8], v: usize) -> Result<Headed, Refusal>
+fn read_by(s: &[u8], text: &[u8], v: usize) -> Headed
     requires { (v ≤ 174) × (length text.now ≤ before s.now + 255) }
     ensures { Head.HeadsBy s.now text.now v result }
 {
     let country = country_in(s);
     let issued = day_at(s, 4 + v);
     let signed = day_at(s, 7 + v);
-    front_check(s, country, text)?;
-    back_check(s, v, issued, signed)?;
-    Ok(Headed {
+    let verdict = front_check(s, country, text).and(back_check(s, v, issued, signed));
+    Headed {
+        verdict,
         header: header_by(s, country, text, v, issued, signed),
         end: 12 + v,
-    })
+    }
 }
 
 // The header, judged from the left: 24 at the first field that is wrong, cut off or not there.
-pub fn read(s: &[u8]) -> Result<Headed, Refusal>
+pub fn read(s: &[u8]) -> Headed
     ensures { Head.Heads s.now result }
 {
     let count = reference::length(s);

@@ -8,7 +8,7 @@ use Rattle.refusal.specs.declared.Refusal.{Refusal}
 use Rattle.refusal.specs.Numbers.{Why}
 use Rattle.refusal.specs.Outcome.{refused}
 use Rattle.refusal.proofs.Outcomes.{refused_not_passed}
-use Rattle.refusal.proofs.Numbers.{refused_tells}
+use Rattle.refusal.proofs.Numbers.{outcome_tells, refused_tells}
 use Rattle.zone.specs.Record.{blank}
 use Rattle.tlv.specs.Read.{Read, value, refusal, read_of}
 use Rattle.tlv.proofs.Told.{read_tells}
@@ -35,8 +35,12 @@ pub only_seal : (s : List ℕ) (r q : Result Seal Refusal) → answer_of r ≡ r
 only_seal s r q e f = seal_tells r q (e ∙ sym f)
 
 -- nor does a second answer meet the header's
-pub only_header : (s : List ℕ) (r q : Result Headed Refusal) → Heads s r → Heads s q → r ≡ q
-only_header s r q e f = read_tells r q (e ∙ sym f)
+pub only_header : (s : List ℕ) (r q : Headed) → Heads s r → Heads s q → r ≡ q
+only_header s r q e f =
+    let a : r.verdict ≡ q.verdict = outcome_tells r.verdict q.verdict (e.decided ∙ sym f.decided) in
+    let b : r.header ≡ q.header = e.said ∙ sym f.said in
+    let c : r.end ≡ q.end = e.ends ∙ sym f.ends in
+    λ i. record { verdict = a i; header = b i; end = c i }
 
 -- nor the features'
 pub only_features : (s : List ℕ) (at : ℕ) (r q : Result Features Refusal) → read_of r ≡ features s at
