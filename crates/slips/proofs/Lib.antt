@@ -1,1 +1,1 @@
-pub mod Listing  -- the undetected pairs, one number after the other, are the list
+pub mod Listing  -- the list so far and what is left of it: one pair more, one that is passed over

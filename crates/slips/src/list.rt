@@ -1,10 +1,8 @@
 // The pairs of characters that a check digit does not tell apart, as numbers: 37 times the code of the lower, and the upper's.
-ghost use Rattle.std.specs.Prelude.{◌≡◌, map, filter, ◌<◌, IfOk};
-ghost use Rattle.std.specs.List.{range_with_len};
+ghost use Rattle.std.specs.Prelude.{◌≡◌, map, ◌≤◌, ◌<◌, length, take};
 ghost use Rattle.digit_theorems.specs.Pairs.{pair_at, is_undetected, undetected};
 
 use digit::sum::value;
-use std::alloc::{AllocError, Global};
 use zone::codes::characters;
 
 // Codes of characters are below this.
@@ -12,6 +10,13 @@ pub(crate) const CODES: usize = 37;
 
 // Pairs of them.
 pub(crate) const PAIRS: usize = 1369;
+
+// An array and no `Vec`, since memory from the heap can fail, and this list always came.
+#[derive(Clone, Copy)]
+pub(crate) struct List {
+    pub count: usize,
+    pub numbers: [usize; PAIRS],
+}
 
 // Different characters, the lower first, whose values agree.
 fn is_undetected(modulus: usize, number: usize) -> bool
@@ -26,20 +31,18 @@ fn is_undetected(modulus: usize, number: usize) -> bool
     (lower < upper) & (one == other)
 }
 
-// The numbers of all of them, in rising order.
-fn numbers(alloc: Global, modulus: usize) -> Result<Vec<usize>, AllocError>
+// All of them, in rising order; what stands behind the count is none.
+pub(crate) fn undetected(modulus: usize) -> List
     requires { 0 < modulus }
-    ensures { IfOk result (λ v. v.items ≡ filter (λ n. is_undetected modulus (pair_at n)) (range_with_len 0 1369)) }
+    ensures { (result.count ≤ length result.numbers) × (map pair_at (take result.count result.numbers) ≡ undetected modulus) }
 {
-    (0..PAIRS)
-        .filter(|number| is_undetected(modulus, *number))
-        .collect(alloc)
-}
-
-// They make the list.
-pub(crate) fn undetected(alloc: Global, modulus: usize) -> Result<Vec<usize>, AllocError>
-    requires { 0 < modulus }
-    ensures { IfOk result (λ v. map pair_at v.items ≡ undetected modulus) }
-{
-    numbers(alloc, modulus)
+    let mut numbers = [0; PAIRS];
+    let mut count = 0;
+    for number in 0..PAIRS {
+        if is_undetected(modulus, number) {
+            numbers[count] = number;
+            count += 1;
+        }
+    }
+    List { count, numbers }
 }

@@ -11,14 +11,19 @@ use std::io;
 use zone::codes::characters;
 
 fn main(rt: HostRuntime) -> io::Result<()> {
-    let alloc = rt.alloc();
+    let pairs = undetected(10);
     slips(
         &rt,
         "One character for another, in one place",
-        &undetected(alloc, 10)?,
+        &pairs.numbers[..pairs.count],
     )?;
     println!(rt)?;
-    slips(&rt, "Two neighbours exchanged", &undetected(alloc, 5)?)
+    let pairs = undetected(5);
+    slips(
+        &rt,
+        "Two neighbours exchanged",
+        &pairs.numbers[..pairs.count],
+    )
 }
 
 // The pairs that one slip leaves undetected.
