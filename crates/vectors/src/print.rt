@@ -25,7 +25,12 @@ pub(crate) fn sample<W: Write>(out: &mut W, text: &[u8]) -> io::Result<()> {
         }
         Err(refusal) => {
             lines(out, text, refusal.place)?;
-            write!(out, "  {refusal}\n")
+            let number = refusal.cause.number();
+            write!(
+                out,
+                "  refused, {number} at place {}: {}\n",
+                refusal.place, refusal.cause
+            )
         }
     }
 }
