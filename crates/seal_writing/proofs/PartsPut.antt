@@ -101,3 +101,7 @@ start_longer n h k = rw (lt-leb n 0x7F h, le-leb n 255 k)
 pub start_longest : (n : ℕ) → 255 < n → zone_start n ≡ 0xFF ∷ 0x82 ∷ (n / 256) ∷ (n % 256) ∷ []
 unfolding zone_start length_octets
 start_longest n h = rw (lt-leb n 0x7F (omega arith), lt-leb n 255 h)
+
+-- the part of a range from a place on has room for what ends before it
+pub part_room : (s : List ℕ) (at n m : ℕ) → length s ≡ m → at + n ≤ m → n ≤ length (take (length s - at) (drop at s))
+part_room s at n m e h = rw (rest_all s at, length-drop) (omega (arith, e))

@@ -1,6 +1,6 @@
 // The parts of a seal, each put at its place of a range that has room for it.
 ghost use Rattle.std.specs.Prelude.{◌++◌, ◌≡◌, ◌+◌, ◌≤◌, ◌<◌, ◌^◌, length};
-ghost use Rattle.lent.specs.Copied.{copied_at};
+ghost use Rattle.lent.specs.Copied.{copied, copied_at};
 ghost use Rattle.seal_fields.specs.Hex.{hexadecimal};
 ghost use Rattle.seal_writing.specs.Inner.Parts.{front_part, back_part, zone_start, zone_part};
 
@@ -51,6 +51,17 @@ pub(crate) fn put_back(out: &mut [u8], at: usize, issued: Day, signed: Day)
     lent::copy_at(out, at + 6, &marks);
 }
 
+// All octets of a range, to the front of another that has room for them. By a loop, which the compiler takes many at a time: for
+// `copy_from_slice` between two lent ranges the archive would need a memmove from outside.
+fn copy_all(to: &mut [u8], from: &[u8])
+    requires { length from.now ≤ length to.old }
+    ensures { to.new ≡ copied to.old from.now }
+{
+    for i in 0..from.len() {
+        to[i] = from[i];
+    }
+}
+
 // FF and a length of up to 65,535.
 fn put_start(out: &mut [u8], at: usize, n: usize)
     requires { n < 2 ^ 16 }
@@ -88,5 +99,5 @@ pub(crate) fn put_zone(out: &mut [u8], at: usize, signature: &[u8])
 {
     let n = signature.len();
     put_start(out, at, n);
-    lent::copy(&mut out[at + start_width(n)..], signature);
+    copy_all(&mut out[at + start_width(n)..], signature);
 }
