@@ -15,7 +15,7 @@ use zone::record::Record;
 pub mod received;
 mod record;
 
-const NOT_ONE_ENTRY: Refusal = Refusal {
+pub const NOT_ONE_ENTRY: Refusal = Refusal {
     cause: Cause::Entry,
     place: 0,
 };
@@ -40,11 +40,15 @@ pub fn write_one(range: &[u8], out: &mut [u8]) -> Result<usize, Refusal>
     writing::write::write(standing.kept, out)
 }
 
+// By itself, and not by `only`: so the record is copied once less.
+#[tactic(auto, unfolding(crate::specs::Written::is_only, crate::specs::Opened::opened_in_c))]
 pub fn open_one(range: &[u8]) -> RecordInC
     ensures { result ≡ opened_in_c range.now }
 {
-    match only(range) {
-        Ok(standing) => record_in_c(0, standing.house, standing.kept),
-        Err(why) => record_in_c(why.cause.number(), 0, Record::blank()),
+    match runs::run::next(range, 0) {
+        Ok(Some(standing)) if standing.next == range.len() => {
+            record_in_c(0, standing.house, standing.kept)
+        }
+        _ => record_in_c(NOT_ONE_ENTRY.cause.number(), 0, Record::blank()),
     }
 }

@@ -115,13 +115,17 @@ fn count_holds(s: &[u8], at: usize, group: u8) -> bool
             & ((n as usize == held.times) & ((3 <= group) | (n != 0))))
 }
 
-// At the first 7F61, or at the file's start where it is missing: none stands there, since the file's own head does.
+// At the first 7F61, or at the file's start where it is missing: none stands there, since the file's own head does. Then nothing
+// more is gone over.
 fn templates_check(s: &[u8], at: usize, group: u8) -> Result<(), Refusal>
     ensures { outcome_of result ≡ templates_check group s.now at }
 {
     let first = tally_of(s, at, TEMPLATE_GROUP).first.unwrap_or(0);
+    if first == 0 {
+        return Err(Refusal::at(Cause::Templates, 0));
+    }
     let v = value_here(s, first);
-    let holds = (first != 0) & count_holds(lent::part(s, 0, v.to), v.from, group);
+    let holds = count_holds(lent::part(s, 0, v.to), v.from, group);
     Refusal::unless(holds, Cause::Templates, first)
 }
 

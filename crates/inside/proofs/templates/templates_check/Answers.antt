@@ -1,6 +1,7 @@
 -- The first 7F61 is found, and then what stands in it.
-use mathlib.Core.Path.{ap, ◌∙◌}
+use mathlib.Core.Path.{ap, sym, ◌∙◌}
 use native.Mathlib.Omega.{arith}
+use borrow.Author.Tests.{ne_eqb}
 use Rattle.std.specs.Prelude.{unwrap_or}
 use Rattle.std.proofs.lemmas.Option.{unwrap_or-slice_get}
 use Rattle.inside.specs.declared.templates.Tally.{Tally}
@@ -18,14 +19,23 @@ value_here-v-requires c =
     ∙ unwrap_or-slice_get places 0 0) in
     rw first (first_within a.s.now template_group a.at)
 
-pub count_holds-requires : goal.count_holds-requires
+pub count_holds-holds-requires : goal.count_holds-holds-requires
 unfolding tally_of tallied
-count_holds-requires c =
+count_holds-holds-requires c =
     let a = c.args in
     let places = with_tag a.s.now template_group (directly a.s.now a.at) in
     let first = c.unwrap_or-first.ensures ∙ (ap (λ (t : Tally). unwrap_or t.first 0) c.tally_of.ensures
     ∙ unwrap_or-slice_get places 0 0) in
     omega (arith, first, first_within a.s.now template_group a.at, c.value_here-v.ensures.1)
+
+pub returns-then-first-eq0 : goal.returns-then-first-eq0
+unfolding templates_check first_group tally_of tallied
+returns-then-first-eq0 c =
+    let a = c.args in
+    let places = with_tag a.s.now template_group (directly a.s.now a.at) in
+    let first = c.unwrap_or-first.ensures ∙ (ap (λ (t : Tally). unwrap_or t.first 0) c.tally_of.ensures
+    ∙ unwrap_or-slice_get places 0 0) in
+    rw (sym first ∙ c.if-first-eq0.true, c.at.ensures)
 
 pub returns : goal.returns
 unfolding templates_check first_group tally_of tallied
@@ -34,4 +44,11 @@ returns c =
     let places = with_tag a.s.now template_group (directly a.s.now a.at) in
     let first = c.unwrap_or-first.ensures ∙ (ap (λ (t : Tally). unwrap_or t.first 0) c.tally_of.ensures
     ∙ unwrap_or-slice_get places 0 0) in
-    c.unless.ensures ∙ rw (c.count_holds.ensures, c.part.ensures, c.value_here-v.ensures.0, first)
+    c.unless.ensures
+    ∙ rw (
+      c.count_holds-holds.ensures,
+      c.part.ensures,
+      c.value_here-v.ensures.0,
+      ← first,
+      ne_eqb _ _ c.if-first-eq0.false,
+    )
