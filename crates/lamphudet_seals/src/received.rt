@@ -1,5 +1,5 @@
 // What C receives, laid out as include/lamphudet_seals.h declares it.
-use border::received::StretchInC;
+pub use border::received::StretchInC;
 use zone::form::Form;
 
 #[repr(C)]

@@ -14,9 +14,9 @@ use tlv::Stretch;
 
 // How many elements there are in one, with itself, and where it ends.
 #[derive(Clone, Copy, Debug, PartialEq, Eq)]
-struct Passed {
-    elements: usize,
-    to: usize,
+pub struct Passed {
+    pub elements: usize,
+    pub to: usize,
 }
 
 // Whether an element holds others: where it holds none, no list is walked.
