@@ -65,9 +65,8 @@ returns-in_err-unless c =
       ← c.in_ok-all.ensures,
       ← c.in_ok-end_check.ensures,
       ← c.cut-tags.ensures,
-      ← c.is_list.ensures,
-      ← c.in_err-unless.ensures,
     )
+    (rw (← c.is_list.ensures, ← c.in_err-unless.ensures))
 
 pub returns-in_err-agree : goal.returns-in_err-agree
 unfolding and_then checked
@@ -83,9 +82,8 @@ returns-in_err-agree c =
       ← c.in_ok-end_check.ensures,
       ← c.cut-tags.ensures,
       ← c.is_list.ensures,
-      ← c.in_ok-unless.ensures,
-      ← c.in_err-agree.ensures,
     )
+    (rw (← c.in_ok-unless.ensures, ← c.in_err-agree.ensures))
 
 pub returns : goal.returns
 unfolding and_then checked
@@ -99,7 +97,5 @@ returns c =
       ← c.in_ok-end_check.ensures,
       ← c.cut-tags.ensures,
       ← c.is_list.ensures,
-      ← c.in_ok-unless.ensures,
-      ← c.in_ok-agree.ensures,
-      c.value_for.ensures,
     )
+    (rw (← c.in_ok-unless.ensures, ← c.in_ok-agree.ensures, c.value_for.ensures))

@@ -21,22 +21,19 @@ element-returns-then-levels-eq0 t c =
 pub element-slice_bounds-list-end : goal.element-slice_bounds-list-end
 element-slice_bounds-list-end t c =
     let a = c.args in
-    let v = c.in_ok-v in
-    sym (length-take-le v.v.to a.s.now (here_within a.s.now a.at v.v (sym v.ensures)).2)
+    sym (length-take-le c.in_ok-v.v.to a.s.now (here_within a.s.now a.at c.in_ok-v.v (sym c.in_ok-v.ensures)).2)
 
 pub element-overflow_add-result : goal.element-overflow_add-result
 element-overflow_add-result t c =
     let a = c.args in
-    let v = c.in_ok-v in
     let n = c.in_ok-held in
-    omega (arith, held_bound (a.levels - 1) a.s.now a.at v.v (sym v.ensures) n.held (sym n.ensures))
+    omega (arith, held_bound (a.levels - 1) a.s.now a.at c.in_ok-v.v (sym c.in_ok-v.ensures) n.held (sym n.ensures))
 
 pub element-returns : goal.element-returns
 element-returns t c =
     let a = c.args in
-    let v = c.in_ok-v in
     let n = c.in_ok-held in
-    sym (passing_held a.levels a.s.now a.at v.v (sym v.ensures) (a.levels - 1)
+    sym (passing_held a.levels a.s.now a.at c.in_ok-v.v (sym c.in_ok-v.ensures) (a.levels - 1)
     (omega (arith, c.if-levels-eq0.false)) (sym c.if-not-opens.ensures) n.held (sym n.ensures))
 
 pub element-returns-in_err-held : goal.element-returns-in_err-held
@@ -44,15 +41,13 @@ element-returns-in_err-held t c =
     let r = c.from_residual-in_err-held in
     let p = err_from_is_err_and r.result r.ensures.1 in
     let a = c.args in
-    let v = c.in_ok-v in
-    rw (p.1, p.2) (sym (passing_stopped a.levels a.s.now a.at v.v (sym v.ensures) (a.levels - 1)
+    rw (p.1, p.2) (sym (passing_stopped a.levels a.s.now a.at c.in_ok-v.v (sym c.in_ok-v.ensures) (a.levels - 1)
     (omega (arith, c.if-levels-eq0.false)) (sym c.if-not-opens.ensures) _ _ (sym c.in_err-held.ensures)))
 
 pub element-returns-then-not-opens : goal.element-returns-then-not-opens
 element-returns-then-not-opens t c =
     let a = c.args in
-    let v = c.in_ok-v in
-    sym (passing_one a.levels a.s.now a.at v.v (sym v.ensures) (a.levels - 1)
+    sym (passing_one a.levels a.s.now a.at c.in_ok-v.v (sym c.in_ok-v.ensures) (a.levels - 1)
     (omega (arith, c.if-levels-eq0.false)) (sym c.if-not-opens.ensures))
 
 pub list-loop-at-init : goal.list-loop-at-init
@@ -62,15 +57,13 @@ pub list-overflow_add-elements : goal.list-overflow_add-elements
 list-overflow_add-elements t c =
     let a = c.args in
     let l = c.loop-at in
-    let p = c.in_ok-passed in
-    let w = passing_bound a.levels a.s.now l.at p.passed (sym p.ensures) in
+    let w = passing_bound a.levels a.s.now l.at c.in_ok-passed.passed (sym c.in_ok-passed.ensures) in
     omega (arith, w.1, w.2, l.invariant.1)
 
 pub list-loop-at-smaller : goal.list-loop-at-smaller
 list-loop-at-smaller t c =
     let a = c.args in
-    let p = c.in_ok-passed in
-    let w = passing_bound a.levels a.s.now c.loop-at.at p.passed (sym p.ensures) in
+    let w = passing_bound a.levels a.s.now c.loop-at.at c.in_ok-passed.passed (sym c.in_ok-passed.ensures) in
     omega (arith, w.0, w.1)
 
 pub list-loop-at-preserved : goal.list-loop-at-preserved
@@ -89,10 +82,11 @@ list-loop-at-preserved t c =
 
 pub list-returns-in_err-passed : goal.list-returns-in_err-passed
 list-returns-in_err-passed t c =
-    let p = err_from_is_err_and c.from_residual.result c.from_residual.ensures.1 in
+    let r = c.from_residual in
+    let q = err_from_is_err_and r.result r.ensures.1 in
     let a = c.args in
     let l = c.loop-at in
-    rw (p.1, p.2) (sym (plus_stopped l.elements _ _ _
+    rw (q.1, q.2) (sym (plus_stopped l.elements _ _ _
     (counting_refused a.levels a.s.now l.at _ _ c.loop-at-test.true (sym c.in_err-passed.ensures)))
     ∙ l.invariant.0)
 

@@ -34,8 +34,8 @@ returns-in_err-object c =
     let parts = c.in_ok-parts.parts in
     let common = c.in_ok-common.common in
     let r = c.from_residual-in_err-object in
-    let p = err_from_is_err_and r.result r.ensures.1 in
-    rw (p.1, p.2, ← c.in_ok-parts.ensures, ← c.in_ok-common.ensures)
+    let told = err_from_is_err_and r.result r.ensures.1 in
+    rw (told.1, told.2, ← c.in_ok-parts.ensures, ← c.in_ok-common.ensures)
     (ap answer_by (sym (refused_object w (cut w common.tags) parts.object.to (versions_check w parts.efcom.to common)
     (read_object both w parts.object) _ _ c.in_err-object.ensures)))
 
@@ -65,9 +65,10 @@ returns-in_err-files_check c =
     let common = c.in_ok-common.common in
     let r = c.from_residual-in_err-files_check in
     let p = err_from_is_err_and r.result r.ensures.1 in
+    let read = c.in_ok-object.ensures in
     let bad = sym (rw c.cut.ensures at c.in_err-files_check.ensures) in
     let all = by_object w (cut w common.tags) parts.object.to (versions_check w parts.efcom.to common)
-    (read_object both w parts.object) _ c.in_ok-object.ensures (sym c.in_ok-versions_check.ensures)
+    (read_object both w parts.object) _ read (sym c.in_ok-versions_check.ensures)
     (walked_files w parts (sym c.in_ok-parts.ensures)) in
     rw (p.1, p.2, ← c.in_ok-parts.ensures, ← c.in_ok-common.ensures) (ap answer_by (rw bad at all))
 
@@ -77,9 +78,10 @@ returns c =
     let w = c.args.w.now in
     let parts = c.in_ok-parts.parts in
     let common = c.in_ok-common.common in
+    let object = c.in_ok-object.ensures in
     let good = sym (rw c.cut.ensures at c.in_ok-files_check.ensures) in
     let all = by_object w (cut w common.tags) parts.object.to (versions_check w parts.efcom.to common)
-    (read_object both w parts.object) _ c.in_ok-object.ensures (sym c.in_ok-versions_check.ensures)
+    (read_object both w parts.object) _ object (sym c.in_ok-versions_check.ensures)
     (walked_files w parts (sym c.in_ok-parts.ensures)) in
     rw (← c.in_ok-parts.ensures, ← c.in_ok-common.ensures)
     (answered_by c.group_one.result ∙ (ap answer_by c.group_one.ensures ∙ ap answer_by (rw good at all)))
