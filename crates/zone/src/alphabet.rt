@@ -1,6 +1,7 @@
 // What a character of the zone is.
 ghost use Rattle.std.specs.Prelude.{◌≡◌, ℕ, Bool};
 ghost use Rattle.zone.specs.Alphabet.{is_digit, is_letter, is_filler, is_character, every, first_foreign, first_filler};
+ghost use Rattle.zone.specs.Inner.Tests.{IsTableOf};
 
 pub const FILLER: u8 = b'<';
 
@@ -81,6 +82,17 @@ pub fn every_by_sixteens<T: Test>(s: &[u8]) -> bool
     fine
 }
 
+// The same of a test that is made while the program runs, from a closure, say: a table of its answers to each octet.
+pub fn every_by_table(s: &[u8], answers: &[bool; 256]) -> bool
+    ensures { (test : ℕ → Bool) → IsTableOf answers.now test → result ≡ every test s.now }
+{
+    let mut fine = true;
+    for &octet in s {
+        fine &= answers[octet as usize];
+    }
+    fine
+}
+
 // No octet outside the alphabet.
 pub fn all_characters(s: &[u8]) -> bool
     ensures { result ≡ every is_character s.now }
@@ -110,4 +122,40 @@ pub fn first_filler(s: &[u8]) -> usize
     ensures { result ≡ first_filler s.now }
 {
     s.iter().position(|&c| c == FILLER).unwrap_or(s.len())
+}
+
+#[cfg(test)]
+mod tests {
+    use super::*;
+
+    // From a closure that holds values of its own: the letters between two that are told while the program runs, and all that is
+    // none of ASCII.
+    #[test]
+    fn told_by_a_table(rt: HostRuntime) {
+        let (from, to) = (b'D', b'U');
+        let passes = |c: u8| ((from <= c) & (c <= to)) | (0x80 <= c);
+        let mut answers = [false; 256];
+        for c in 0..256usize {
+            answers[c] = passes(c as u8);
+        }
+        let cases = [
+            ("", true),
+            ("LEUT", true),
+            ("DEUTSCHLAND", false),
+            ("WEDLEUTEHIERGEHENDURGUETE", false),
+            ("IHREDERGELTENDENGUETE", true),
+            ("IHREDERGELTENDENGUET<", false),
+            ("<HREDERGELTENDENGUETE", false),
+            ("TEURE\u{c4}", true),
+            ("TEURE\u{c4}<", false),
+            ("teure\u{c4}", false),
+        ];
+        for (text, want) in cases {
+            assert_eq!(rt;
+                every_by_table(text.as_bytes(), &answers),
+                want,
+                "of {text}"
+            );
+        }
+    }
 }
